@@ -1,0 +1,25 @@
+-- Document 01, "An entry is also found by name in a lent list of entries". Definitions only.
+use mathlib.Core.Bool.{Bool, true, false, _&&_, not}
+use mathlib.Core.List.{List}
+use Prim.Native.Nat.{ℕ}
+use lib.ListN.{length}
+use lib.Dec.{eqb, ltb}
+use Rattle.geometry.specs.Lists.{same, firstWith}
+use Rattle.directory.specs.Entries.{tableOf, isFree}
+use Rattle.directory.specs.declared.Entry.{Entry}
+use Rattle.directory.specs.declared.Found.{Found}
+use Rattle.directory.specs.declared.Found.the-variants.{Number, Nothing}
+
+-- "A free entry matches no name; a name not of 8 bytes matches none."
+unfoldable pub matches : List ℕ → Entry → Bool
+matches name e = eqb (length name) 8 && (not (isFree e) && same (e .name) name)
+
+-- "the lowest match, or 8"
+unfoldable pub find : List Entry → List ℕ → Found
+find table name =
+    let i : ℕ = firstWith (matches name) table in
+    elim (ltb i (length table)) [ true ↦ Number i | false ↦ Nothing ]
+
+-- the same over the directory's bytes
+unfoldable pub search : List ℕ → List ℕ → Found
+search image name = find (tableOf image) name

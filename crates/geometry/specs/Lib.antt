@@ -1,0 +1,4 @@
+pub mod Lists
+pub mod Bytes
+pub mod Sizes
+pub mod Places
