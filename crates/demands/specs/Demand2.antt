@@ -1,0 +1,76 @@
+-- Demand 2: "Each sequential file answers as a tape of records, each random file as a row of granules. What is written reads back. A lawful
+-- write is refused exactly when there is no room or 65,535 records stand before it." As statements over an engine.
+use mathlib.Core.Path.{_≡_}
+use mathlib.Core.Bool.{Bool, true, false, _||_}
+use mathlib.Core.List.{List, [], _∷_, _++_}
+use Prim.Native.Nat.{ℕ}
+use lib.ListN.{length, replicate}
+use lib.Dec.{leb}
+use Rattle.geometry.specs.Bytes.{padded}
+use Rattle.geometry.specs.Sizes.{entries, mostRecords}
+use Rattle.directory.specs.Entries.{freeEntry, entryAt, tableOf}
+use Rattle.requests.specs.Judge.{Test, notLegal, noEntry, notOpen, notSequential, isProtected, isBeyond, oddCount, badSize, longCode, firstOf, isFull}
+use Rattle.sessions.specs.Session.{unheld}
+use Rattle.mounting.specs.Mounting.{mounts, startWith, plainMount}
+use Rattle.tapes.specs.Tape.{Tape, padByte, tapeFacts}
+use Rattle.tapes.specs.Model.{Model, tape, Asked, modelsOf, modelAt, modelReports, modelRun, openModels}
+use Rattle.demands.specs.Engine.{Engine, reports, run, mounted, answered}
+use Rattle.requests.specs.declared.Facts.{Facts}
+use Rattle.requests.specs.declared.Order.the-variants.{RewindOnline, RewindOffline, RecordForward}
+use Rattle.requests.specs.declared.Request.the-variants.{Read, Write, Position}
+use Rattle.requests.specs.declared.Refusal.the-variants.{NoRoom}
+use Rattle.requests.specs.declared.Answer.the-variants.{Done, Refused}
+
+pub record Faithful (E : Engine) : Type 0 where
+  -- "Mounting refuses (11) exactly when the length is wrong or the directory is not good"
+  pub mounting : (image : List ℕ) → E .mount image .answer ≡ plainMount image .answer
+  -- "A refused mounting hands out a table with no used entry and nothing open"
+  pub refusedMounting : (image : List ℕ) → mounts image ≡ false → E .seen (E .mount image .session) ≡ unheld (startWith (replicate entries freeEntry))
+  -- answers, moved bytes and positions are those of the tapes and rows that the mounted image shows
+  pub serves : (image : List ℕ) → mounts image ≡ true → (asked : List Asked)
+      → reports E (mounted E image) asked ≡ modelReports (modelsOf image) asked
+
+-- ---- what a caller asks to read record p of entry i back: rewind, skip p records, read
+
+abbrev pub asking : ℕ → List ℕ → List ℕ → Asked
+asking i given buffer = record { entry = i; request = Read; given = given; buffer = buffer }
+
+abbrev pub writing : ℕ → List ℕ → Asked
+writing i given = record { entry = i; request = Write; given = given; buffer = [] }
+
+abbrev pub skipping : ℕ → ℕ → List Asked
+skipping i p =
+    record { entry = i; request = Position RewindOnline; given = []; buffer = [] }
+    ∷ replicate p (record { entry = i; request = Position RecordForward; given = []; buffer = [] })
+
+-- "What is written reads back", "padded with zero, in compressed files with blanks": a write answered 0 where the tape of entry i stands
+-- at p, then a rewinding, p skips and a read
+pub record ReadsBack (E : Engine) : Type 0 where
+  pub back : (image : List ℕ) → mounts image ≡ true → (asked : List Asked) (i : ℕ) (t : Tape)
+      → modelAt (modelRun (modelsOf image) asked) i ≡ tape t
+      → (given buffer : List ℕ) → length buffer ≡ t .shape .length
+      → answered E (run E (mounted E image) asked) (writing i given) .answer ≡ Done
+      → (answered E (run E (mounted E image) (asked ++ (writing i given ∷ skipping i (t .position)))) (asking i [] buffer) .answer ≡ Done)
+      × (answered E (run E (mounted E image) (asked ++ (writing i given ∷ skipping i (t .position)))) (asking i [] buffer) .buffer
+      ≡ padded (padByte (t .shape .kind)) (t .shape .length) given)
+
+-- "A write is lawful when no check before 3 stops it."
+abbrev pub checksBefore3 : List Test
+checksBefore3 = notLegal ∷ noEntry ∷ notOpen ∷ notSequential ∷ isProtected ∷ isBeyond ∷ oddCount ∷ badSize ∷ longCode ∷ []
+
+-- "A lawful write is refused exactly when there is no room or 65,535 records stand before it"
+pub record RoomAlone (E : Engine) : Type 0 where
+  pub refusing : (image : List ℕ) → mounts image ≡ true → (asked : List Asked) (i : ℕ) (t : Tape) (given : List ℕ) (f : Facts)
+      → modelAt (modelRun (modelsOf image) asked) i ≡ tape t
+      → f ≡ tapeFacts (openModels (modelRun (modelsOf image) asked)) given 0 t
+      → firstOf checksBefore3 f ≡ Done
+      → (((leb mostRecords (t .position) || isFull f) ≡ true → answered E (run E (mounted E image) asked) (writing i given) .answer ≡ Refused NoRoom)
+      × ((leb mostRecords (t .position) || isFull f) ≡ false → answered E (run E (mounted E image) asked) (writing i given) .answer ≡ Done))
+
+-- "writing count and flags": the count that a closing stores is the tape's own length
+pub record CountsStored (E : Engine) : Type 0 where
+  pub stored : (image : List ℕ) → mounts image ≡ true → (asked : List Asked) (i : ℕ) (t : Tape)
+      → modelAt (modelRun (modelsOf image) asked) i ≡ tape t
+      → (a : Asked) → a ≡ record { entry = i; request = Position RewindOffline; given = []; buffer = [] }
+      → answered E (run E (mounted E image) asked) a .answer ≡ Done
+      → entryAt (tableOf (answered E (run E (mounted E image) asked) a .image)) i .count ≡ length (t .records)

@@ -1,0 +1,68 @@
+-- Document 01, "Listing": what the program prints, as ASCII bytes. Definitions only.
+use mathlib.Core.Bool.{Bool, true, false, _&&_}
+use mathlib.Core.List.{List, [], _∷_, _++_}
+use Prim.Native.Nat.{ℕ, zero, suc, _+_, _-_, _/_, _%_}
+use lib.ListN.{length}
+use lib.Dec.{eqb, leb, ltb}
+use Rattle.geometry.specs.Sizes.{sectorsOf, blank}
+use Rattle.directory.specs.Entries.{tableOf, isFree}
+use Rattle.mounting.specs.Mounting.{mounts}
+use Rattle.directory.specs.declared.Entry.{Entry}
+
+-- "FILE NAME KIND RECORD FIRST SECTORS COUNT FLAGS" and the line's end
+unfoldable pub header : List ℕ
+header =
+    70 ∷ 73 ∷ 76 ∷ 69 ∷ 32 ∷ 78 ∷ 65 ∷ 77 ∷ 69 ∷ 32 ∷ 75 ∷ 73 ∷ 78 ∷ 68 ∷ 32 ∷ 82 ∷ 69 ∷ 67 ∷ 79 ∷ 82 ∷ 68 ∷ 32
+    ∷ 70 ∷ 73 ∷ 82 ∷ 83 ∷ 84 ∷ 32 ∷ 83 ∷ 69 ∷ 67 ∷ 84 ∷ 79 ∷ 82 ∷ 83 ∷ 32 ∷ 67 ∷ 79 ∷ 85 ∷ 78 ∷ 84 ∷ 32 ∷ 70 ∷ 76 ∷ 65 ∷ 71 ∷ 83 ∷ 10 ∷ []
+
+-- "BAD IMAGE" and the line's end
+unfoldable pub badImage : List ℕ
+badImage = 66 ∷ 65 ∷ 68 ∷ 32 ∷ 73 ∷ 77 ∷ 65 ∷ 71 ∷ 69 ∷ 10 ∷ []
+
+-- a number below 10 ^ k in "decimal"
+unfoldable pub decimalIn : ℕ → ℕ → List ℕ
+decimalIn zero n = []
+decimalIn (suc k) n = elim (ltb n 10) [ true ↦ (48 + n) ∷ [] | false ↦ decimalIn k (n / 10) ++ ((48 + n % 10) ∷ []) ]
+
+-- a word has at most five digits
+unfoldable pub decimal : ℕ → List ℕ
+decimal n = decimalIn 5 n
+
+-- a capital or a digit of EBCDIC in ASCII
+unfoldable pub ascii : ℕ → ℕ
+ascii c =
+    elim (leb 240 c) [
+      | true ↦ 48 + (c - 240)
+      | false ↦
+          elim (leb 226 c) [
+            | true ↦ 83 + (c - 226)
+            | false ↦
+                elim (leb 209 c) [ true ↦ 74 + (c - 209) | false ↦ 65 + (c - 193) ]
+          ]
+    ]
+
+-- "names in ASCII without trailing blanks"
+unfoldable pub nameText : List ℕ → List ℕ
+nameText [] = []
+nameText (c ∷ cs) = elim (eqb c blank) [ true ↦ [] | false ↦ ascii c ∷ nameText cs ]
+
+-- words with "single blanks" between them, and the line's end
+unfoldable pub spaced : List (List ℕ) → List ℕ
+spaced [] = 10 ∷ []
+spaced (w ∷ []) = w ++ (10 ∷ [])
+spaced (w ∷ v ∷ ws) = w ++ (32 ∷ spaced (v ∷ ws))
+
+-- "one line per used entry"
+unfoldable pub line : ℕ → Entry → List ℕ
+line i e =
+    spaced (decimal i ∷ nameText (e .name) ∷ decimal (e .kind) ∷ decimal (e .length) ∷ decimal (e .first) ∷ decimal (e .sectors)
+    ∷ decimal (e .count) ∷ decimal (e .flags) ∷ [])
+
+-- "in entry order", the first of the entries being number i
+unfoldable pub linesFrom : ℕ → List Entry → List ℕ
+linesFrom i [] = []
+linesFrom i (e ∷ es) = elim (isFree e) [ true ↦ linesFrom (i + 1) es | false ↦ line i e ++ linesFrom (i + 1) es ]
+
+-- "an image of at most 180 sectors"; "A bad or longer image prints only BAD IMAGE"
+unfoldable pub listing : List ℕ → List ℕ
+listing image = elim (leb (sectorsOf image) 180 && mounts image) [ true ↦ header ++ linesFrom 0 (tableOf image) | false ↦ badImage ]

@@ -1,0 +1,1 @@
+// The directory listing: document 01's "Listing".

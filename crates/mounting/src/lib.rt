@@ -1,0 +1,1 @@
+// Mounting an image: document 01's "Sizes and the directory".

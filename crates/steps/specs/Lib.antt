@@ -1,0 +1,4 @@
+pub mod Next
+pub mod Effects
+pub mod Step
+pub mod Look

@@ -1,0 +1,3 @@
+pub mod Tape
+pub mod Row
+pub mod Model
