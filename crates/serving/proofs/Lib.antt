@@ -1,1 +1,6 @@
 pub mod Solo
+pub mod Stays
+pub mod Taped
+pub mod ByRule
+pub mod Written
+pub mod Fixed
