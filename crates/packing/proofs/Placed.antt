@@ -216,19 +216,19 @@ module _ (R sectors : ℕ) (bytes : List ℕ) (p : Place) (code x : List ℕ) (s
 
 -- ---- the writer's code of the bytes given
 
+-- the new record: the bytes given, padded with blanks
+abbrev pub newAt : ℕ → List ℕ → Place → Recorded
+newAt R given p = record { bytes = padded blank R given; behind = behindNew p (length (codeOf R given)) }
+
 module _ (R : ℕ) (given : List ℕ) (short : length given ≤ R) (most : R ≤ 132) where
   pub code-small : length (codeOf R given) ≤ sector
   code-small = omega (arith, codeOf-length R given short most)
 
-  -- the new record: the bytes given, padded with blanks
-  abbrev pub newAt : Place → Recorded
-  newAt p = record { bytes = padded blank R given; behind = behindNew p (length (codeOf R given)) }
-
   module _ (sectors : ℕ) (bytes : List ℕ) (p : Place) (size : length bytes ≡ sector * sectors) (within : Within sectors p)
       (room : hasRoom sectors p (length (codeOf R given)) ≡ true) where
-    pub put-given : readBehind R sectors (laid (changes p (codeOf R given)) bytes) p ≡ got (newAt p)
+    pub put-given : readBehind R sectors (laid (changes p (codeOf R given)) bytes) p ≡ got (newAt R given p)
     put-given = put-read R sectors bytes p (codeOf R given) (padded blank R given) size within code-small (λ rest. decode-codeOf R given rest short) room
 
     pub put-given-walk : (n : ℕ) (o : Place) (rs : List Recorded) → o .byte ≤ sector → walk R sectors bytes n o ≡ walked rs → behindFrom o rs n ≡ p
-        → walk R sectors (laid (changes p (codeOf R given)) bytes) (suc n) o ≡ walked (rs ++ (newAt p ∷ []))
+        → walk R sectors (laid (changes p (codeOf R given)) bytes) (suc n) o ≡ walked (rs ++ (newAt R given p ∷ []))
     put-given-walk = put-walk R sectors bytes p (codeOf R given) (padded blank R given) size within code-small (λ rest. decode-codeOf R given rest short) room
