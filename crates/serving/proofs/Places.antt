@@ -1,11 +1,10 @@
 -- An answered request leaves a compressed file's places in the extent: a record that was read ends there, and so does one for which there was room.
 use mathlib.Core.Path.{_≡_, refl, sym, ap, _∙_}
 use mathlib.Core.Bool.{Bool, true, false, _&&_, not, false≢true}
-use mathlib.Core.List.{List, [], _∷_, map}
-use Prim.Native.Nat.{ℕ, _+_, _*_, _≤_, _<_}
+use Prim.Native.Nat.{ℕ, _≤_, _<_}
 use native.Mathlib.Omega.{arith}
 use lib.ListN.{length}
-use lib.Dec.{eqb, leb, ltb}
+use lib.Dec.{ltb}
 use borrow.Author.Tests.{lt-ltb, le-leb, ltb-true, leb-true, not-false}
 use Rattle.geometry.specs.Sizes.{sector, compressed}
 use Rattle.geometry.specs.Places.{origin}
@@ -13,19 +12,18 @@ use Rattle.geometry.specs.declared.Place.{Place}
 use Rattle.coding.specs.Encode.{codeOf}
 use Rattle.directory.specs.Entries.{isKind}
 use Rattle.packing.specs.Placing.{behindNew, hasRoom}
-use Rattle.packing.specs.Reading.{Got, got, lost, Recorded, readBehind, walked, walk, decodes, recordsOf, behind}
+use Rattle.packing.specs.Reading.{Got, got, lost, Recorded, readBehind, decodes, recordsOf, behind}
 use Rattle.packing.proofs.One.{Within, Told, told}
 use Rattle.packing.proofs.Walks.{decodes-walked, walk-within}
 use Rattle.packing.proofs.Placed.{behind-within}
-use Rattle.sessions.specs.Session.{placeGood, idle}
+use Rattle.sessions.specs.Session.{placeGood}
 use Rattle.mounting.specs.Mounting.{countedWalk}
-use Rattle.requests.proofs.Done.{Tells, Meets, readsMark, skipsMark, backOver, backAtStart, fileBackToStart, room-coded}
-use Rattle.steps.specs.Next.{Scene, recordHere, isLost, behindGot, bytesGot, theCounted, theNext, decoding, badIn, codeLength, factsOf, behindWritten, endPlace, fileDone, fileMet}
+use Rattle.requests.proofs.Done.{Tells, room-coded}
+use Rattle.steps.specs.Next.{Scene, recordHere, isLost, behindGot, theCounted, theNext, decoding, badIn, codeLength, factsOf, behindWritten, endPlace, fileDone, fileMet}
 use Rattle.steps.proofs.Lawful.{Lawful}
 use Rattle.serving.proofs.Solo.{fileNext}
 use Rattle.serving.proofs.Stays.{InPlace}
 use Rattle.directory.specs.declared.Entry.{Entry}
-use Rattle.sessions.specs.declared.OpenFile.{OpenFile}
 use Rattle.requests.specs.declared.Order.the-variants.{WriteMark, RewindOnline, RewindOffline, RecordForward, RecordBack, FileForward, FileBack}
 use Rattle.requests.specs.declared.Request.{Request}
 use Rattle.requests.specs.declared.Request.the-variants.{Open, Read, Write, GranuleRead, GranuleWrite, GranuleLook, Position}
