@@ -108,9 +108,6 @@ module _ (bytes : List ℕ) (p : Place) (code : List ℕ) (b : p .byte ≤ secto
   unfolding filled
   put-upto = go (which p code)
     where
-      u : ℕ
-      u = byteOf p
-
       go : Case p code → Upto (byteOf p) bytes (laid (changes p code) bytes)
       go (here f g c) = rw c (upto-lay (byteOf p) (byteOf p) bytes _ (omega arith))
       go (atEnd f l g c) = rw c (upto-lay (byteOf p) (byteOf (nextSector p)) bytes _ (omega arith))

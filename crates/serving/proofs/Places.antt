@@ -1,6 +1,6 @@
 -- An answered request leaves a compressed file's places in the extent: a record that was read ends there, and so does one for which there was room.
 use mathlib.Core.Path.{_≡_, refl, sym, ap, _∙_}
-use mathlib.Core.Bool.{Bool, true, false, _&&_, not, false≢true}
+use mathlib.Core.Bool.{true, false, not, false≢true}
 use Prim.Native.Nat.{ℕ, _≤_, _<_}
 use native.Mathlib.Omega.{arith}
 use lib.ListN.{length}
@@ -9,6 +9,7 @@ use borrow.Author.Tests.{lt-ltb, le-leb, ltb-true, leb-true, not-false}
 use Rattle.geometry.specs.Sizes.{sector, compressed}
 use Rattle.geometry.specs.Places.{origin}
 use Rattle.geometry.specs.declared.Place.{Place}
+use Rattle.geometry.proofs.Tests.{and-left, and-right}
 use Rattle.coding.specs.Encode.{codeOf}
 use Rattle.directory.specs.Entries.{isKind}
 use Rattle.packing.specs.Placing.{behindNew, hasRoom}
@@ -34,17 +35,9 @@ use Rattle.requests.specs.declared.Answer.the-variants.{Done, Met, Refused}
 
 -- ---- a place that is good
 
-and-first : (a b : Bool) → a && b ≡ true → a ≡ true
-and-first true b e = refl
-and-first false b e = e
-
-and-second : (a b : Bool) → a && b ≡ true → b ≡ true
-and-second true b e = e
-and-second false b e = absurd (false≢true e)
-
 pub good-within : (e : Entry) (p : Place) → placeGood e p ≡ true → Within (e .sectors) p
 unfolding placeGood
-good-within e p h = (ltb-true _ _ (and-first _ _ h), leb-true _ _ (and-second (ltb (p .sector) (e .sectors)) _ h))
+good-within e p h = (ltb-true _ _ (and-left _ _ h), leb-true _ _ (and-right (ltb (p .sector) (e .sectors)) _ h))
 
 pub within-good : (e : Entry) (p : Place) → Within (e .sectors) p → placeGood e p ≡ true
 unfolding placeGood
