@@ -10,7 +10,7 @@ use borrow.Author.Tests.{ltb-false, leb-false, leb-true, eqb-false, eqb-true, no
 use Rattle.geometry.specs.Sizes.{free, compressed, random, mostOpen, mostRecords, sector}
 use Rattle.geometry.specs.Places.{capacity}
 use Rattle.packing.specs.Placing.{hasRoom}
-use Rattle.requests.specs.Judge.{Stage, Test, refusedIf, notLegal, noEntry, notOpen, notSequential, oddCount, badSize, badCode, noGranule, meetsMark, atEnd, backOverMark, atStart, backToStart, tests, firstOf, judge, isFull}
+use Rattle.requests.specs.Judge.{whether, orElse, Stage, Test, refusedIf, notLegal, noEntry, notOpen, notSequential, oddCount, badSize, badCode, noGranule, meetsMark, atEnd, backOverMark, atStart, backToStart, tests, firstOf, judge, isFull}
 use Rattle.requests.specs.declared.Facts.{Facts}
 use Rattle.requests.specs.declared.Order.the-variants.{WriteMark, RewindOnline, RewindOffline, RecordForward, RecordBack, FileForward, FileBack}
 use Rattle.requests.specs.declared.Request.{Request}
@@ -183,17 +183,17 @@ and-second false b e = absurd (false≢true e)
 -- a test that holds gives its answer; one that does not hands on
 passing : (P : Answer → Type 0) (t : Test) (ts : List Test) (f : Facts) → (t .holds f ≡ true → P (t .gives)) → (t .holds f ≡ false → P (firstOf ts f))
     → P (firstOf (t ∷ ts) f)
-unfolding firstOf
+unfolding firstOf orElse whether
 passing P t ts f p r = go (t .holds f) p r
   where
-    go : (b : Bool) → (b ≡ true → P (t .gives)) → (b ≡ false → P (firstOf ts f)) → P (elim b [ true ↦ t .gives | false ↦ firstOf ts f ])
+    go : (b : Bool) → (b ≡ true → P (t .gives)) → (b ≡ false → P (firstOf ts f)) → P (whether b (t .gives) (firstOf ts f))
     go true h k = h refl
     go false h k = k refl
 
 module _ (q : Request) (f : Facts) where
   -- past them all
   last : Tells q f Done → Tells q f (firstOf [] f)
-  unfolding firstOf
+  unfolding firstOf orElse
   last h = h
 
   -- past a test that refuses

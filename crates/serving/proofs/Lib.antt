@@ -4,3 +4,6 @@ pub mod Taped
 pub mod ByRule
 pub mod Written
 pub mod Fixed
+pub mod Size
+pub mod Places
+pub mod Packed
