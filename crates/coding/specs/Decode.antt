@@ -54,6 +54,14 @@ decodeFrom (suc k) room at (c ∷ s) = decodeFrom k room at s
 unfoldable pub decode : ℕ → List ℕ → Decoded
 decode R s = decodeFrom 0 R 0 s
 
+-- the record from a run of n characters on, which s begins with, with its control byte at offset `at`
+unfoldable pub run : (n room at : ℕ) → List ℕ → Decoded
+run n room at s = obey (characters n) room at s (λ k r a. decodeFrom k r a s)
+
+-- "R is even and .. 2 to 132 for kind 3": what the decoder reads, which takes no record over 132
+unfoldable pub reading : ℕ → List ℕ → Decoded
+reading R s = elim (leb R 132) [ true ↦ decode R s | false ↦ bad 0 ]
+
 -- what the decoder answers
 unfoldable pub answer : Decoded → Coded
 answer (good xs e) = Good e

@@ -1,0 +1,5 @@
+pub mod Reader
+pub mod Known
+pub mod Runs
+pub mod Round
+pub mod Sizes
