@@ -1,0 +1,6 @@
+pub mod Lists
+pub mod Table
+pub mod Names
+pub mod Grouped
+pub mod Good
+pub mod Restamp
