@@ -1,15 +1,15 @@
 -- What a legal session keeps: each rule, read at an open-file state.
 use mathlib.Core.Path.{_≡_, refl, sym, ap}
-use mathlib.Core.Bool.{Bool, true, false, _&&_, _||_, not, and-true, and-false}
+use mathlib.Core.Bool.{Bool, true, false, _&&_, _||_, not}
 use mathlib.Core.List.{List}
-use Prim.Native.Nat.{ℕ, _*_, _%_, _≤_, _<_}
+use Prim.Native.Nat.{ℕ, _≤_, _<_}
 use native.Mathlib.Omega.{arith}
 use native.Mathlib.Decide.{decLt}
 use lib.ListN.{length, getD, List·getD-eq-default}
-use lib.Dec.{eqb, leb, ltb}
-use borrow.Author.Tests.{leb-true, ltb-true, eqb-true, eqb-false, not-true, eq-eqb}
+use lib.Dec.{eqb, ltb}
+use borrow.Author.Tests.{leb-true, ltb-true, eqb-true, not-true}
 use Rattle.geometry.specs.Lists.{every, pairwise}
-use Rattle.geometry.specs.Sizes.{sector, entries, blocked, compressed, mostOpen, mostSectors, sectorsOf, lawfulLength}
+use Rattle.geometry.specs.Sizes.{sector, entries, blocked, compressed, mostOpen, sectorsOf, lawfulLength}
 use Rattle.geometry.proofs.Tests.{and-left, and-right, all-getD, every-any, pairwise-getD, both-ways}
 use Rattle.directory.specs.Entries.{entryAt, isFree, isKind, isMarked}
 use Rattle.directory.specs.Rules.{tableGood}
@@ -20,23 +20,6 @@ use Rattle.sessions.specs.declared.BufferedFile.{BufferedFile}
 use Rattle.sessions.specs.declared.BufferedSession.{BufferedSession}
 use Rattle.sessions.specs.declared.OpenFile.{OpenFile}
 use Rattle.sessions.specs.declared.Session.{Session}
-
--- ---- a lawful length
-
-module _ (image : List ℕ) (ok : lawfulLength image ≡ true) where
-  pub whole-sectors : length image ≡ sector * sectorsOf image
-  unfolding lawfulLength sectorsOf
-  whole-sectors =
-      let e : length image % sector ≡ 0 = eqb-true (length image % sector) 0 (and-left (eqb (length image % sector) 0) _ ok) in
-      omega arith
-
-  pub some-sectors : 1 ≤ sectorsOf image
-  unfolding lawfulLength
-  some-sectors = leb-true 1 (sectorsOf image) (and-left (leb 1 (sectorsOf image)) (leb (sectorsOf image) mostSectors) (and-right (eqb (length image % sector) 0) _ ok))
-
-  pub most-sectors : sectorsOf image ≤ mostSectors
-  unfolding lawfulLength
-  most-sectors = leb-true (sectorsOf image) mostSectors (and-right (leb 1 (sectorsOf image)) (leb (sectorsOf image) mostSectors) (and-right (eqb (length image % sector) 0) _ ok))
 
 -- ---- the rules of a session
 
