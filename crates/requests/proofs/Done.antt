@@ -9,6 +9,7 @@ use lib.Dec.{eqb, leb, ltb}
 use borrow.Author.Tests.{ltb-false, leb-false, leb-true, eqb-false, eqb-true, not-true, not-false}
 use Rattle.geometry.specs.Sizes.{free, compressed, random, mostOpen, mostRecords, sector}
 use Rattle.geometry.specs.Places.{capacity}
+use Rattle.packing.specs.Placing.{hasRoom}
 use Rattle.requests.specs.Judge.{Stage, Test, refusedIf, notLegal, noEntry, notOpen, notSequential, oddCount, badSize, badCode, noGranule, meetsMark, atEnd, backOverMark, atStart, backToStart, tests, firstOf, judge, isFull}
 use Rattle.requests.specs.declared.Facts.{Facts}
 use Rattle.requests.specs.declared.Order.the-variants.{WriteMark, RewindOnline, RewindOffline, RecordForward, RecordBack, FileForward, FileBack}
@@ -290,3 +291,12 @@ done-allows q f e = subst (Tells q f) e (judge-tells q f)
 -- an edge met: which, and why
 pub met-meets : (q : Request) (f : Facts) (x : Edge) → judge q f ≡ Met x → Meets f q x
 met-meets q f x e = subst (Tells q f) e (judge-tells q f)
+
+-- room, by kind: below the capacity; a coded record due in a sector of the extent
+pub room-fixed : (f : Facts) → isFull f ≡ false → eqb (f .kind) compressed ≡ false → f .position < capacity (f .kind) (f .length) (f .sectors)
+unfolding isFull
+room-fixed f e k = leb-false _ _ (rw (k, isFull) at e)
+
+pub room-coded : (f : Facts) → isFull f ≡ false → eqb (f .kind) compressed ≡ true → hasRoom (f .sectors) (f .here) (f .code) ≡ true
+unfolding isFull
+room-coded f e k = not-false _ (rw (k, isFull) at e)

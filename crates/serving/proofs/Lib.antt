@@ -1,1 +1,3 @@
 pub mod Solo
+pub mod Stays
+pub mod Taped
