@@ -4,3 +4,4 @@ pub mod Taped
 pub mod ByRule
 pub mod Written
 pub mod Fixed
+pub mod Granules
