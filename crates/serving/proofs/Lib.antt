@@ -7,3 +7,4 @@ pub mod Fixed
 pub mod Size
 pub mod Places
 pub mod Packed
+pub mod Granules
