@@ -4,14 +4,15 @@ use mathlib.Core.List.{List, [], _∷_, _++_}
 use Prim.Native.Nat.{ℕ, zero, suc, _%_}
 use lib.ListN.{take, drop, getD, replicate}
 use lib.Dec.{eqb, leb}
-use Rattle.geometry.specs.Bytes.{part, wordAt, word}
+use Rattle.geometry.specs.Bytes.{part, padded, wordAt, word}
 use Rattle.geometry.specs.Sizes.{entries, entrySize, free}
 use Rattle.directory.specs.declared.Entry.{Entry}
 
--- the table of bytes 0–19: name, kind, record or granule length R, first sector, number of sectors, count of records, flags
+-- the table of bytes 0–19: name, kind, record or granule length R, first sector, number of sectors, count of records, flags.
+-- Past the end stand zeros, in a name as in a word
 unfoldable pub entryFrom : List ℕ → Entry
 entryFrom b = record {
-  name = part b 0 8;
+  name = padded 0 8 (part b 0 8);
   kind = wordAt b 8;
   length = wordAt b 10;
   first = wordAt b 12;
@@ -24,6 +25,18 @@ entryFrom b = record {
 unfoldable pub entryBytes : Entry → List ℕ
 entryBytes e =
     e .name ++ (word (e .kind) ++ (word (e .length) ++ (word (e .first) ++ (word (e .sectors) ++ (word (e .count) ++ word (e .flags))))))
+
+-- an entry as bytes can hold it: "count of records" is one word
+abbrev pub oneWord : Entry → Entry
+oneWord e = record {
+  name = e .name;
+  kind = e .kind;
+  length = e .length;
+  first = e .first;
+  sectors = e .sectors;
+  count = e .count % 65536;
+  flags = e .flags;
+}
 
 -- the first n entries of a directory's bytes
 unfoldable pub entriesFrom : ℕ → List ℕ → List Entry

@@ -1,4 +1,5 @@
 pub mod Entries
 pub mod Rules
+pub mod Grouped
 pub mod Search
 pub mod Stamp
