@@ -1,2 +1,5 @@
 pub mod Files
 pub mod Legal
+pub mod Distinct
+pub mod Kept
+pub mod Counted
