@@ -1,10 +1,10 @@
 pub mod Solo
 pub mod Stays
+pub mod Size
 pub mod Taped
 pub mod ByRule
 pub mod Written
 pub mod Fixed
-pub mod Size
 pub mod Places
 pub mod Packed
 pub mod Granules
