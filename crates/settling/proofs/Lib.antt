@@ -1,0 +1,5 @@
+pub mod Settle
+pub mod Bench
+pub mod Kept
+pub mod Standing
+pub mod Scene
