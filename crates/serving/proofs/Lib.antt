@@ -4,3 +4,4 @@ pub mod Taped
 pub mod Size
 pub mod Places
 pub mod Packed
+pub mod Keeping
