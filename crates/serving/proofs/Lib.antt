@@ -5,3 +5,7 @@ pub mod Size
 pub mod Places
 pub mod Packed
 pub mod Keeping
+pub mod ByRule
+pub mod Written
+pub mod Fixed
+pub mod Granules

@@ -1,19 +1,24 @@
 -- An answered request leaves the entry and its open-file state lawful, whatever the kind: a test that was passed gives each bound.
 use mathlib.Core.Path.{_≡_, refl, sym, ap, _∙_}
-use mathlib.Core.Bool.{Bool, true, false, not, false≢true}
+use mathlib.Core.Bool.{Bool, true, false, not, and-false, false≢true}
+use mathlib.Core.List.{List, [], _∷_}
 use Prim.Native.Nat.{ℕ, _+_, _-_, _*_, _/_, _%_, _≤_, _<_}
 use native.Mathlib.Omega.{arith}
-use lib.Dec.{eqb, leb}
+use lib.Dec.{eqb, leb, ltb}
+use lib.ListN.{length}
 use borrow.Author.Tests.{eq-eqb, le-leb, lt-leb, leb-true, leb-false}
-use Rattle.geometry.specs.Sizes.{compressed, random, mostRecords}
-use Rattle.geometry.specs.Places.{capacity}
+use Rattle.geometry.specs.Bytes.{lay}
+use Rattle.geometry.proofs.Bytes.{length-lay}
+use Rattle.geometry.specs.Sizes.{sector, compressed, random, mostRecords}
+use Rattle.geometry.specs.Places.{capacity, byteOf, origin}
 use Rattle.directory.specs.Entries.{isKind, isMarked, isProtected}
 use Rattle.sessions.specs.Session.{placeGood}
 use Rattle.requests.proofs.Done.{Tells, Meets, readsMark, skipsMark, backOver, backAtStart, fileBackToStart, room-fixed}
-use Rattle.steps.specs.Next.{Scene, factsOf, fileDone, fileMet, entryDone, counted}
-use Rattle.steps.proofs.Lawful.{Lawful}
+use Rattle.steps.specs.Next.{Scene, factsOf, fileDone, fileMet, entryDone, counted, badIn, Decoding, theCounted, theNext, none, isLost, recordHere, behindGot, behindWritten, endPlace}
+use Rattle.steps.specs.Effects.{Effect, hold, change, store, stamp, putBack, effects}
+use Rattle.steps.proofs.Lawful.{Lawful, ownDo, ownAll}
 use Rattle.tapes.specs.Model.{shapeOf}
-use Rattle.serving.proofs.Solo.{entryNext, fileNext}
+use Rattle.serving.proofs.Solo.{Sound, entryNext, fileNext, bytesNext}
 use Rattle.directory.specs.declared.Entry.{Entry}
 use Rattle.sessions.specs.declared.OpenFile.{OpenFile}
 use Rattle.requests.specs.declared.Order.the-variants.{WriteMark, RewindOnline, RewindOffline, RecordForward, RecordBack, FileForward, FileBack}
@@ -171,3 +176,68 @@ rest-next (Position FileBack) c Done k e = never (sym e)
 rest-next q c (Met EndOfFile) k e = never (sym e)
 rest-next q c (Met BeginningOfTape) k e = never (sym e)
 rest-next q c (Refused x) k e = k e
+
+-- bytes keep their number
+own-length : (xs : List Effect) (bytes : List ℕ) → length (ownAll xs bytes) ≡ length bytes
+unfolding ownAll ownDo
+own-length [] bytes = refl
+own-length (hold k ∷ xs) bytes = own-length xs bytes
+own-length (change x ∷ xs) bytes = own-length xs (lay bytes (byteOf (x .place)) (x .bytes)) ∙ length-lay bytes (byteOf (x .place)) (x .bytes)
+own-length (store k ys ∷ xs) bytes = own-length xs (lay bytes (sector * k) ys) ∙ length-lay bytes (sector * k) ys
+own-length (stamp ys ∷ xs) bytes = own-length xs bytes
+own-length (putBack ∷ xs) bytes = own-length xs bytes
+
+bytes-length : (q : Request) (c : Scene) (a : Answer) → length (bytesNext a q c) ≡ length (c .bytes)
+unfolding bytesNext
+bytes-length q c Done = own-length (effects q c) (c .bytes)
+bytes-length q c (Met x) = refl
+bytes-length q c (Refused x) = refl
+
+pub size-next : (q : Request) (c : Scene) (a : Answer) → length (c .bytes) ≡ sector * c .entry .sectors → length (bytesNext a q c) ≡ sector * entryNext a q c .sectors
+unfolding counted
+size-next q c a e = bytes-length q c a ∙ (e ∙ sym (ap (λ (n : ℕ). sector * n) (same-next (λ x. x .sectors) q c a (λ n m h. refl))))
+
+-- ---- kinds but the compressed one
+
+-- nothing is decoded
+pub decodes-nothing : (c : Scene) → isKind compressed (c .entry) ≡ false → (d : Decoding) → badIn d c ≡ false
+unfolding badIn recordHere isLost
+decodes-nothing c k theCounted = rw k
+decodes-nothing c k theNext = rw (k, recordHere) (and-false (ltb (c .file .position) (c .entry .count)))
+decodes-nothing c k none = refl
+
+-- no place
+nowhere-next : (q : Request) (c : Scene) (a : Answer) → isKind compressed (c .entry) ≡ false → (c .file .here ≡ origin) × (c .file .end ≡ origin)
+    → (fileNext a q c .here ≡ origin) × (fileNext a q c .end ≡ origin)
+unfolding fileNext fileDone fileMet behindGot recordHere behindWritten endPlace
+nowhere-next Open c Done k h = (refl, rw (k, endPlace))
+nowhere-next Read c Done k h = (rw (k, recordHere) (h .0), h .1)
+nowhere-next Write c Done k h = (rw (k, behindWritten) (h .0), rw (k, behindWritten) (h .0))
+nowhere-next (GranuleRead g) c Done k h = h
+nowhere-next (GranuleWrite g) c Done k h = h
+nowhere-next (GranuleLook g) c Done k h = h
+nowhere-next (Position WriteMark) c Done k h = (h .0, h .0)
+nowhere-next (Position RewindOnline) c Done k h = (refl, h .1)
+nowhere-next (Position RewindOffline) c Done k h = (refl, refl)
+nowhere-next (Position RecordForward) c Done k h = (rw (k, recordHere) (h .0), h .1)
+nowhere-next (Position RecordBack) c Done k h = h
+nowhere-next (Position FileForward) c Done k h = (h .1, h .1)
+nowhere-next (Position FileBack) c Done k h = h
+nowhere-next q c (Met EndOfFile) k h = h
+nowhere-next q c (Met BeginningOfTape) k h = (refl, h .1)
+nowhere-next q c (Refused x) k h = h
+
+-- so such a file stays sound
+pub stays-fixed : (files buffer : ℕ) (q : Request) (c : Scene) → isKind compressed (c .entry) ≡ false → Sound (c .entry) (c .file) (c .bytes)
+    → (a : Answer) → Tells q (factsOf true files buffer q c) a → Sound (entryNext a q c) (fileNext a q c) (bytesNext a q c)
+stays-fixed files buffer q c k s a t =
+    let n : isKind compressed (entryNext a q c) ≡ false = kind-next compressed q c a ∙ k in
+    record {
+      lawful = lawful-next files buffer q c (s .lawful) a t (λ h. never (sym k ∙ h));
+      size = size-next q c a (s .size);
+      sound = λ h. never (sym n ∙ h);
+      here = λ h. never (sym n ∙ h);
+      end = λ h. never (sym n ∙ h);
+      nowhere = λ h. nowhere-next q c a k (s .nowhere k);
+      closed = rest-next q c a (s .closed);
+    }
