@@ -2,6 +2,9 @@ pub mod Solo
 pub mod Stays
 pub mod Size
 pub mod Taped
+pub mod Places
+pub mod Packed
+pub mod Keeping
 pub mod ByRule
 pub mod Written
 pub mod Fixed
