@@ -8,6 +8,4 @@ pub mod Keeping
 pub mod ByRule
 pub mod Written
 pub mod Fixed
-pub mod Places
-pub mod Packed
 pub mod Granules

@@ -29,7 +29,8 @@ use Rattle.steps.specs.Effects.{change, effects, writeEffects}
 use Rattle.steps.proofs.Lawful.{ownDo, ownAll}
 use Rattle.tapes.specs.Tape.{recordsIn, newRecord, padByte, tapeRecord}
 use Rattle.tapes.specs.Model.{shapeOf}
-use Rattle.serving.proofs.Solo.{Sound, entryNext, fileNext, bytesNext, soloAnswer, Solo}
+use Rattle.steps.specs.Verdict.{entryNext, fileNext}
+use Rattle.serving.proofs.Solo.{Sound, bytesNext, soloAnswer, Solo}
 use Rattle.serving.proofs.Stays.{lawful-next, rest-next, kind-next}
 use Rattle.serving.proofs.Size.{size-next}
 use Rattle.serving.proofs.Taped.{recordsShown, tapeShown, Taped, own-read, tape-serves}

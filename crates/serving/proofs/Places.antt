@@ -22,7 +22,8 @@ use Rattle.mounting.specs.Mounting.{countedWalk}
 use Rattle.requests.proofs.Done.{Tells, room-coded}
 use Rattle.steps.specs.Next.{Scene, recordHere, isLost, behindGot, theCounted, theNext, decoding, badIn, codeLength, factsOf, behindWritten, endPlace, fileDone, fileMet}
 use Rattle.steps.proofs.Lawful.{Lawful}
-use Rattle.serving.proofs.Solo.{fileNext}
+use Rattle.steps.specs.Verdict.{fileNext}
+
 use Rattle.serving.proofs.Stays.{InPlace}
 use Rattle.directory.specs.declared.Entry.{Entry}
 use Rattle.requests.specs.declared.Order.the-variants.{WriteMark, RewindOnline, RewindOffline, RecordForward, RecordBack, FileForward, FileBack}

@@ -9,7 +9,8 @@ use Rattle.geometry.proofs.Bytes.{length-lay}
 use Rattle.steps.specs.Effects.{Effect, hold, change, store, stamp, putBack, effects}
 use Rattle.steps.specs.Next.{Scene, counted}
 use Rattle.steps.proofs.Lawful.{ownDo, ownAll}
-use Rattle.serving.proofs.Solo.{entryNext, bytesNext}
+use Rattle.steps.specs.Verdict.{entryNext}
+use Rattle.serving.proofs.Solo.{bytesNext}
 use Rattle.serving.proofs.Stays.{same-next}
 use Rattle.directory.specs.declared.Entry.{Entry}
 use Rattle.requests.specs.declared.Request.{Request}
