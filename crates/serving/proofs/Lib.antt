@@ -1,6 +1,5 @@
 pub mod Solo
 pub mod Stays
-pub mod Size
 pub mod Taped
 pub mod ByRule
 pub mod Written
