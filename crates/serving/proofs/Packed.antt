@@ -27,12 +27,13 @@ use Rattle.requests.proofs.Done.{Tells, Writes, Meets, readsMark, skipsMark, ba
 use Rattle.steps.specs.Next.{Scene, recordHere, isLost, bytesGot, behindGot, Decoding, theCounted, theNext, none, decoding, badIn, factsOf, behindWritten, counted, entryDone, fileDone, fileMet}
 use Rattle.steps.specs.Effects.{change, effects, writeEffects}
 use Rattle.steps.proofs.Lawful.{ownDo, ownAll}
+use Rattle.steps.proofs.Compressed.{good-within, here-read, here-written, end-is, code-is}
 use Rattle.tapes.specs.Tape.{recordsIn, newRecord, padByte, tapeRecord}
 use Rattle.tapes.specs.Model.{shapeOf}
 use Rattle.serving.proofs.Solo.{Sound, entryNext, fileNext, bytesNext, soloAnswer, Solo}
 use Rattle.serving.proofs.Stays.{lawful-next, rest-next, kind-next, size-next}
 use Rattle.serving.proofs.Taped.{recordsShown, tapeShown, Taped, own-read, tape-serves}
-use Rattle.serving.proofs.Places.{good-within, here-read, here-written, end-is, code-is, places-next}
+use Rattle.serving.proofs.Places.{places-next}
 use Rattle.directory.specs.declared.Entry.{Entry}
 use Rattle.sessions.specs.declared.OpenFile.{OpenFile}
 use Rattle.requests.specs.declared.Facts.{Facts}
