@@ -1,6 +1,5 @@
 pub mod Solo
 pub mod Stays
-pub mod Size
 pub mod Taped
 pub mod Places
 pub mod Packed
