@@ -30,15 +30,9 @@ use Rattle.steps.proofs.Lawful.{ownDo, ownAll}
 use Rattle.steps.proofs.Compressed.{good-within, here-read, here-written, end-is, code-is}
 use Rattle.tapes.specs.Tape.{recordsIn, newRecord, padByte, tapeRecord}
 use Rattle.tapes.specs.Model.{shapeOf}
-<<<<<<< HEAD
 use Rattle.steps.specs.Verdict.{entryNext, fileNext}
 use Rattle.serving.proofs.Solo.{Sound, bytesNext, soloAnswer, Solo}
-use Rattle.serving.proofs.Stays.{lawful-next, rest-next, kind-next}
-use Rattle.serving.proofs.Size.{size-next}
-=======
-use Rattle.serving.proofs.Solo.{Sound, entryNext, fileNext, bytesNext, soloAnswer, Solo}
 use Rattle.serving.proofs.Stays.{lawful-next, rest-next, kind-next, size-next}
->>>>>>> ca71e2a2189eb2852946f8cc37c933e3b9b5c84f
 use Rattle.serving.proofs.Taped.{recordsShown, tapeShown, Taped, own-read, tape-serves}
 use Rattle.serving.proofs.Places.{places-next}
 use Rattle.directory.specs.declared.Entry.{Entry}

@@ -14,13 +14,9 @@ use Rattle.sessions.specs.Session.{placeGood}
 use Rattle.requests.proofs.Done.{Tells, room-coded}
 use Rattle.steps.specs.Next.{Scene, decoding, codeLength, factsOf, behindWritten, fileDone, fileMet}
 use Rattle.steps.proofs.Lawful.{Lawful}
-<<<<<<< HEAD
+use Rattle.steps.proofs.Compressed.{within-good, origin-within, here-written, code-is, read-within, end-within}
 use Rattle.steps.specs.Verdict.{fileNext}
 
-=======
-use Rattle.steps.proofs.Compressed.{within-good, origin-within, here-written, code-is, read-within, end-within}
-use Rattle.serving.proofs.Solo.{fileNext}
->>>>>>> ca71e2a2189eb2852946f8cc37c933e3b9b5c84f
 use Rattle.serving.proofs.Stays.{InPlace}
 use Rattle.requests.specs.declared.Order.the-variants.{WriteMark, RewindOnline, RewindOffline, RecordForward, RecordBack, FileForward, FileBack}
 use Rattle.requests.specs.declared.Request.{Request}
