@@ -5,15 +5,15 @@ use mathlib.Core.Bool.{Bool, true, false, _&&_}
 use mathlib.Core.List.{List, map}
 use Prim.Native.Nat.{ℕ, _+_, _*_, _≤_, _<_}
 use native.Mathlib.Omega.{arith}
-use lib.ListN.{length, getD, List·getD-map}
+use lib.ListN.{length, getD, set, length-set, List·getD-map}
 use lib.Dec.{eqb}
-use borrow.Author.Tests.{eqb-true, eqb-false}
+use borrow.Author.Tests.{eqb-true, eqb-false, eq-eqb}
 use Rattle.geometry.specs.Bytes.{part}
 use Rattle.geometry.specs.Lists.{every}
 use Rattle.geometry.specs.Sizes.{sector, entries, mostOpen, sectorsOf}
 use Rattle.geometry.proofs.Places.{lawful-whole}
-use Rattle.geometry.proofs.Tests.{either, both-ways, and-left, and-right, every-any}
-use Rattle.directory.specs.Entries.{entryAt, isFree}
+use Rattle.geometry.proofs.Tests.{either, both-ways, and-left, and-right, and-both, every-any, every-set, every-set-same}
+use Rattle.directory.specs.Entries.{entryAt, freeEntry, isFree}
 use Rattle.directory.specs.Rules.{tableGood}
 use Rattle.directory.proofs.Good.{Lies, lies, extents-apart}
 use Rattle.sessions.specs.Session.{idle, fresh, bare, legal, bufferedLegal, typed}
@@ -73,6 +73,16 @@ module _ (s : BufferedSession) (t : typed s ≡ true) where
 
   pub buffer-length : (k : ℕ) → length (heldAt s k .buffer) ≡ sector
   buffer-length k = eqb-true (length (heldAt s k .buffer)) sector (every-any (λ b. eqb (length (b .buffer)) sector) (s .files) k (fresh idle) buffers-whole refl)
+
+  -- another entry of the same name, and another state with a buffer
+  pub typed-set : (i : ℕ) (a : Entry) (k : ℕ) (b : BufferedFile) → a .name ≡ entryAt (s .table) i .name → length (b .buffer) ≡ sector
+      → typed (record { table = set (s .table) i a; files = set (s .files) k b }) ≡ true
+  unfolding typed
+  typed-set i a k b n l =
+      and-both _ _ (eq-eqb (length (set (s .table) i a)) entries (length-set (s .table) i a ∙ table-length))
+      (and-both _ _ (every-set-same (λ e. eqb (length (e .name)) 8) (s .table) i a freeEntry (ap (λ (x : List ℕ). eqb (length x) 8) n) ∙ names-eight)
+      (and-both _ _ (eq-eqb (length (set (s .files) k b)) mostOpen (length-set (s .files) k b ∙ files-length))
+      (every-set (λ b. eqb (length (b .buffer)) sector) (s .files) k b buffers-whole (eq-eqb (length (b .buffer)) sector l))))
 
 -- ---- the states, bare and with what they hold
 

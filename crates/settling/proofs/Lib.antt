@@ -3,3 +3,5 @@ pub mod Bench
 pub mod Kept
 pub mod Standing
 pub mod Scene
+pub mod Served
+pub mod Step
