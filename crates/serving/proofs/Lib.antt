@@ -9,3 +9,4 @@ pub mod ByRule
 pub mod Written
 pub mod Fixed
 pub mod Granules
+pub mod View
