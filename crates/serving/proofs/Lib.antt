@@ -10,3 +10,4 @@ pub mod Written
 pub mod Fixed
 pub mod Granules
 pub mod View
+pub mod Lifting
