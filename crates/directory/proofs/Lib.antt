@@ -5,3 +5,6 @@ pub mod Free
 pub mod Grouped
 pub mod Good
 pub mod Restamp
+pub mod Find
+pub mod Stamped
+pub mod Back
