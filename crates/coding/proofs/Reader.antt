@@ -1,5 +1,5 @@
 -- The reader's definition, a law for each branch of the code: each is the definition, opened at a known control byte.
-use mathlib.Core.Path.{_≡_, refl, _∙_}
+use mathlib.Core.Path.{_≡_, refl, ap, _∙_}
 use mathlib.Core.Logic.{_≢_}
 use mathlib.Core.List.{List, [], _∷_}
 use Prim.Native.Nat.{ℕ, zero, suc, _+_, _-_, _≤_, _<_}
@@ -7,7 +7,8 @@ use native.Mathlib.Omega.{arith}
 use lib.ListN.{length, take, drop, getD, replicate}
 use borrow.Author.Tests.{lt-ltb, le-ltb, le-leb, lt-leb, ne-eqb}
 use Rattle.geometry.specs.Sizes.{blank}
-use Rattle.coding.specs.Decode.{Control, stop, goOn, characters, blanks, control, good, bad, before, obey, decodeFrom, run}
+use Rattle.coding.specs.declared.Coded.{Coded}
+use Rattle.coding.specs.Decode.{Decoded, decode, reading, answer, Control, stop, goOn, characters, blanks, control, good, bad, before, obey, decodeFrom, run}
 
 -- bytes that are passed over
 pub skip : (k room at : ℕ) (s : List ℕ) → decodeFrom k room at s ≡ decodeFrom 0 room at (drop k s)
@@ -77,3 +78,23 @@ module _ (room at : ℕ) where
     pub run-on : n ≤ length s → n ≤ room → run n room at s ≡ before (take n s) (decodeFrom 0 (room - n) (at + 1 + n) (drop n s))
     unfolding run obey
     run-on g f = rw (le-leb n (length s) g, le-leb n room f, skip n, obey)
+
+-- ---- what is answered
+
+pub answer-good : (f : Decoded) (e : ℕ) → answer f ≡ Coded.Good e → (x : List ℕ) × (f ≡ good x e)
+unfolding answer
+answer-good (good x d) e h = (x, ap (good x) (cc))
+answer-good (bad k) e h = let z : _≡_ {A = ℕ} 0 1 = cc in absurd (omega arith)
+
+pub answer-bad : (f : Decoded) (k : ℕ) → answer f ≡ Coded.Bad k → f ≡ bad k
+unfolding answer
+answer-bad (good x e) k h = let z : _≡_ {A = ℕ} 0 1 = cc in absurd (omega arith)
+answer-bad (bad j) k h = ap bad (cc)
+
+pub reading-decode : (R : ℕ) (s : List ℕ) → R ≤ 132 → reading R s ≡ decode R s
+unfolding reading
+reading-decode R s h = rw (le-leb R 132 h, reading)
+
+pub reading-long : (R : ℕ) (s : List ℕ) → 132 < R → reading R s ≡ bad 0
+unfolding reading
+reading-long R s h = rw (lt-leb R 132 h, reading)

@@ -1,7 +1,7 @@
 -- The writer's runs: how long they are, that a blank run has blanks alone, and that what the writer keeps of a record is the record without its
 -- trailing blanks. Each by induction on the characters.
 use mathlib.Core.Path.{_≡_, refl, sym, ap₂, _∙_}
-use mathlib.Core.Bool.{Bool, true, false, _&&_, _||_}
+use mathlib.Core.Bool.{Bool, true, false, _&&_, _||_, Bool·beq}
 use mathlib.Core.List.{List, [], _∷_, _++_, append-assoc, append-nil}
 use Prim.Native.Nat.{ℕ, zero, suc, _+_, _-_, _≤_}
 use native.Mathlib.Omega.{arith}
@@ -10,15 +10,13 @@ use lib.Seq.{take-suc, getD-append-add}
 use lib.Dec.{eqb}
 use borrow.Author.Tests.{eqb-true}
 use Rattle.geometry.specs.Sizes.{blank}
-use Rattle.coding.specs.Encode.{keeps, inGap, sameSort, runLength}
+use Rattle.coding.specs.Encode.{keeps, inGap, runLength}
 
-pub same-self : (b : Bool) → sameSort b b ≡ true
-unfolding sameSort
+pub same-self : (b : Bool) → Bool·beq b b ≡ true
 same-self true = refl
 same-self false = refl
 
-pub same-is : (a b : Bool) → sameSort a b ≡ true → a ≡ b
-unfolding sameSort
+pub same-is : (a b : Bool) → Bool·beq a b ≡ true → a ≡ b
 same-is true true h = refl
 same-is true false h = let z : _≡_ {A = ℕ} 0 1 = cc in absurd (omega arith)
 same-is false true h = let z : _≡_ {A = ℕ} 0 1 = cc in absurd (omega arith)
@@ -31,7 +29,7 @@ pub run-le : (n : ℕ) (gap : Bool) (q : ℕ) (s : List ℕ) → (runLength n ga
 unfolding runLength
 run-le zero gap q s = omega arith
 run-le (suc n) gap q [] = omega arith
-run-le (suc n) gap q (c ∷ s) = go (sameSort (inGap q c s) gap) (run-le n gap c s)
+run-le (suc n) gap q (c ∷ s) = go (Bool·beq (inGap q c s) gap) (run-le n gap c s)
   where
     go : (t : Bool) → (runLength n gap c s ≤ n) × (runLength n gap c s ≤ length s)
         → (elim t [ true ↦ suc (runLength n gap c s) | false ↦ 0 ] ≤ suc n) × (elim t [ true ↦ suc (runLength n gap c s) | false ↦ 0 ] ≤ suc (length s))
@@ -56,9 +54,9 @@ pub run-blanks : (n q : ℕ) (s : List ℕ) → take (runLength n true q s) s �
 unfolding runLength
 run-blanks zero q s = refl
 run-blanks (suc n) q [] = refl
-run-blanks (suc n) q (c ∷ s) = go (sameSort (inGap q c s) true) refl (run-blanks n c s)
+run-blanks (suc n) q (c ∷ s) = go (Bool·beq (inGap q c s) true) refl (run-blanks n c s)
   where
-    go : (t : Bool) → sameSort (inGap q c s) true ≡ t → take (runLength n true c s) s ≡ replicate (runLength n true c s) blank
+    go : (t : Bool) → Bool·beq (inGap q c s) true ≡ t → take (runLength n true c s) s ≡ replicate (runLength n true c s) blank
         → take (elim t [ true ↦ suc (runLength n true c s) | false ↦ 0 ]) (c ∷ s) ≡ replicate (elim t [ true ↦ suc (runLength n true c s) | false ↦ 0 ]) blank
     go true e h = ap₂ _∷_ (gap-blank q c s (same-is (inGap q c s) true e)) h
     go false e h = refl

@@ -1,7 +1,7 @@
 -- "A coded record has at most R + 3 bytes", and they are bytes. A run of characters costs one byte more than its characters, and so does the 0 at the
 -- end; but a run of characters that is not full has the end or two blanks behind it, which cost one byte. So only full runs cost more.
 use mathlib.Core.Path.{_≡_, refl, sym, _∙_}
-use mathlib.Core.Bool.{Bool, true, false, _&&_, _||_}
+use mathlib.Core.Bool.{Bool, true, false, _&&_, _||_, Bool·beq}
 use mathlib.Core.List.{List, [], _∷_, _++_}
 use Prim.Native.Nat.{ℕ, zero, suc, _+_, _-_, _/_, _≤_, _<_}
 use native.Mathlib.Numerals.{sub-one}
@@ -12,7 +12,7 @@ use lib.Seq.{length-take-le}
 use lib.Dec.{eqb}
 use borrow.Author.Tests.{ne-eqb, eqb-true}
 use Rattle.geometry.specs.Sizes.{blank}
-use Rattle.coding.specs.Encode.{keeps, inGap, sameSort, runLength, runCode, runsCode, encode, codeOf}
+use Rattle.coding.specs.Encode.{keeps, inGap, runLength, runCode, runsCode, encode, codeOf}
 use Rattle.coding.proofs.Runs.{run-le, run-own, gap-blank, keeps-le}
 use Rattle.coding.proofs.Round.{encode-padded}
 
@@ -45,14 +45,14 @@ gap-follows q c s h n = go (eqb c blank) (eqb (getD s 0 0) blank) refl (rw (ne-e
 
 -- a run of characters that ends before its limit ends the record, or two blanks follow it
 run-ends : (n q c : ℕ) (s : List ℕ) → inGap q c s ≡ false → runLength n false c s < n → Tight (drop (runLength n false c s) s)
-unfolding runLength sameSort Tight
+unfolding runLength Tight
 run-ends zero q c s z h = absurd (omega arith)
 run-ends (suc n) q c [] z h = λ p. absurd (omega arith)
 run-ends (suc n) q c (d ∷ s) z h = go (inGap c d s) refl (run-ends n c d s) h
   where
     go : (gap : Bool) → inGap c d s ≡ gap → (inGap c d s ≡ false → runLength n false d s < n → Tight (drop (runLength n false d s) s))
-        → elim (sameSort gap false) [ true ↦ suc (runLength n false d s) | false ↦ 0 ] < suc n
-        → Tight (drop (elim (sameSort gap false) [ true ↦ suc (runLength n false d s) | false ↦ 0 ]) (d ∷ s))
+        → elim (Bool·beq gap false) [ true ↦ suc (runLength n false d s) | false ↦ 0 ] < suc n
+        → Tight (drop (elim (Bool·beq gap false) [ true ↦ suc (runLength n false d s) | false ↦ 0 ]) (d ∷ s))
     go true e ih h =
         let is : d ≡ blank = gap-blank c d s e in
         let other : c ≡ blank → ⊥ = λ f. let y = gap-first q c (d ∷ s) f is in let y : _≡_ {A = ℕ} 0 1 = cc in omega arith in

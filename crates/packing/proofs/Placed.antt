@@ -33,9 +33,9 @@ pub record InSector (sectors : ℕ) (c : Change) : Type 0 where
   pub sector-in : c .place .sector < sectors
   pub ends : c .place .byte + length (c .bytes) ≡ sector
 
-pub data AllIn (sectors : ℕ) : List Change → Type 0 where
-  none : AllIn sectors []
-  and : {c : Change} {cs : List Change} → InSector sectors c → AllIn sectors cs → AllIn sectors (c ∷ cs)
+abbrev pub AllIn : ℕ → List Change → Type 0
+AllIn sectors [] = Unit {0}
+AllIn sectors (c ∷ cs) = InSector sectors c × AllIn sectors cs
 
 pub filled-in : (sectors : ℕ) (p : Place) (xs : List ℕ) → p .sector < sectors → p .byte + length xs ≤ sector → InSector sectors (filled p xs)
 unfolding filled
@@ -89,10 +89,10 @@ module _ (p : Place) (code : List ℕ) where
       room = room-in sectors p (length code) h
 
       go : Case p code → AllIn sectors (changes p code)
-      go (here f g c) = rw c (and (filled-in sectors p code i f) none)
-      go (atEnd f l g c) = rw c (and (filled-in sectors (nextSector p) code (rw g at room) (omega arith)) none)
+      go (here f g c) = rw c (filled-in sectors p code i f, tt)
+      go (atEnd f l g c) = rw c (filled-in sectors (nextSector p) code (rw g at room) (omega arith), tt)
       go (over f l g c) =
-          rw c (and (filled-in sectors p [] i (omega arith)) (and (filled-in sectors (nextSector p) code (rw g at room) (omega arith)) none))
+          rw c (filled-in sectors p [] i (omega arith), (filled-in sectors (nextSector p) code (rw g at room) (omega arith), tt))
 
 -- ---- nothing before the place changes
 
@@ -108,9 +108,6 @@ module _ (bytes : List ℕ) (p : Place) (code : List ℕ) (b : p .byte ≤ secto
   unfolding filled
   put-upto = go (which p code)
     where
-      u : ℕ
-      u = byteOf p
-
       go : Case p code → Upto (byteOf p) bytes (laid (changes p code) bytes)
       go (here f g c) = rw c (upto-lay (byteOf p) (byteOf p) bytes _ (omega arith))
       go (atEnd f l g c) = rw c (upto-lay (byteOf p) (byteOf (nextSector p)) bytes _ (omega arith))

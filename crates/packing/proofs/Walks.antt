@@ -1,7 +1,7 @@
 -- Records one after another: each is read behind the one before it, so a walk of fewer is a front part of the records, one more goes behind the
 -- last place, and what holds of one record's place holds of them all. By induction on the number of records.
 use mathlib.Core.Path.{_≡_, refl, sym, ap, _∙_}
-use mathlib.Core.Bool.{true}
+use mathlib.Core.Bool.{true, false}
 use mathlib.Core.List.{List, [], _∷_, _++_}
 use Prim.Native.Nat.{ℕ, zero, suc, _+_, _≤_, _<_}
 use native.Mathlib.Omega.{arith}
@@ -150,7 +150,7 @@ module _ (R sectors : ℕ) (bytes : List ℕ) where
       let f : First n p rs = first n p rs h in
       let t : Told R sectors p (f .record₀) = told R sectors bytes p (f .record₀) (f .reads) in
       let ih = walk-onward n (f .record₀ .behind) (f .rest) (t .inside .1) (f .on) in
-      let l : byteOf p < byteOf (f .record₀ .behind) = t .further i in
+      let l : byteOf p < byteOf (f .record₀ .behind) = t .later i in
       rw (f .are) (omega arith)
 
 -- ---- the same records where the bytes before the last place are the same
@@ -200,3 +200,14 @@ module _ (R sectors : ℕ) (bytes : List ℕ) (n : ℕ) (p q : Place) where
       go : (g : Got) → readBehind R sectors bytes p ≡ g → ledTo g ≡ Lost q → walkedTo p (walkOn g (walk R sectors bytes n)) ≡ Lost q
       go (got r) e h = let z : _≡_ {A = ℕ} 0 1 = cc in absurd (omega arith)
       go (lost o) e h = h
+
+-- whether it decodes shows in where it leads
+pub to-decodes : (p : Place) (w : Walk) (q : Place) → walkedTo p w ≡ To q → (decodes w ≡ true) × (q ≡ behindFrom p (recordsOf w) (length (recordsOf w)))
+unfolding decodes recordsOf
+to-decodes p (walked rs) q h = let is : To (behindFrom p rs (length rs)) ≡ To q = sym (walked-to p rs) ∙ h in (refl, (cc))
+to-decodes p (broken o) q h = let z : _≡_ {A = ℕ} 0 1 = unfold walkedTo in cc in absurd (omega arith)
+
+pub lost-breaks : (p : Place) (w : Walk) (q : Place) → walkedTo p w ≡ Lost q → decodes w ≡ false
+unfolding decodes
+lost-breaks p (walked rs) q h = let is : To (behindFrom p rs (length rs)) ≡ Lost q = sym (walked-to p rs) ∙ h in let z : _≡_ {A = ℕ} 0 1 = cc in absurd (omega arith)
+lost-breaks p (broken o) q h = refl

@@ -2,6 +2,9 @@ pub mod Solo
 pub mod Stays
 pub mod Taped
 pub mod Size
+pub mod ByRule
+pub mod Written
+pub mod Fixed
 pub mod Places
 pub mod Packed
 pub mod Keeping

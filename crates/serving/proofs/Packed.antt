@@ -27,13 +27,13 @@ use Rattle.requests.proofs.Done.{Tells, Writes, Meets, readsMark, skipsMark, ba
 use Rattle.steps.specs.Next.{Scene, recordHere, isLost, bytesGot, behindGot, Decoding, theCounted, theNext, none, decoding, badIn, factsOf, behindWritten, counted, entryDone, fileDone, fileMet}
 use Rattle.steps.specs.Effects.{change, effects, writeEffects}
 use Rattle.steps.proofs.Lawful.{ownDo, ownAll}
+use Rattle.steps.proofs.Compressed.{good-within, here-read, here-written, end-is, code-is}
 use Rattle.tapes.specs.Tape.{recordsIn, newRecord, padByte, tapeRecord}
 use Rattle.tapes.specs.Model.{shapeOf}
 use Rattle.serving.proofs.Solo.{Sound, entryNext, fileNext, bytesNext, soloAnswer, Solo}
-use Rattle.serving.proofs.Stays.{lawful-next, rest-next, kind-next}
-use Rattle.serving.proofs.Size.{size-next}
+use Rattle.serving.proofs.Stays.{lawful-next, rest-next, kind-next, size-next}
 use Rattle.serving.proofs.Taped.{recordsShown, tapeShown, Taped, own-read, tape-serves}
-use Rattle.serving.proofs.Places.{good-within, here-read, here-written, end-is, code-is, places-next}
+use Rattle.serving.proofs.Places.{places-next}
 use Rattle.directory.specs.declared.Entry.{Entry}
 use Rattle.sessions.specs.declared.OpenFile.{OpenFile}
 use Rattle.requests.specs.declared.Facts.{Facts}
@@ -250,7 +250,7 @@ module _ (c : Scene) (k : isKind compressed (c .entry) ≡ true) (s : Sound (c .
 
 -- ---- one compressed file by itself
 
-pub packed-serves : Solo (λ (e : Entry). isKind compressed e ≡ true)
-packed-serves files buffer q c k s =
+pub packed : Solo (λ (e : Entry). isKind compressed e ≡ true)
+packed files buffer q c k s =
     let t : Tells q (factsOf true files buffer q c) (soloAnswer files buffer q c) = judge-tells q (factsOf true files buffer q c) in
     tape-serves files buffer c (s .lawful) (not-random (c .entry) k) (taped c k s) q (soloAnswer files buffer q c) t (stays c k s files buffer q (soloAnswer files buffer q c) t)

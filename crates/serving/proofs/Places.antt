@@ -1,29 +1,22 @@
 -- An answered request leaves a compressed file's places in the extent: a record that was read ends there, and so does one for which there was room.
-use mathlib.Core.Path.{_≡_, refl, sym, ap, _∙_}
-use mathlib.Core.Bool.{Bool, true, false, _&&_, not, false≢true}
-use Prim.Native.Nat.{ℕ, _≤_, _<_}
-use native.Mathlib.Omega.{arith}
+use mathlib.Core.Path.{_≡_}
+use mathlib.Core.Bool.{true}
+use Prim.Native.Nat.{ℕ}
 use lib.ListN.{length}
-use lib.Dec.{ltb}
-use borrow.Author.Tests.{lt-ltb, le-leb, ltb-true, leb-true, not-false}
-use Rattle.geometry.specs.Sizes.{sector, compressed}
+use Rattle.geometry.specs.Sizes.{compressed}
 use Rattle.geometry.specs.Places.{origin}
-use Rattle.geometry.specs.declared.Place.{Place}
 use Rattle.coding.specs.Encode.{codeOf}
 use Rattle.directory.specs.Entries.{isKind}
-use Rattle.packing.specs.Placing.{behindNew, hasRoom}
-use Rattle.packing.specs.Reading.{Got, got, lost, Recorded, readBehind, decodes, recordsOf, behind}
-use Rattle.packing.proofs.One.{Within, Told, told}
-use Rattle.packing.proofs.Walks.{decodes-walked, walk-within}
+use Rattle.packing.specs.Placing.{hasRoom}
+use Rattle.packing.proofs.One.{Within}
 use Rattle.packing.proofs.Placed.{behind-within}
 use Rattle.sessions.specs.Session.{placeGood}
-use Rattle.mounting.specs.Mounting.{countedWalk}
 use Rattle.requests.proofs.Done.{Tells, room-coded}
-use Rattle.steps.specs.Next.{Scene, recordHere, isLost, behindGot, theCounted, theNext, decoding, badIn, codeLength, factsOf, behindWritten, endPlace, fileDone, fileMet}
+use Rattle.steps.specs.Next.{Scene, decoding, codeLength, factsOf, behindWritten, fileDone, fileMet}
 use Rattle.steps.proofs.Lawful.{Lawful}
+use Rattle.steps.proofs.Compressed.{within-good, origin-within, here-written, code-is, read-within, end-within}
 use Rattle.serving.proofs.Solo.{fileNext}
 use Rattle.serving.proofs.Stays.{InPlace}
-use Rattle.directory.specs.declared.Entry.{Entry}
 use Rattle.requests.specs.declared.Order.the-variants.{WriteMark, RewindOnline, RewindOffline, RecordForward, RecordBack, FileForward, FileBack}
 use Rattle.requests.specs.declared.Request.{Request}
 use Rattle.requests.specs.declared.Request.the-variants.{Open, Read, Write, GranuleRead, GranuleWrite, GranuleLook, Position}
@@ -31,72 +24,6 @@ use Rattle.requests.specs.declared.Edge.{Edge}
 use Rattle.requests.specs.declared.Edge.the-variants.{EndOfFile, BeginningOfTape}
 use Rattle.requests.specs.declared.Answer.{Answer}
 use Rattle.requests.specs.declared.Answer.the-variants.{Done, Met, Refused}
-
--- ---- a place that is good
-
-and-first : (a b : Bool) → a && b ≡ true → a ≡ true
-and-first true b e = refl
-and-first false b e = e
-
-and-second : (a b : Bool) → a && b ≡ true → b ≡ true
-and-second true b e = e
-and-second false b e = absurd (false≢true e)
-
-pub good-within : (e : Entry) (p : Place) → placeGood e p ≡ true → Within (e .sectors) p
-unfolding placeGood
-good-within e p h = (ltb-true _ _ (and-first _ _ h), leb-true _ _ (and-second (ltb (p .sector) (e .sectors)) _ h))
-
-pub within-good : (e : Entry) (p : Place) → Within (e .sectors) p → placeGood e p ≡ true
-unfolding placeGood
-within-good e p h = rw (lt-ltb _ _ (h .0), le-leb _ _ (h .1))
-
-pub origin-within : (n : ℕ) → 1 ≤ n → Within n origin
-origin-within n h = (omega arith, omega arith)
-
--- ---- what is read of a compressed file, and where it is written
-
-module _ (c : Scene) (k : isKind compressed (c .entry) ≡ true) where
-  pub here-read : recordHere c ≡ readBehind (c .entry .length) (c .entry .sectors) (c .bytes) (c .file .here)
-  unfolding recordHere
-  here-read = rw (k, recordHere)
-
-  pub here-written : behindWritten c ≡ behindNew (c .file .here) (length (codeOf (c .entry .length) (c .given)))
-  unfolding behindWritten
-  here-written = rw (k, behindWritten)
-
-  pub end-is : endPlace c ≡ behind (recordsOf (countedWalk (c .entry) (c .bytes))) (c .entry .count)
-  unfolding endPlace
-  end-is = rw (k, endPlace)
-
-  pub code-is : length (c .given) ≤ c .entry .length → codeLength (c .entry) (c .given) ≡ length (codeOf (c .entry .length) (c .given))
-  unfolding codeLength
-  code-is h = rw (k, le-leb _ _ h, codeLength)
-
-  -- a record that is not lost
-  pub found : c .file .position < c .entry .count → badIn theNext c ≡ false → (r : Recorded) × (recordHere c ≡ got r)
-  unfolding badIn isLost
-  found h b = go (recordHere c) refl (rw (lt-ltb _ _ h) at b)
-    where
-      go : (g : Got) → recordHere c ≡ g → isLost (recordHere c) ≡ false → (r : Recorded) × (recordHere c ≡ got r)
-      go (got r) e l = (r, e)
-      go (lost p) e l = absurd (false≢true (sym l ∙ ap isLost e))
-
-  -- the place behind it lies in the extent
-  pub read-within : c .file .position < c .entry .count → badIn theNext c ≡ false → Within (c .entry .sectors) (behindGot (recordHere c))
-  unfolding behindGot
-  read-within h b =
-      let f = found h b in
-      let t : Told (c .entry .length) (c .entry .sectors) (c .file .here) (f .0) = told _ _ (c .bytes) (c .file .here) (f .0) (sym here-read ∙ f .1) in
-      rw (f .1) (t .inside)
-
-  -- the place behind the records counted
-  pub end-within : 1 ≤ c .entry .sectors → badIn theCounted c ≡ false → Within (c .entry .sectors) (endPlace c)
-  unfolding badIn behind countedWalk
-  end-within n b =
-      let d : decodes (countedWalk (c .entry) (c .bytes)) ≡ true = not-false _ (rw k at b) in
-      rw end-is (walk-within _ _ (c .bytes) (c .entry .count) origin _ (origin-within _ n) (decodes-walked _ d) (c .entry .count) (omega arith))
-
--- ---- whatever is answered
 
 module _ (c : Scene) (w : Lawful (c .entry) (c .file)) (k : isKind compressed (c .entry) ≡ true) where
   at-start : placeGood (c .entry) origin ≡ true
