@@ -1,8 +1,10 @@
 -- A request answered 0, 1 or 2 is on a used entry of a legal session, whose file is open but for an opening.
 use mathlib.Core.Path.{_≡_}
+use mathlib.Core.Logic.{_⊎_, inl, inr}
 use mathlib.Core.Bool.{true, false}
+use Prim.Native.Nat.{_<_}
 use lib.Dec.{eqb}
-use Rattle.geometry.specs.Sizes.{free}
+use Rattle.geometry.specs.Sizes.{free, mostOpen}
 use Rattle.requests.proofs.Done.{Live, Allows, Meets, readsMark, skipsMark, backOver, backAtStart, fileBackToStart}
 use Rattle.requests.specs.declared.Edge.{Edge}
 use Rattle.requests.specs.declared.Facts.{Facts}
@@ -61,3 +63,16 @@ done-real q f a = go q a (done-live q f a)
     go (GranuleWrite g) a l = live-real f l
     go (GranuleLook g) a l = live-real f l
     go (Position o) a l = live-real f l
+
+-- there is a state for the file: it is open, or fewer than four are
+pub done-place : (q : Request) (f : Facts) → Allows q f → (f .opened ≡ true) ⊎ (f .files < mostOpen)
+done-place q f a = go q a (done-live q f a)
+  where
+    go : (q : Request) → Allows q f → Alive q f → (f .opened ≡ true) ⊎ (f .files < mostOpen)
+    go Open a l = inr (a .few)
+    go Read a l = inl (l .opened)
+    go Write a l = inl (l .opened)
+    go (GranuleRead g) a l = inl (l .opened)
+    go (GranuleWrite g) a l = inl (l .opened)
+    go (GranuleLook g) a l = inl (l .opened)
+    go (Position o) a l = inl (l .opened)

@@ -1,7 +1,7 @@
 -- A request keeps a session legal: the next entry and state are lawful, and no other entry's file changes. This needs nothing of the bytes, so it
 -- holds of either engine and of every legal session.
 use mathlib.Core.Path.{_≡_, refl, sym, ap, _∙_, subst}
-use mathlib.Core.Logic.{_≢_}
+use mathlib.Core.Logic.{_≢_, _⊎_, inl, inr}
 use mathlib.Core.Bool.{Bool, true, false}
 use mathlib.Core.List.{List}
 use Prim.Native.Nat.{ℕ, _≤_, _<_}
@@ -17,7 +17,7 @@ use Rattle.directory.specs.Stamp.{restamped}
 use Rattle.directory.proofs.Good.{used-inside}
 use Rattle.directory.proofs.Restamp.{Stampable, restamp-good}
 use Rattle.requests.proofs.Done.{Live, Allows, Meets, Tells}
-use Rattle.requests.proofs.Live.{Alive, done-live, met-live}
+use Rattle.requests.proofs.Live.{Alive, done-live, done-place, met-live}
 use Rattle.sessions.specs.Session.{idle, fileOf, slotOf, openFiles, legal}
 use Rattle.sessions.proofs.Files.{Finds, opened, closed, finds}
 use Rattle.sessions.proofs.Legal.{good-table}
@@ -61,18 +61,18 @@ stampable e count flags f w = record {
   unmarked = λ h. w .bare (eq-eqb (e .kind) random h) .1;
 }
 
--- ---- the next state: the entry's, or idle
+-- ---- the next state: the entry's; idle behind a close
 
-pub data Goes (i : ℕ) (f : OpenFile) : Type 0 where
-  on : f .used ≡ true → f .entry ≡ i → Goes i f
-  off : f ≡ idle → Goes i f
+pub data Goes (q : Request) (i : ℕ) (f : OpenFile) : Type 0 where
+  on : f .used ≡ true → f .entry ≡ i → Goes q i f
+  off : q ≡ Position RewindOffline → f ≡ idle → Goes q i f
 
-goes-used : (i : ℕ) (f : OpenFile) → Goes i f → f .used ≡ true → f .entry ≡ i
-goes-used i f (on u e) v = e
-goes-used i f (off e) v = both-ways (f .used) v (ap (λ (g : OpenFile). g .used) e)
+goes-used : (q : Request) (i : ℕ) (f : OpenFile) → Goes q i f → f .used ≡ true → f .entry ≡ i
+goes-used q i f (on u e) v = e
+goes-used q i f (off z e) v = both-ways (f .used) v (ap (λ (g : OpenFile). g .used) e)
 
 module _ (i files buffer : ℕ) (c : Scene) (number : c .number ≡ i) (mine : c .file .used ≡ true → c .file .entry ≡ i) where
-  goes-done : (q : Request) → Alive q (factsOf true files buffer q c) → Goes i (fileDone q c)
+  goes-done : (q : Request) → Alive q (factsOf true files buffer q c) → Goes q i (fileDone q c)
   unfolding factsOf fileDone
   goes-done Open l = on refl number
   goes-done Read l = on refl (mine (l .opened))
@@ -82,16 +82,16 @@ module _ (i files buffer : ℕ) (c : Scene) (number : c .number ≡ i) (mine : c
   goes-done (GranuleLook g) l = on (l .opened) (mine (l .opened))
   goes-done (Position WriteMark) l = on refl (mine (l .opened))
   goes-done (Position RewindOnline) l = on refl (mine (l .opened))
-  goes-done (Position RewindOffline) l = off refl
+  goes-done (Position RewindOffline) l = off refl refl
   goes-done (Position RecordForward) l = on refl (mine (l .opened))
   goes-done (Position RecordBack) l = on refl (mine (l .opened))
   goes-done (Position FileForward) l = on refl (mine (l .opened))
   goes-done (Position FileBack) l = on refl (mine (l .opened))
 
-  goes-met : (x : Edge) → c .file .used ≡ true → Goes i (fileMet x (c .file))
+  goes-met : (q : Request) (x : Edge) → c .file .used ≡ true → Goes q i (fileMet x (c .file))
   unfolding fileMet
-  goes-met EndOfFile u = on refl (mine u)
-  goes-met BeginningOfTape u = on refl (mine u)
+  goes-met q EndOfFile u = on refl (mine u)
+  goes-met q BeginningOfTape u = on refl (mine u)
 
 -- ---- the session behind a request on entry i that finds the scene c
 
@@ -123,13 +123,13 @@ module _ (image : List ℕ) (s : Session) (ok : legal image s ≡ true) (many : 
   itsOwn : c .file .used ≡ true → c .file .entry ≡ i
   itsOwn u = rw (its .file) (file-entry (s .files) i (rw (its .file) at u))
 
-  pub goes : Goes i (fileNext a q c)
+  pub goes : Goes q i (fileNext a q c)
   unfolding fileNext factsOf
   goes = go a t
     where
-      go : (a : Answer) → Answered q (openFiles (s .files)) buffer c a → Goes i (fileNext a q c)
+      go : (a : Answer) → Answered q (openFiles (s .files)) buffer c a → Goes q i (fileNext a q c)
       go a (done h) = goes-done i (openFiles (s .files)) buffer c (its .number) itsOwn q (done-live q _ h)
-      go a (met x h) = goes-met i (openFiles (s .files)) buffer c (its .number) itsOwn x (met-live _ q x h .opened)
+      go a (met x h) = goes-met i (openFiles (s .files)) buffer c (its .number) itsOwn q x (met-live _ q x h .opened)
 
   real : isFree (entryAt (s .table) i) ≡ false
   real = rw (its .entry) at used
@@ -148,7 +148,7 @@ module _ (image : List ℕ) (s : Session) (ok : legal image s ≡ true) (many : 
 
   pub legal-next : legal image (sessionNext a q c s i) ≡ true
   legal-next =
-      legal-set image s ok four i in-entries inTable (entryNext a q c) (fileNext a q c) (goes-used i (fileNext a q c) goes) good λ u. record {
+      legal-set image s ok four i in-entries inTable (entryNext a q c) (fileNext a q c) (goes-used q i (fileNext a q c) goes) good λ u. record {
         real = real-lawful (entryNext a q c) (fileNext a q c) lawfulThen;
         standing = lawfulThen .standing;
         ahead = lawfulThen .ahead;
@@ -164,3 +164,33 @@ module _ (image : List ℕ) (s : Session) (ok : legal image s ≡ true) (many : 
           (restamp-good (sectorsOf image) (s .table) i (entryNext a q c .count) (entryNext a q c .flags) (good-table image s ok)
           (eqb-false (entryAt (s .table) i .kind) free real)
           (stampable (entryAt (s .table) i) _ _ (fileNext a q c) (subst (λ (d : Entry). Lawful d (fileNext a q c)) is lawfulThen)))
+
+  -- ---- whose file is which afterwards
+
+  apart : Distinct (s .files)
+  apart = distinct image s ok
+
+  -- there is a state for the file
+  slot : slotOf (s .files) i < length (s .files)
+  unfolding factsOf openFiles
+  slot = go (finds (s .files) i) (place a t)
+    where
+      place : (a : Answer) → Answered q (openFiles (s .files)) buffer c a → (c .file .used ≡ true) ⊎ (openFiles (s .files) < mostOpen)
+      place a (done h) = done-place q _ h
+      place a (met x h) = inl (met-live _ q x h .opened)
+
+      go : Finds (s .files) i → (c .file .used ≡ true) ⊎ (openFiles (s .files) < mostOpen) → slotOf (s .files) i < length (s .files)
+      go (opened h f u e b) p = h
+      go (closed f k b) (inl u) = both-ways (c .file .used) u (ap (λ (g : OpenFile). g .used) (its .file ∙ f))
+      go (closed f k b) (inr l) = rw k (many-room (λ (g : OpenFile). g .used) (s .files) (omega (arith, four)))
+
+  pub file-then : fileOf (set (s .files) (slotOf (s .files) i) (fileNext a q c)) i ≡ fileNext a q c
+  file-then = go goes
+    where
+      go : Goes q i (fileNext a q c) → fileOf (set (s .files) (slotOf (s .files) i) (fileNext a q c)) i ≡ fileNext a q c
+      go (on u e) = file-new (s .files) apart i (fileNext a q c) (λ h. e) u slot
+      go (off z e) =
+          file-shut (s .files) apart i (fileNext a q c) (goes-used q i (fileNext a q c) (off z e)) (ap (λ (g : OpenFile). g .used) e) slot ∙ sym e
+
+  pub file-others : (j : ℕ) → j ≢ i → fileOf (set (s .files) (slotOf (s .files) i) (fileNext a q c)) j ≡ fileOf (s .files) j
+  file-others j ne = file-other (s .files) apart i (fileNext a q c) (goes-used q i (fileNext a q c) goes) j ne

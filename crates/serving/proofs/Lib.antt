@@ -8,3 +8,5 @@ pub mod ByRule
 pub mod Written
 pub mod Fixed
 pub mod Granules
+pub mod View
+pub mod Lifting
