@@ -125,7 +125,7 @@ module _ (image : List ℕ) (s : BufferedSession) (kept : Kept image s) (i : ℕ
   pub open-clear : (k : ℕ) → Opened s i k → (j : ℕ) → ¬ (j ≡ k) → Clear e (holdAt (holds s) j)
   open-clear k o j n = clear image s kept i (open-used k o) j (alone k o j n)
 
-  same-bytes : extentWith e (heldOf s i) image ≡ extent e (settle image s)
+  pub same-bytes : extentWith e (heldOf s i) image ≡ extent e (settle image s)
   unfolding extentWith extent settle
   same-bytes = go (standing s i)
     where
