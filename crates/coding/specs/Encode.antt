@@ -1,5 +1,5 @@
 -- Document 01, "Compressed records": how the writer codes a record. Definitions only.
-use mathlib.Core.Bool.{Bool, true, false, _&&_, _||_}
+use mathlib.Core.Bool.{Bool, true, false, _&&_, _||_, Bool·beq}
 use mathlib.Core.List.{List, [], _∷_, _++_}
 use Prim.Native.Nat.{ℕ, zero, suc, _+_, _-_}
 use lib.ListN.{length, take, getD}
@@ -17,17 +17,11 @@ keeps (suc n) x = elim (eqb (getD x n 0) blank) [ true ↦ keeps n x | false ↦
 unfoldable pub inGap : ℕ → ℕ → List ℕ → Bool
 inGap q c s = eqb c blank && (eqb q blank || eqb (getD s 0 0) blank)
 
-unfoldable pub sameSort : Bool → Bool → Bool
-sameSort true true = true
-sameSort true false = false
-sameSort false true = false
-sameSort false false = true
-
 -- how many characters at the front of a list, at most n, are of one sort; q stands before the list
 unfoldable pub runLength : ℕ → Bool → ℕ → List ℕ → ℕ
 runLength zero gap q s = 0
 runLength (suc n) gap q [] = 0
-runLength (suc n) gap q (c ∷ s) = elim (sameSort (inGap q c s) gap) [ true ↦ suc (runLength n gap c s) | false ↦ 0 ]
+runLength (suc n) gap q (c ∷ s) = elim (Bool·beq (inGap q c s) gap) [ true ↦ suc (runLength n gap c s) | false ↦ 0 ]
 
 -- a run: 128 and its length for blanks; its length and the characters themselves for any other
 unfoldable pub runCode : Bool → List ℕ → List ℕ

@@ -1,7 +1,192 @@
 // The coding of one compressed record: document 01's "Compressed records".
+use geometry::Geometry;
+use geometry::byte_at;
+use geometry::fill;
+use geometry::lay;
+use geometry::put;
+ghost use mathlib.Core.Path.{_≡_};
+ghost use mathlib.Core.List.{_∷_};
+ghost use Prim.Native.Nat.{_+_, _≤_, _<_, _^_};
+ghost use lib.ListN.{length, drop, getD};
+ghost use lib.Seq.{sets};
+ghost use Rattle.coding.specs.Decode.{decodeFrom, run, reading, answer, given};
+ghost use Rattle.coding.specs.Decode as Decode;
+ghost use Rattle.coding.specs.Encode.{inGap, runCode, runsCode};
+ghost use Rattle.coding.specs.Encode as Encode;
 
 // What decoding one record gives: the number of bytes of its code, or the offset of the control byte that cannot be obeyed.
 pub enum Coded {
     Good(usize),
     Bad(usize),
+}
+
+// A run of n characters, which s begins with, with its control byte at offset at; then it gives over to runs of blanks.
+// A good record is then in out; what a bad code leaves there is open.
+fn characters(s: &[u8], n: usize, at: usize, out: &mut [u8]) -> Coded
+    requires { ⌜ at + 1 + length (now s) < 2 ^ 64 ⌝ }
+    ensures { λ r. ⌜ (r ≡ answer (run n (length (now (out .entry))) at (now (s .entry))))
+        × (now (out .exit) ≡ given (run n (length (now (out .entry))) at (now (s .entry))) (now (out .exit))) ⌝ }
+{
+    if s.len() < n {
+        return Coded::Bad(at);
+    }
+    if out.len() < n {
+        return Coded::Bad(at);
+    }
+    lay(out, 0, &s[..n]);
+    blanks(&s[n..], at + 1 + n, &mut out[n..])
+}
+
+// Runs of blanks, up to the record's end or to a run of characters, which it gives over to; s begins with a control byte, at offset at.
+// A good record is then in out; what a bad code leaves there is open.
+fn blanks(s: &[u8], at: usize, out: &mut [u8]) -> Coded
+    requires { ⌜ at + length (now s) < 2 ^ 64 ⌝ }
+    ensures { λ r. ⌜ (r ≡ answer (decodeFrom 0 (length (now (out .entry))) at (now (s .entry))))
+        × (now (out .exit) ≡ given (decodeFrom 0 (length (now (out .entry))) at (now (s .entry))) (now (out .exit))) ⌝ }
+{
+    if s.len() == 0 {
+        return Coded::Bad(at);
+    }
+    let c = s[0] as usize;
+    if c == 0 {
+        let r = out.len();
+        fill(out, 0, r, Geometry::BLANK);
+        return Coded::Good(at + 1);
+    }
+    if c < 128 {
+        return characters(&s[1..], c, at, out);
+    }
+    if c == 128 {
+        return Coded::Bad(at);
+    }
+    let m = c - 128;
+    if out.len() < m {
+        return Coded::Bad(at);
+    }
+    fill(out, 0, m, Geometry::BLANK);
+    blanks(&s[1..], at + 1, &mut out[m..])
+}
+
+// Decodes the record that s begins with in room, and lays a good one over out. A bad code leaves out as it was.
+fn decode_in(s: &[u8], room: &mut [u8], out: &mut [u8]) -> Coded
+    requires { ⌜ length (now out) ≤ length (now room) ⌝ }
+    ensures { λ r. ⌜ (r ≡ answer (Decode.decode (length (now (out .entry))) (now (s .entry))))
+        × (now (out .exit) ≡ given (Decode.decode (length (now (out .entry))) (now (s .entry))) (now (out .entry))) ⌝ }
+{
+    let r = out.len();
+    let got = blanks(s, 0, &mut room[..r]);
+    match got {
+        Coded::Good(e) => {
+            lay(out, 0, &room[..r]);
+            Coded::Good(e)
+        }
+        Coded::Bad(k) => Coded::Bad(k),
+    }
+}
+
+// Decodes the record that s begins with into out, whose length is the record's; s ends where the sector ends. A bad code leaves out as it was,
+// and a length over 132 is answered as one.
+pub fn decode(s: &[u8], out: &mut [u8]) -> Coded
+    ensures { λ r. ⌜ (r ≡ answer (reading (length (now (out .entry))) (now (s .entry))))
+        × (now (out .exit) ≡ given (reading (length (now (out .entry))) (now (s .entry))) (now (out .entry))) ⌝ }
+{
+    if 132 < out.len() {
+        return Coded::Bad(0);
+    }
+    let mut room = [0u8; 132];
+    decode_in(s, &mut room, out)
+}
+
+// The character before the place j of x; 0 where there is none.
+fn before(x: &[u8], j: usize) -> u8
+    ensures { λ r. ⌜ r ≡ getD (0 ∷ now (x .entry)) j 0 ⌝ }
+{
+    if j == 0 { 0 } else { byte_at(x, j - 1) }
+}
+
+// Whether the character at the place j of x goes into a blank run: a blank with a blank beside it.
+fn in_gap(x: &[u8], j: usize) -> bool
+    requires { ⌜ j < length (now x) ⌝ }
+    ensures { λ r. ⌜ r ≡ inGap (getD (0 ∷ now (x .entry)) j 0) (getD (now (x .entry)) j 0) (drop (j + 1) (now (x .entry))) ⌝ }
+{
+    (byte_at(x, j) == Geometry::BLANK)
+        & ((before(x, j) == Geometry::BLANK) | (byte_at(x, j + 1) == Geometry::BLANK))
+}
+
+// Puts xs at the place at of out and behind it, as far as there are such places.
+fn put_all(out: &mut [u8], at: usize, xs: &[u8])
+    requires { ⌜ at + length (now xs) < 2 ^ 64 ⌝ }
+    ensures { λ _. ⌜ now (out .exit) ≡ sets (now (out .entry)) at (now (xs .entry)) ⌝ }
+{
+    let mut k = 0;
+    while k < xs.len() {
+        put(out, at + k, xs[k]);
+        k += 1;
+    }
+}
+
+// Puts the code of the run xs, of blanks or of characters, at the place at of out. Returns the place behind it.
+fn put_run(out: &mut [u8], at: usize, gap: bool, xs: &[u8]) -> usize
+    requires { ⌜ (at + 1 + length (now xs) < 2 ^ 64) × (length (now xs) ≤ 127) ⌝ }
+    ensures { λ r. ⌜ (r ≡ at + length (runCode gap (now (xs .entry)))) × (now (out .exit) ≡ sets (now (out .entry)) at (runCode gap (now (xs .entry)))) ⌝ }
+{
+    let n = xs.len();
+    if gap {
+        put(out, at, (128 + n) as u8);
+        at + 1
+    } else {
+        put(out, at, n as u8);
+        put_all(out, at + 1, xs);
+        at + 1 + n
+    }
+}
+
+// Puts the code of all of x into out, run by run, each as long as it can be, up to 127. Returns the code's length.
+fn put_runs(x: &[u8], out: &mut [u8]) -> usize
+    ensures { λ r. ⌜ (r ≡ length (runsCode 0 0 (now (x .entry)))) × (now (out .exit) ≡ sets (now (out .entry)) 0 (runsCode 0 0 (now (x .entry)))) ⌝ }
+{
+    let mut i = 0;
+    let mut at = 0;
+    while i < x.len() {
+        let gap = in_gap(x, i);
+        let mut k = 0;
+        let n = 'run: loop {
+            if k == 127 {
+                break 'run k;
+            }
+            if i + k == x.len() {
+                break 'run k;
+            }
+            if in_gap(x, i + k) != gap {
+                break 'run k;
+            }
+            k += 1;
+        };
+        at = put_run(out, at, gap, &x[i..i + n]);
+        i += n;
+    }
+    put(out, at, 0);
+    at + 1
+}
+
+// The length of x without its trailing blanks.
+fn keeps(x: &[u8]) -> usize
+    ensures { λ r. ⌜ r ≡ Encode.keeps (length (now (x .entry))) (now (x .entry)) ⌝ }
+{
+    let mut e = x.len();
+    while 0 < e {
+        if x[e - 1] != Geometry::BLANK {
+            return e;
+        }
+        e -= 1;
+    }
+    0
+}
+
+// Puts the code of the record x into out, as far as out has room. Returns the length of the whole code.
+pub fn encode(x: &[u8], out: &mut [u8]) -> usize
+    ensures { λ r. ⌜ (r ≡ length (Encode.encode (now (x .entry)))) × (now (out .exit) ≡ sets (now (out .entry)) 0 (Encode.encode (now (x .entry)))) ⌝ }
+{
+    let e = keeps(x);
+    put_runs(&x[..e], out)
 }

@@ -1,6 +1,7 @@
 -- What an engine is, what a caller sees of it, and a run of requests from a mounted image. The demands are stated over these. Definitions only.
 use mathlib.Core.List.{List, [], _∷_, map}
-use Prim.Native.Nat.{ℕ, zero, suc}
+use Prim.Native.Nat.{ℕ}
+use Rattle.geometry.specs.Lists.{numbersFrom}
 use Rattle.geometry.specs.Sizes.{entries}
 use Rattle.requests.specs.Numbers.{numberOf}
 use Rattle.sessions.specs.Session.{bare, unheld, spotOf}
@@ -42,10 +43,6 @@ bufferedEngine = record {
 pub record Standing (S : Type 0) : Type 0 where
   pub image : List ℕ
   pub session : S
-
-abbrev pub numbersFrom : ℕ → ℕ → List ℕ
-numbersFrom a zero = []
-numbersFrom a (suc n) = a ∷ numbersFrom (suc a) n
 
 -- where every file stands
 unfoldable pub spotsOf : (E : Engine) → E .Session → List Spot

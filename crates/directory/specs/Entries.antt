@@ -26,6 +26,18 @@ unfoldable pub entryBytes : Entry → List ℕ
 entryBytes e =
     e .name ++ (word (e .kind) ++ (word (e .length) ++ (word (e .first) ++ (word (e .sectors) ++ (word (e .count) ++ word (e .flags))))))
 
+-- an entry as bytes can hold it: "count of records" is one word
+abbrev pub oneWord : Entry → Entry
+oneWord e = record {
+  name = e .name;
+  kind = e .kind;
+  length = e .length;
+  first = e .first;
+  sectors = e .sectors;
+  count = e .count % 65536;
+  flags = e .flags;
+}
+
 -- the first n entries of a directory's bytes
 unfoldable pub entriesFrom : ℕ → List ℕ → List Entry
 entriesFrom zero b = []

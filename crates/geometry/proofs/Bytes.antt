@@ -141,6 +141,18 @@ same-parts a b at n e h =
     let p : i < n = omega arith in
     getD-part a at n i 0 p ∙ h i p ∙ sym (getD-part b at n i 0 p)
 
+-- what is left from a place on
+pub part-rest : (img : List ℕ) (at : ℕ) → part img at (length img - at) ≡ drop at img
+unfolding part
+part-rest img at = take-all (length img - at) (drop at img) (simp length-drop (omega arith))
+
+-- parts that are the same have the same bytes, and the same parts of their own
+pub part-byte : (a b : List ℕ) (at n : ℕ) → part a at n ≡ part b at n → (i : ℕ) → i < n → getD a (at + i) 0 ≡ getD b (at + i) 0
+part-byte a b at n e i h = sym (getD-part a at n i 0 h) ∙ ap (λ (x : List ℕ). getD x i 0) e ∙ getD-part b at n i 0 h
+
+pub part-narrower : (a b : List ℕ) (at n k m : ℕ) → part a at n ≡ part b at n → k + m ≤ n → part a (at + k) m ≡ part b (at + k) m
+part-narrower a b at n k m e h = sym (part-part a at n k m h) ∙ ap (λ (x : List ℕ). part x k m) e ∙ part-part b at n k m h
+
 -- a part whose place and size were clipped first
 pub part-clip : (img : List ℕ) (at n : ℕ) → part img (min at (length img)) (min n (length img - min at (length img))) ≡ part img at n
 part-clip img at n =
@@ -402,6 +414,21 @@ getD-padded-behind b n xs i d h k =
     ∙ getD-append-add xs (replicate (n - length xs) b) (i - length xs) d
     ∙ getD-replicate (n - length xs) (i - length xs) b d (omega arith)
 
+-- padded further than is asked
+pub part-padded : (b n m : ℕ) (xs : List ℕ) → length xs ≤ m → m ≤ n → part (padded b n xs) 0 m ≡ padded b m xs
+part-padded b n m xs h k =
+    let l : length (padded b n xs) ≡ n = length-padded b n xs (omega arith) in
+    let l₁ : length (part (padded b n xs) 0 m) ≡ m = length-part (padded b n xs) 0 m (omega arith) in
+    let l₂ : length (padded b m xs) ≡ m = length-padded b m xs h in
+    same-bytes _ _ (l₁ ∙ sym l₂) λ (i : ℕ) (q : i < length (part (padded b n xs) 0 m)).
+    let z : 0 + i ≡ i = omega arith in
+    getD-part (padded b n xs) 0 m i 0 (omega arith) ∙ ap (λ (j : ℕ). getD (padded b n xs) j 0) z
+    ∙ where-is i 0 (length xs)
+    (λ (u : i < 0). absurd (omega arith))
+    (λ (u : 0 ≤ i) (v : i < 0 + length xs). getD-padded-in b n xs i 0 (omega arith) ∙ sym (getD-padded-in b m xs i 0 (omega arith)))
+    (λ (u : 0 + length xs ≤ i).
+    getD-padded-behind b n xs i 0 (omega arith) (omega arith) ∙ sym (getD-padded-behind b m xs i 0 (omega arith) (omega arith)))
+
 -- laid as the bytes, and then what is missing
 pub lay-padded : (img : List ℕ) (at b n : ℕ) (xs : List ℕ) → length xs ≤ n → at + n ≤ length img
     → lay img at (padded b n xs) ≡ lay (lay img at xs) (at + length xs) (replicate (n - length xs) b)
@@ -437,6 +464,12 @@ unfolding wordAt
 wordAt-part img at n k h =
     let e : at + (k + 1) ≡ (at + k) + 1 = omega arith in
     rw (getD-part img at n k 0 (omega arith), getD-part img at n (k + 1) 0 (omega arith), e)
+
+-- where the two bytes are the same
+pub wordAt-alike : (a b : List ℕ) (at : ℕ) → part a at 2 ≡ part b at 2 → wordAt a at ≡ wordAt b at
+wordAt-alike a b at e =
+    let z : at + 0 ≡ at = omega arith in
+    ap (wordAt a) (sym z) ∙ sym (wordAt-part a at 2 0 (omega arith)) ∙ ap (λ (x : List ℕ). wordAt x 0) e ∙ wordAt-part b at 2 0 (omega arith) ∙ ap (wordAt b) z
 
 -- a word of bytes is below 65,536
 pub wordAt-small : (img : List ℕ) (at : ℕ) → getD img at 0 < 256 → getD img (at + 1) 0 < 256 → wordAt img at < 65536

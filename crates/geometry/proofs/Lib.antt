@@ -1,3 +1,4 @@
 pub mod Bytes
 pub mod Tests
 pub mod Places
+pub mod Numbered

@@ -6,6 +6,7 @@ use mathlib.Core.List.{List, [], _∷_}
 use Prim.Native.Nat.{ℕ, zero, suc, _+_, _≤_, _<_}
 use native.Mathlib.Numerals.{add-one}
 use native.Mathlib.Omega.{arith}
+use native.Mathlib.Decide.{decLt}
 use lib.Dec.{eqb}
 use lib.ListN.{length, take, drop, getD, set, replicate}
 use lib.Seq.{drop-cons, drop-length}
@@ -149,6 +150,15 @@ module _ {A : Type 0} where
   pairwise-getD r (x ∷ xs) zero (suc j) d h l k = every-getD (r x) xs j d (and-left (every (r x) xs) (pairwise r xs) h) (omega arith)
   pairwise-getD r (x ∷ xs) (suc i) (suc j) d h l k =
       pairwise-getD r xs i j d (and-right (every (r x) xs) (pairwise r xs) h) (omega arith) (omega arith)
+
+  -- in either order, where r is one that tells no order
+  pub pairwise-two : (r : A → A → Bool) (xs : List A) (i j : ℕ) (d : A) → ((x y : A) → r x y ≡ r y x) → pairwise r xs ≡ true → ¬ (i ≡ j) → i < length xs → j < length xs
+      → r (getD xs i d) (getD xs j d) ≡ true
+  pairwise-two r xs i j d s h n l k = go (decLt i j)
+    where
+      go : Dec (i < j) → r (getD xs i d) (getD xs j d) ≡ true
+      go (yes u) = pairwise-getD r xs i j d h u k
+      go (no u) = s (getD xs i d) (getD xs j d) ∙ pairwise-getD r xs j i d h (omega arith) l
 
   pub pairwise-from : (r : A → A → Bool) (xs : List A) (d : A)
       → ((i j : ℕ) → i < j → j < length xs → r (getD xs i d) (getD xs j d) ≡ true) → pairwise r xs ≡ true
@@ -362,3 +372,6 @@ ne-same a b n = either (same a b) (λ (h : same a b ≡ true). absurd (n (same-t
 
 pub same-false : (a b : List ℕ) → same a b ≡ false → ¬ (a ≡ b)
 same-false a b h e = both-ways (same a b) (eq-same a b e) h
+
+pub same-comm : (a b : List ℕ) → same a b ≡ same b a
+same-comm a b = alike (same a b) (same b a) (λ (h : same a b ≡ true). eq-same b a (sym (same-true a b h))) (λ (h : same b a ≡ true). eq-same a b (sym (same-true b a h)))

@@ -64,6 +64,16 @@ impl Geometry {
     pub const MOST_RECORDS: u32 = 65535;
     // A blank in EBCDIC.
     pub const BLANK: u8 = 0x40;
+    // The kinds of entries.
+    pub const FREE: u16 = 0;
+
+    pub const UNBLOCKED: u16 = 1;
+
+    pub const BLOCKED: u16 = 2;
+
+    pub const COMPRESSED: u16 = 3;
+
+    pub const RANDOM: u16 = 4;
 
     // The sectors of an image.
     pub fn sectors_of(image: &[u8]) -> usize
@@ -84,21 +94,21 @@ impl Geometry {
     pub fn sectors_for(length: u16) -> u32
         ensures { λ r. ⌜ r ≡ sectorsFor length ⌝ }
     {
-        (length as u32 + 359) / 360
+        ((length as usize + 359) / Geometry::SECTOR) as u32
     }
 
     // The blocked records of that length in a sector.
     pub fn per_sector(length: u16) -> u32
         ensures { λ r. ⌜ r ≡ perSector length ⌝ }
     {
-        quotient(360, length as u32)
+        quotient(Geometry::SECTOR as u32, length as u32)
     }
 
     // The records or granules that an extent holds.
     pub fn capacity(kind: u16, length: u16, sectors: u16) -> u32
         ensures { λ r. ⌜ r ≡ Places.capacity kind length sectors ⌝ }
     {
-        if kind == 2 {
+        if kind == Geometry::BLOCKED {
             let all = Geometry::per_sector(length) * (sectors as u32);
             if all <= Geometry::MOST_RECORDS {
                 all
@@ -114,7 +124,7 @@ impl Geometry {
     pub fn sector_of_record(kind: u16, length: u16, k: u32) -> usize
         ensures { λ r. ⌜ r ≡ placeOf kind length k .sector ⌝ }
     {
-        if kind == 2 {
+        if kind == Geometry::BLOCKED {
             quotient(k, Geometry::per_sector(length)) as usize
         } else {
             (Geometry::sectors_for(length) as usize) * (k as usize)
@@ -125,7 +135,7 @@ impl Geometry {
     pub fn byte_of_record(kind: u16, length: u16, k: u32) -> usize
         ensures { λ r. ⌜ r ≡ placeOf kind length k .byte ⌝ }
     {
-        if kind == 2 {
+        if kind == Geometry::BLOCKED {
             (remainder(k, Geometry::per_sector(length)) as usize) * (length as usize)
         } else {
             0

@@ -4,8 +4,9 @@ use mathlib.Core.List.{List, [], _∷_}
 use Prim.Native.Nat.{ℕ, _+_, _-_}
 use lib.ListN.{length}
 use lib.Dec.{leb, ltb}
-use Rattle.geometry.specs.Bytes.{padded}
+use Rattle.geometry.specs.Bytes.{lay, padded}
 use Rattle.geometry.specs.Sizes.{sector}
+use Rattle.geometry.specs.Places.{byteOf}
 use Rattle.geometry.specs.declared.Place.{Place}
 use Rattle.packing.specs.Reading.{nextSector, further}
 
@@ -43,3 +44,8 @@ changes p code = elim (fitsHere p (length code)) [
         | false ↦ filled p [] ∷ filled (nextSector p) code ∷ []
       ]
 ]
+
+-- the extent's bytes with such changes, one after another
+abbrev pub laid : List Change → List ℕ → List ℕ
+laid [] bytes = bytes
+laid (c ∷ cs) bytes = laid cs (lay bytes (byteOf (c .place)) (c .bytes))

@@ -6,12 +6,12 @@ use mathlib.Core.List.{List, [], _∷_, map}
 use Prim.Native.Nat.{ℕ, _+_, _-_, _*_, _≤_, _<_}
 use native.Mathlib.Omega.{arith}
 use lib.ListN.{length, getD}
-use lib.Dec.{leb, ltb}
-use borrow.Author.Tests.{eqb-true, eqb-false, ne-eqb, lt-ltb, le-leb, ltb-true, leb-true, leb-false, not-false}
+use lib.Dec.{ltb}
+use borrow.Author.Tests.{eqb-true, eqb-false, ne-eqb, lt-ltb, ltb-true, leb-false}
 use Rattle.geometry.specs.Bytes.{padded, word}
 use Rattle.geometry.specs.Sizes.{sector, blocked, compressed, random, mostSectors, sectorsOf}
 use Rattle.geometry.specs.Places.{sectorsFor, capacity, placeOf, byteOf}
-use Rattle.geometry.proofs.Tests.{and-left, and-right, either}
+use Rattle.geometry.proofs.Tests.{either}
 use Rattle.geometry.proofs.Places.{lawful-most, sector-below, byte-blocked, spanOf, span-inside, span-whole, span-holds}
 use Rattle.geometry.proofs.Bytes.{length-padded}
 use Rattle.directory.specs.Entries.{entryAt, isFree, isKind, isMarked}
@@ -22,11 +22,13 @@ use Rattle.sessions.proofs.Legal.{lawful-length, good-table, position-most, bey
 use Rattle.coding.specs.Encode.{codeOf}
 use Rattle.directory.specs.Stamp.{stampBytes}
 use Rattle.directory.specs.Rules.{longest}
-use Rattle.packing.specs.Reading.{readBehind, readAt, startOf, goesOn, nextSector}
-use Rattle.packing.specs.Placing.{changes, fitsHere, goesTo, hasRoom, filled}
+use Rattle.packing.specs.Reading.{readBehind, readAt, startOf, goesOn}
+use Rattle.packing.specs.Placing.{Change, changes}
+use Rattle.packing.proofs.One.{Within}
+use Rattle.packing.proofs.Placed.{AllIn, changes-in}
 use Rattle.geometry.specs.declared.Place.{Place}
 use Rattle.requests.specs.Judge.{judge, isFull}
-use Rattle.requests.proofs.Done.{Writes, Allows, done-allows}
+use Rattle.requests.proofs.Done.{Writes, Allows, done-allows, room-coded}
 use Rattle.requests.specs.declared.Request.{Request}
 use Rattle.requests.specs.declared.Request.the-variants.{Open, Read, Write, GranuleRead, GranuleWrite, GranuleLook, Position}
 use Rattle.requests.specs.declared.Order.the-variants.{WriteMark, RewindOnline, RewindOffline, RecordForward, RecordBack, FileForward, FileBack}
@@ -34,6 +36,7 @@ use Rattle.requests.specs.declared.Answer.the-variants.{Done}
 use Rattle.steps.specs.Effects.{Effect, hold, change, store, stamp, putBack, readEffects, writeEffects, blockedEffect, storeEffect, effects}
 use Rattle.steps.specs.Next.{Scene, factsOf, theNext, badIn, decoding, isLost, recordHere, codeLength}
 use Rattle.steps.proofs.Lawful.{Lawful, Inside, AllInside, none, and}
+use Rattle.steps.proofs.Compressed.{good-within, code-is}
 use Rattle.directory.specs.declared.Entry.{Entry}
 use Rattle.sessions.specs.declared.OpenFile.{OpenFile}
 use Rattle.sessions.specs.declared.Session.{Session}
@@ -140,16 +143,6 @@ unfolding readBehind readAt isLost
 not-lost e bytes h k = either (ltb (startOf bytes h .sector) (e .sectors)) (λ (t : ltb (startOf bytes h .sector) (e .sectors) ≡ true). ltb-true _ _ t)
     (λ (t : ltb (startOf bytes h .sector) (e .sectors) ≡ false). absurd (false≢true (sym (rw (t, readAt) at k))))
 
--- the code's length that is judged is that of the code that is written
-code-length : (e : Entry) (given : List ℕ) → isKind compressed e ≡ true → length given ≤ e .length → codeLength e given ≡ length (codeOf (e .length) given)
-unfolding codeLength
-code-length e given k h = rw (k, le-leb (length given) (e .length) h, codeLength)
-
-place-inside : (e : Entry) (p : Place) → placeGood e p ≡ true → (p .sector < e .sectors) × (p .byte ≤ sector)
-unfolding placeGood
-place-inside e p h =
-    (ltb-true (p .sector) (e .sectors) (and-left (ltb (p .sector) (e .sectors)) _ h), leb-true (p .byte) sector (and-right (ltb (p .sector) (e .sectors)) (leb (p .byte) sector) h))
-
 module _ (files buffer : ℕ) (c : Scene) (l : Lawful (c .entry) (c .file)) where
   abbrev e : Entry
   e = c .entry
@@ -184,7 +177,7 @@ module _ (files buffer : ℕ) (c : Scene) (l : Lawful (c .entry) (c .file)) wher
 
       one : (g : Bool) → isKind compressed e ≡ true → buffers e ≡ true
           → AllSuit e (elim g [ true ↦ hold (c .file .here .sector) ∷ hold (startOf (c .bytes) (c .file .here) .sector) ∷ [] | false ↦ hold (startOf (c .bytes) (c .file .here) .sector) ∷ [] ])
-      one true k b = ((b, place-inside e (c .file .here) (l .places k .0) .0), ((b, there k), record {}))
+      one true k b = ((b, good-within e (c .file .here) (l .places k .0) .0), ((b, there k), record {}))
       one false k b = ((b, there k), record {})
 
       go : (b k : Bool) → isKind blocked e ≡ b → isKind compressed e ≡ k
@@ -220,32 +213,10 @@ module _ (files buffer : ℕ) (c : Scene) (l : Lawful (c .entry) (c .file)) wher
       let z : length (padded 0 (sector - p .byte) (c .given)) ≡ sector - p .byte = length-padded 0 _ (c .given) (omega arith) in
       (rw b, blocked-below (c .file .position) b r, omega arith)
 
-  -- bytes and 128 behind them up to the sector's end
-  filled-suits : (p : Place) (xs : List ℕ) → buffers e ≡ true → p .sector < e .sectors → p .byte + length xs ≤ sector → Suits e (change (filled p xs))
-  unfolding filled
-  filled-suits p xs b h r =
-      let z : length (padded 128 (sector - p .byte) xs) ≡ sector - p .byte = length-padded 128 _ xs (omega arith) in
-      (b, h, omega arith)
-
-  -- a coded record
-  changes-suit : (p : Place) (code : List ℕ) → buffers e ≡ true → p .sector < e .sectors → length code ≤ sector → hasRoom (e .sectors) p (length code) ≡ true
-      → AllSuit e (map change (changes p code))
-  unfolding changes hasRoom goesTo fitsHere
-  changes-suit p code b h s r = go (fitsHere p (length code)) refl (leb sector (p .byte)) refl
-    where
-      next : fitsHere p (length code) ≡ false → p .sector + 1 < e .sectors
-      next x = ltb-true (p .sector + 1) (e .sectors) (rw (x, goesTo) at r)
-
-      go : (f : Bool) → fitsHere p (length code) ≡ f → (o : Bool) → leb sector (p .byte) ≡ o
-          → AllSuit e (map change (elim f [
-            | true ↦ filled p code ∷ []
-            | false ↦ elim o [ true ↦ filled (nextSector p) code ∷ [] | false ↦ filled p [] ∷ filled (nextSector p) code ∷ [] ]
-          ]))
-      go true x o y = (filled-suits p code b h (leb-true (p .byte + length code) sector x), record {})
-      go false x true y = (filled-suits (nextSector p) code b (next x) (omega arith), record {})
-      go false x false y =
-          let d : p .byte < sector = leb-false sector (p .byte) y in
-          (filled-suits p [] b h (omega arith), (filled-suits (nextSector p) code b (next x) (omega arith), record {}))
+  -- the changes of a coded record, each in one sector
+  changes-suit : buffers e ≡ true → (cs : List Change) → AllIn (e .sectors) cs → AllSuit e (map change cs)
+  changes-suit b [] i = record {}
+  changes-suit b (x ∷ cs) i = ((b, i .0 .sector-in, omega (arith, i .0 .ends)), changes-suit b cs (i .1))
 
   write-suits : Writes (factsOf true files buffer Write c) → AllSuit e (writeEffects c)
   unfolding writeEffects factsOf isFull
@@ -261,9 +232,11 @@ module _ (files buffer : ℕ) (c : Scene) (l : Lawful (c .entry) (c .file)) wher
           ])
       go true k p q = (blocked-suits p (w .short) (below (sequential p .0)), record {})
       go false true p q =
-          let s : codeLength e (c .given) ≡ length (codeOf (e .length) (c .given)) = code-length e (c .given) q (w .short) in
-          changes-suit (c .file .here) (codeOf (e .length) (c .given)) (rw (p, q)) (place-inside e (c .file .here) (l .places q .0) .0) (omega (arith, w .coded q))
-          (rw (← s) (not-false _ (rw (q, isFull) at (w .room))))
+          let code : List ℕ = codeOf (e .length) (c .given) in
+          let s : codeLength e (c .given) ≡ length code = code-is c q (w .short) in
+          let h : Within (e .sectors) (c .file .here) = good-within e (c .file .here) (l .places q .0) in
+          changes-suit (rw (p, q)) (changes (c .file .here) code)
+          (changes-in (c .file .here) code (e .sectors) (h .0) (h .1) (omega (arith, w .coded q)) (rw s at (room-coded (factsOf true files buffer Write c) (w .room) q)))
       go false false p q = (store-suits (c .file .position) (rw (p, q)) (w .short) (below q), record {})
 
 -- a random file has no buffer

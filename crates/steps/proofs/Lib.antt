@@ -1,2 +1,4 @@
 pub mod Lawful
+pub mod Compressed
 pub mod Inside
+pub mod Frame

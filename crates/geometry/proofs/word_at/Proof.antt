@@ -24,7 +24,7 @@ mul-result : tie.Need-mul-result
 mul-result c = omega (arith, c .before .shared-slice-known2 .given (c .before .before .before .before .args .at))
 
 cast-result-2 : tie.Need-cast-result-2
-cast-result-2 c = search needs
+cast-result-2 c = omega (arith, c .before .shared-slice-known2 .given (c .before .before .before .before .args .at))
 
 add-result : tie.Need-add-result
 add-result c = omega (arith, c .before .shared-slice-known2 .given (c .before .before .before .before .args .at))

@@ -1,0 +1,156 @@
+-- "A coded record has at most R + 3 bytes", and they are bytes. A run of characters costs one byte more than its characters, and so does the 0 at the
+-- end; but a run of characters that is not full has the end or two blanks behind it, which cost one byte. So only full runs cost more.
+use mathlib.Core.Path.{_≡_, refl, sym, _∙_}
+use mathlib.Core.Bool.{Bool, true, false, _&&_, _||_, Bool·beq}
+use mathlib.Core.List.{List, [], _∷_, _++_}
+use Prim.Native.Nat.{ℕ, zero, suc, _+_, _-_, _/_, _≤_, _<_}
+use native.Mathlib.Numerals.{sub-one}
+use native.Mathlib.Omega.{arith}
+use native.Mathlib.Decide.{decLt}
+use lib.ListN.{length, take, drop, getD, length-append, length-drop}
+use lib.Seq.{length-take-le}
+use lib.Dec.{eqb}
+use borrow.Author.Tests.{ne-eqb, eqb-true}
+use Rattle.geometry.specs.Sizes.{blank}
+use Rattle.coding.specs.Encode.{keeps, inGap, runLength, runCode, runsCode, encode, codeOf}
+use Rattle.coding.proofs.Runs.{run-le, run-own, gap-blank, keeps-le}
+use Rattle.coding.proofs.Round.{encode-padded}
+
+-- empty, or begun by two blanks
+Tight : List ℕ → Type 0
+Tight s = 0 < length s → (getD s 0 0 ≡ blank) × (getD s 1 0 ≡ blank)
+
+-- ---- two blanks
+
+gap-first : (q c : ℕ) (s : List ℕ) → c ≡ blank → getD s 0 0 ≡ blank → inGap q c s ≡ true
+unfolding inGap
+gap-first q c s e f = rw (e, f) (go (eqb q blank))
+  where
+    go : (t : Bool) → t || true ≡ true
+    go true = refl
+    go false = refl
+
+gap-second : (q c : ℕ) (s : List ℕ) → q ≡ blank → c ≡ blank → inGap q c s ≡ true
+unfolding inGap
+gap-second q c s e f = rw (e, f)
+
+gap-follows : (q c : ℕ) (s : List ℕ) → inGap q c s ≡ true → (q ≡ blank → ⊥) → getD s 0 0 ≡ blank
+unfolding inGap
+gap-follows q c s h n = go (eqb c blank) (eqb (getD s 0 0) blank) refl (rw (ne-eqb q blank n) at h)
+  where
+    go : (t u : Bool) → eqb (getD s 0 0) blank ≡ u → t && u ≡ true → getD s 0 0 ≡ blank
+    go true true e h = eqb-true (getD s 0 0) blank e
+    go true false e h = let z : _≡_ {A = ℕ} 0 1 = cc in absurd (omega arith)
+    go false u e h = let z : _≡_ {A = ℕ} 0 1 = cc in absurd (omega arith)
+
+-- a run of characters that ends before its limit ends the record, or two blanks follow it
+run-ends : (n q c : ℕ) (s : List ℕ) → inGap q c s ≡ false → runLength n false c s < n → Tight (drop (runLength n false c s) s)
+unfolding runLength Tight
+run-ends zero q c s z h = absurd (omega arith)
+run-ends (suc n) q c [] z h = λ p. absurd (omega arith)
+run-ends (suc n) q c (d ∷ s) z h = go (inGap c d s) refl (run-ends n c d s) h
+  where
+    go : (gap : Bool) → inGap c d s ≡ gap → (inGap c d s ≡ false → runLength n false d s < n → Tight (drop (runLength n false d s) s))
+        → elim (Bool·beq gap false) [ true ↦ suc (runLength n false d s) | false ↦ 0 ] < suc n
+        → Tight (drop (elim (Bool·beq gap false) [ true ↦ suc (runLength n false d s) | false ↦ 0 ]) (d ∷ s))
+    go true e ih h =
+        let is : d ≡ blank = gap-blank c d s e in
+        let other : c ≡ blank → ⊥ = λ f. let y = gap-first q c (d ∷ s) f is in let y : _≡_ {A = ℕ} 0 1 = cc in omega arith in
+        λ p. (is, gap-follows c d s e other)
+    go false e ih h = ih e (omega arith)
+
+-- a blank run that is begun by two blanks has both
+run-two : (n q c : ℕ) (s : List ℕ) → Tight (c ∷ s) → 0 < runLength (suc n) (inGap q c s) c s
+unfolding Tight
+run-two n q c [] t = let z : _≡_ {A = ℕ} 0 blank = t (omega arith) .1 in absurd (omega arith)
+run-two n q c (d ∷ s) t =
+    let two = t (omega arith) in
+    let same : inGap q c (d ∷ s) ≡ inGap c d s = gap-first q c (d ∷ s) (two .0) (two .1) ∙ sym (gap-second c d s (two .0) (two .1)) in
+    rw (same, run-own n c d s) (omega arith)
+
+-- ---- the length of a code
+
+-- at most two bytes more than characters, and one for each 127 of them; one less where the list is tight
+Short : List ℕ → ℕ → Type 0
+Short s n = (n ≤ length s + 2 + length s / 127) × (Tight s → n ≤ length s + 1 + length s / 127)
+
+short-run : (gap : Bool) (q c : ℕ) (s u : List ℕ) → inGap q c s ≡ gap → Short (drop (runLength 126 gap c s) s) (length u)
+    → Short (c ∷ s) (length (runCode gap (take (suc (runLength 126 gap c s)) (c ∷ s)) ++ u))
+unfolding runCode Short Tight
+short-run false q c s u e ih =
+    let p = runLength 126 false c s in
+    let le = run-le 126 false c s in
+    let n : length (take p s) ≡ p = length-take-le p s (le .1) in
+    let d : length (drop p s) ≡ length s - p = length-drop p s in
+    (rw length-append (elim (decLt p 126) [ yes l ↦ (let i = ih .1 (run-ends 126 q c s e l) in omega arith) | no g ↦ omega arith ]), λ t. let two = t (omega arith) in let y = gap-first q c s (two .0) (two .1) in let z : _≡_ {A = ℕ} 0 1 = cc in absurd (omega arith))
+short-run true q c s u e ih =
+    let p = runLength 126 true c s in
+    let le = run-le 126 true c s in
+    let d : length (drop p s) ≡ length s - p = length-drop p s in
+    (omega arith, λ t. let two = rw e at (run-two 125 q c s t) in omega arith)
+
+short : (s : List ℕ) (k q : ℕ) → Short (drop k s) (length (runsCode k q s))
+unfolding runsCode Short Tight
+short [] zero q = (omega arith, λ t. omega arith)
+short [] (suc k) q = (omega arith, λ t. omega arith)
+short (c ∷ s) (suc k) q = short s k c
+short (c ∷ s) zero q = rw (run-own 126 q c s, sub-one) (short-run (inGap q c s) q c s (runsCode (runLength 126 (inGap q c s) c s) c s) refl (short s (runLength 126 (inGap q c s) c s) c))
+
+pub encode-length : (x : List ℕ) → length x ≤ 132 → length (encode x) ≤ length x + 3
+unfolding encode Short
+encode-length x h =
+    let e = keeps (length x) x in
+    let l = keeps-le (length x) x in
+    let n : length (take e x) ≡ e = length-take-le e x l in
+    let f = short (take e x) 0 0 .0 in
+    omega arith
+
+pub codeOf-length : (R : ℕ) (given : List ℕ) → length given ≤ R → R ≤ 132 → length (codeOf R given) ≤ R + 3
+unfolding codeOf
+codeOf-length R given h b = rw (encode-padded R given) (let l = encode-length given (omega arith) in omega arith)
+
+-- ---- its bytes
+
+-- all are bytes
+abbrev Bytes : List ℕ → Type 0
+Bytes xs = (i : ℕ) → getD xs i 0 < 256
+
+bytes-cons : (c : ℕ) (xs : List ℕ) → c < 256 → Bytes xs → Bytes (c ∷ xs)
+bytes-cons c xs h b zero = h
+bytes-cons c xs h b (suc i) = b i
+
+bytes-append : (xs ys : List ℕ) → Bytes xs → Bytes ys → Bytes (xs ++ ys)
+bytes-append [] ys a b i = b i
+bytes-append (x ∷ xs) ys a b zero = a 0
+bytes-append (x ∷ xs) ys a b (suc i) = bytes-append xs ys (λ i. a (suc i)) b i
+
+bytes-take : (n : ℕ) (xs : List ℕ) → Bytes xs → Bytes (take n xs)
+bytes-take zero xs a i = omega arith
+bytes-take (suc n) [] a i = a i
+bytes-take (suc n) (x ∷ xs) a zero = a 0
+bytes-take (suc n) (x ∷ xs) a (suc i) = bytes-take n xs (λ i. a (suc i)) i
+
+bytes-run : (gap : Bool) (xs : List ℕ) → length xs ≤ 127 → Bytes xs → Bytes (runCode gap xs)
+unfolding runCode
+bytes-run false xs h b = bytes-cons (length xs) xs (omega arith) b
+bytes-run true xs h b = bytes-cons (128 + length xs) [] (omega arith) (λ i. omega arith)
+
+bytes-runs : (s : List ℕ) (k q : ℕ) → Bytes s → Bytes (runsCode k q s)
+unfolding runsCode
+bytes-runs [] zero q b = bytes-cons 0 [] (omega arith) b
+bytes-runs [] (suc k) q b = bytes-cons 0 [] (omega arith) b
+bytes-runs (c ∷ s) (suc k) q b = bytes-runs s k c (λ i. b (suc i))
+bytes-runs (c ∷ s) zero q b =
+    let gap = inGap q c s in
+    let n = runLength 127 gap q (c ∷ s) in
+    let le = run-le 127 gap q (c ∷ s) in
+    let l : length (take n (c ∷ s)) ≡ n = length-take-le n (c ∷ s) (le .1) in
+    bytes-append (runCode gap (take n (c ∷ s))) (runsCode (n - 1) c s) (bytes-run gap (take n (c ∷ s)) (omega arith) (bytes-take n (c ∷ s) b)) (bytes-runs s (n - 1) c (λ i. b (suc i)))
+
+pub encode-bytes : (x : List ℕ) → ((i : ℕ) → getD x i 0 < 256) → (i : ℕ) → getD (encode x) i 0 < 256
+unfolding encode
+encode-bytes x b = bytes-runs (take (keeps (length x) x) x) 0 0 (bytes-take (keeps (length x) x) x b)
+
+pub codeOf-bytes : (R : ℕ) (given : List ℕ) → ((i : ℕ) → getD given i 0 < 256) → (i : ℕ) → getD (codeOf R given) i 0 < 256
+unfolding codeOf
+codeOf-bytes R given b = rw encode-padded (encode-bytes given b)

@@ -1,0 +1,262 @@
+-- Demand 1 of both engines. What an answer makes of image, session and buffer is read off the step's three cases; the bytes that go into the
+-- caller's buffer are one record or granule, which has at most R bytes. A plain session holds nothing, so it answers as the buffered one does.
+use mathlib.Core.Path.{_≡_, refl, sym, ap, _∙_}
+use mathlib.Core.Bool.{Bool, true, false, _&&_, _||_, not, and-true}
+use mathlib.Core.List.{List, [], _∷_, _++_, map}
+use Prim.Native.Nat.{ℕ, zero, suc, _+_, _-_, _≤_}
+use native.Mathlib.Nat.{not-suc-le-zero}
+use native.Mathlib.Omega.{arith}
+use lib.Dec.{leb, ltb}
+use lib.ListN.{length, drop, getD, set, length-append, length-take, length-drop, List·getD-map}
+use borrow.Author.Tests.{leb-true}
+use Rattle.geometry.specs.Bytes.{part, lay}
+use Rattle.geometry.specs.Lists.{every}
+use Rattle.geometry.specs.Places.{placeOf, byteOf}
+use Rattle.geometry.specs.Sizes.{sector, compressed}
+use Rattle.coding.specs.Decode.{Decoded, good, bad, decode}
+use Rattle.coding.proofs.Known.{decode-good}
+use Rattle.directory.specs.Entries.{entryAt, isKind}
+use Rattle.packing.specs.Reading.{got, lost, gotFrom, startOf, readAt, readBehind, extentEnd}
+use Rattle.sessions.specs.Session.{idle, fresh, bare, unheld, fileOf, slotOf, extentWith, heldGood, bufferedLegal}
+use Rattle.steps.specs.Next.{Scene, fixedAt, recordHere, bytesGot, fileMet, intoBuffer}
+use Rattle.steps.specs.Step.{After, plainScene, plainAnswer, plainAfter, plainStep, heldOf, bufferedScene, bufferedAnswer, kept, bufferedAfter, bufferedStep}
+use Rattle.demands.specs.Engine.{Engine, plainEngine, bufferedEngine}
+use Rattle.demands.specs.Demand1.{sessionMet, mayChange, Proper, Orderly}
+use Rattle.geometry.specs.declared.Place.{Place}
+use Rattle.directory.specs.declared.Entry.{Entry}
+use Rattle.requests.specs.declared.Answer.{Answer}
+use Rattle.requests.specs.declared.Answer.the-variants.{Done, Met, Refused}
+use Rattle.requests.specs.declared.Edge.{Edge}
+use Rattle.requests.specs.declared.Edge.the-variants.{EndOfFile, BeginningOfTape}
+use Rattle.requests.specs.declared.Refusal.{Refusal}
+use Rattle.requests.specs.declared.Request.{Request}
+use Rattle.requests.specs.declared.Request.the-variants.{Open, Read, Write, GranuleRead, GranuleWrite, GranuleLook, Position}
+use Rattle.sessions.specs.declared.BufferedFile.{BufferedFile}
+use Rattle.sessions.specs.declared.BufferedSession.{BufferedSession}
+use Rattle.sessions.specs.declared.OpenFile.{OpenFile}
+use Rattle.sessions.specs.declared.Session.{Session}
+
+-- ---- what goes into the buffer has at most R bytes
+
+short-part : (xs : List ℕ) (at n : ℕ) → length (part xs at n) ≤ n
+unfolding part
+short-part xs at n = omega (arith, length-take n (drop at xs))
+
+short-fixed : (c : Scene) (k : ℕ) → length (fixedAt c k) ≤ c .entry .length
+unfolding fixedAt
+short-fixed c k = short-part (c .bytes) (byteOf (placeOf (c .entry .kind) (c .entry .length) k)) (c .entry .length)
+
+short-got : (q : Place) (R : ℕ) (s : List ℕ) (d : Decoded) → decode R s ≡ d → length (bytesGot (gotFrom q d)) ≤ R
+unfolding gotFrom bytesGot
+short-got q R s (good xs e) h = omega (arith, decode-good R s xs e h .0)
+short-got q R s (bad k) h = omega arith
+
+short-at : (R sectors : ℕ) (bytes : List ℕ) (q : Place) → length (bytesGot (readAt R sectors bytes q)) ≤ R
+unfolding readAt bytesGot
+short-at R sectors bytes q = go (ltb (q .sector) sectors)
+  where
+    s : List ℕ
+    s = part bytes (byteOf q) (sector - q .byte)
+
+    go : (b : Bool) → length (bytesGot (elim b [ true ↦ gotFrom q (decode R s) | false ↦ lost (extentEnd sectors) ])) ≤ R
+    go true = short-got q R s (decode R s) refl
+    go false = omega arith
+
+short-here : (c : Scene) → length (bytesGot (recordHere c)) ≤ c .entry .length
+unfolding recordHere readBehind bytesGot
+short-here c = go (isKind compressed (c .entry))
+  where
+    go : (b : Bool)
+        → length (bytesGot (elim b [
+          | true ↦ readBehind (c .entry .length) (c .entry .sectors) (c .bytes) (c .file .here)
+          | false ↦ got (record { bytes = fixedAt c (c .file .position); behind = c .file .here })
+        ]))
+        ≤ c .entry .length
+    go true = short-at (c .entry .length) (c .entry .sectors) (c .bytes) (startOf (c .bytes) (c .file .here))
+    go false = short-fixed c (c .file .position)
+
+short-into : (q : Request) (c : Scene) → length (intoBuffer q c) ≤ mayChange q (c .entry .length)
+unfolding intoBuffer mayChange
+short-into Open c = omega arith
+short-into Read c = short-here c
+short-into Write c = omega arith
+short-into (GranuleRead g) c = short-fixed c g
+short-into (GranuleWrite g) c = omega arith
+short-into (GranuleLook g) c = omega arith
+short-into (Position o) c = omega arith
+
+-- ---- bytes laid at the front of a buffer
+
+drop-nil : (n : ℕ) → _≡_ {A = List ℕ} (drop n []) []
+drop-nil zero = refl
+drop-nil (suc n) = refl
+
+behind-front : (xs buffer : List ℕ) (n : ℕ) → length xs ≤ n → drop n (xs ++ drop (length xs) buffer) ≡ drop n buffer
+behind-front [] buffer n h = refl
+behind-front (x ∷ xs) buffer zero h = absurd (not-suc-le-zero h)
+behind-front (x ∷ xs) [] (suc n) h = ap (λ (z : List ℕ). drop n (xs ++ z)) (sym (drop-nil (length xs))) ∙ behind-front xs [] n (omega arith) ∙ drop-nil n
+behind-front (x ∷ xs) (b ∷ buffer) (suc n) h = behind-front xs buffer n (omega arith)
+
+module _ (buffer xs : List ℕ) where
+  lay-rest : (n : ℕ) → length xs ≤ n → drop n (lay buffer 0 xs) ≡ drop n buffer
+  unfolding lay
+  lay-rest n h = go (leb (0 + length xs) (length buffer))
+    where
+      z : 0 + length xs ≡ length xs
+      z = omega arith
+
+      go : (b : Bool) → drop n (elim b [ true ↦ xs ++ drop (0 + length xs) buffer | false ↦ buffer ]) ≡ drop n buffer
+      go true = rw z (behind-front xs buffer n h)
+      go false = refl
+
+  lay-size : length (lay buffer 0 xs) ≡ length buffer
+  unfolding lay
+  lay-size = go (leb (0 + length xs) (length buffer)) refl
+    where
+      go : (b : Bool) → leb (0 + length xs) (length buffer) ≡ b → length {A = ℕ} (elim b [ true ↦ xs ++ drop (0 + length xs) buffer | false ↦ buffer ]) ≡ length buffer
+      go true e =
+          let h : 0 + length xs ≤ length buffer = leb-true (0 + length xs) (length buffer) e in
+          omega (arith, length-append xs (drop (0 + length xs) buffer), length-drop (0 + length xs) buffer)
+      go false e = refl
+
+-- ---- what an engine makes of each answer
+
+module _ (E : Engine) (image : List ℕ) (s : E .Session) (i : ℕ) (q : Request) (given buffer : List ℕ) where
+  record Acts (after : Answer → After (E .Session)) (c : Scene) : Type 0 where
+    says : (a : Answer) → after a .answer ≡ a
+    itsEntry : c .entry ≡ entryAt (E .seen s .table) i
+    done : after Done .buffer ≡ lay buffer 0 (intoBuffer q c)
+    met : (x : Edge) → (after (Met x) .image ≡ image) × (E .seen (after (Met x) .session) ≡ sessionMet x (E .seen s) i) × (after (Met x) .buffer ≡ buffer)
+    refused : (x : Refusal) → (after (Refused x) .image ≡ image) × (after (Refused x) .session ≡ s) × (after (Refused x) .buffer ≡ buffer)
+
+  proper : (after : Answer → After (E .Session)) (c : Scene) → Acts after c → (a : Answer) → a ≡ bufferedAnswer image (E .seen s) i q given (length buffer)
+      → Proper E image s i q given buffer (after a)
+  proper after c k Done e = record {
+    ordered = k .says Done ∙ e;
+    refused = λ x f. absurd (let g : after Done .answer ≡ Done = k .says Done in let z : _≡_ {A = ℕ} 0 1 = cc in omega arith);
+    met = λ x f. absurd (let g : after Done .answer ≡ Done = k .says Done in let z : _≡_ {A = ℕ} 0 1 = cc in omega arith);
+    bufferRest = λ n f. rw (k .done) (lay-rest buffer (intoBuffer q c) n (rw (f, ← (k .itsEntry)) (short-into q c)));
+    bufferSize = rw (k .done) (lay-size buffer (intoBuffer q c));
+  }
+  proper after c k (Met y) e = record {
+    ordered = k .says (Met y) ∙ e;
+    refused = λ x f. absurd (let g : after (Met y) .answer ≡ Met y = k .says (Met y) in let z : _≡_ {A = ℕ} 0 1 = cc in omega arith);
+    met = λ x f. let g : after (Met y) .answer ≡ Met y = k .says (Met y) in let h : y ≡ x = cc in rw (← h) (k .met y);
+    bufferRest = λ n f. rw (k .met y .2);
+    bufferSize = rw (k .met y .2);
+  }
+  proper after c k (Refused y) e = record {
+    ordered = k .says (Refused y) ∙ e;
+    refused = λ x f. k .refused y;
+    met = λ x f. absurd (let g : after (Refused y) .answer ≡ Refused y = k .says (Refused y) in let z : _≡_ {A = ℕ} 0 1 = cc in omega arith);
+    bufferRest = λ n f. rw (k .refused y .2);
+    bufferSize = rw (k .refused y .2);
+  }
+
+-- ---- the buffered engine
+
+buffered-acts : (image : List ℕ) (s : BufferedSession) (i : ℕ) (q : Request) (given buffer : List ℕ)
+    → Acts bufferedEngine image s i q given buffer (λ a. bufferedAfter a image s q (bufferedScene image s i given) (heldOf s i) buffer) (bufferedScene image s i given)
+unfolding bufferedAfter bufferedScene sessionMet
+buffered-acts image s i q given buffer = record {
+  says = elim [ Done ↦ refl | Met x ↦ refl | Refused x ↦ refl ];
+  itsEntry = refl;
+  done = refl;
+  met = λ x. (refl, refl, refl);
+  refused = λ x. (refl, refl, refl);
+}
+
+pub buffered-orderly : Orderly bufferedEngine
+unfolding bufferedStep
+buffered-orderly = record {
+  every-request = λ image s i q given buffer. proper bufferedEngine image s i q given buffer _ _ (buffered-acts image s i q given buffer) (bufferedAnswer image s i q given (length buffer)) refl;
+}
+
+-- ---- the plain engine: a plain session holds nothing
+
+map-bare : (fs : List OpenFile) → map (λ (b : BufferedFile). b .file) (map fresh fs) ≡ fs
+map-bare [] = refl
+map-bare (f ∷ fs) = ap (λ (r : List OpenFile). f ∷ r) (map-bare fs)
+
+pub bare-unheld : (s : Session) → bare (unheld s) ≡ s
+unfolding bare unheld
+bare-unheld s = ap (λ (fs : List OpenFile). record { table = s .table; files = fs }) (map-bare (s .files))
+
+map-set : (fs : List OpenFile) (k : ℕ) (f : OpenFile) → map fresh (set fs k f) ≡ set (map fresh fs) k (fresh f)
+map-set [] k f = refl
+map-set (g ∷ fs) zero f = refl
+map-set (g ∷ fs) (suc k) f = ap (λ (r : List BufferedFile). fresh g ∷ r) (map-set fs k f)
+
+set-unheld : (s : Session) (k : ℕ) (f : OpenFile)
+    → unheld (record { table = s .table; files = set (s .files) k f }) ≡ record { table = unheld s .table; files = set (unheld s .files) k (fresh f) }
+unfolding unheld
+set-unheld s k f = ap (λ (r : List BufferedFile). record { table = s .table; files = r }) (map-set (s .files) k f)
+
+fresh-good : (table : List Entry) (f : OpenFile) → heldGood table (fresh f) ≡ true
+unfolding heldGood
+fresh-good table f = go (f .used) _
+  where
+    go : (u y : Bool) → (not (u && false) || y) ≡ true
+    go true y = refl
+    go false y = refl
+
+all-good : (table : List Entry) (fs : List OpenFile) → every (heldGood table) (map fresh fs) ≡ true
+unfolding every
+all-good table [] = refl
+all-good table (f ∷ fs) = rw (fresh-good table f) (all-good table fs)
+
+pub unheld-good : (s : Session) → every (heldGood (unheld s .table)) (unheld s .files) ≡ true
+unfolding unheld
+unheld-good s = all-good (s .table) (s .files)
+
+unheld-table : (s : Session) → unheld s .table ≡ s .table
+unfolding unheld
+unheld-table s = refl
+
+-- the state that a plain session has for entry i, with no buffer
+fresh-held : (s : Session) (i : ℕ) → (g : OpenFile) × (heldOf (unheld s) i ≡ fresh g)
+unfolding heldOf unheld
+fresh-held s i = go (fileOf (bare (unheld s) .files) i .used)
+  where
+    k : ℕ
+    k = slotOf (bare (unheld s) .files) i
+
+    go : (u : Bool) → (g : OpenFile) × (elim u [ true ↦ getD (map fresh (s .files)) k (fresh idle) | false ↦ fresh idle ] ≡ fresh g)
+    go true = (getD (s .files) k idle, List·getD-map fresh (s .files) k idle)
+    go false = (idle, refl)
+
+kept-fresh : (x : Edge) (f g : OpenFile) → kept (fileMet x f) (fresh g) ≡ fresh (fileMet x f)
+unfolding kept fileMet
+kept-fresh EndOfFile f g = refl
+kept-fresh BeginningOfTape f g = refl
+
+same-answer : (image : List ℕ) (s : Session) (i : ℕ) (q : Request) (given : List ℕ) (n : ℕ)
+    → plainAnswer image s i q given n ≡ bufferedAnswer image (unheld s) i q given n
+unfolding plainAnswer bufferedAnswer plainScene bufferedScene bufferedLegal extentWith
+same-answer image s i q given n =
+    let h = fresh-held s i in
+    rw (bare-unheld s, h .1, unheld-good s, and-true, unheld-table s)
+
+met-unheld : (x : Edge) (s : Session) (i : ℕ)
+    → unheld (record { table = s .table; files = set (s .files) (slotOf (s .files) i) (fileMet x (fileOf (s .files) i)) }) ≡ sessionMet x (unheld s) i
+unfolding sessionMet
+met-unheld x s i =
+    let h = fresh-held s i in
+    rw (bare-unheld s, h .1, kept-fresh x (fileOf (s .files) i) (h .0)) (set-unheld s (slotOf (s .files) i) (fileMet x (fileOf (s .files) i)))
+
+plain-acts : (image : List ℕ) (s : Session) (i : ℕ) (q : Request) (given buffer : List ℕ)
+    → Acts plainEngine image s i q given buffer (λ a. plainAfter a image s q (plainScene image s i given) buffer) (plainScene image s i given)
+unfolding plainAfter plainScene
+plain-acts image s i q given buffer = record {
+  says = elim [ Done ↦ refl | Met x ↦ refl | Refused x ↦ refl ];
+  itsEntry = rw (unheld-table s);
+  done = refl;
+  met = λ x. (refl, met-unheld x s i, refl);
+  refused = λ x. (refl, refl, refl);
+}
+
+pub plain-orderly : Orderly plainEngine
+unfolding plainStep
+plain-orderly = record {
+  every-request = λ image s i q given buffer. proper plainEngine image s i q given buffer _ _ (plain-acts image s i q given buffer) (plainAnswer image s i q given (length buffer)) (same-answer image s i q given (length buffer));
+}

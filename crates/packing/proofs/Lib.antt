@@ -1,0 +1,4 @@
+pub mod One
+pub mod Walks
+pub mod Placed
+pub mod Table
