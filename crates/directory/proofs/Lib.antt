@@ -1,7 +1,9 @@
-pub mod Lists
 pub mod Table
 pub mod Names
 pub mod Free
 pub mod Grouped
 pub mod Good
 pub mod Restamp
+pub mod Find
+pub mod Stamped
+pub mod Back

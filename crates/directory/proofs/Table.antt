@@ -1,7 +1,7 @@
 -- The table of a directory: entry i is read from the 20 bytes at 20·i, and so only the first 360 bytes matter.
 use mathlib.Core.Path.{_≡_, refl, sym, ap, _∙_, subst}
 use mathlib.Core.List.{List, [], _∷_, _++_}
-use Prim.Native.Nat.{ℕ, zero, suc, _+_, _*_, _-_, _≤_, _<_, min, max}
+use Prim.Native.Nat.{ℕ, zero, suc, _+_, _*_, _-_, _≤_, _<_, min}
 use native.Mathlib.Nat.{not-suc-le-zero, le-of-suc-le-suc}
 use native.Mathlib.Numerals.{add-one}
 use native.Mathlib.Omega.{arith}
@@ -9,7 +9,7 @@ use native.Mathlib.Decide.{decLt}
 use lib.ListN.{length, take, drop, getD, set, replicate, length-replicate, getD-replicate, List·getD-eq-default}
 use lib.Seq.{drop-drop, length-take-le, take-suc, drop-cons, set-at, append-snoc, ext-getD}
 use Rattle.geometry.specs.Bytes.{part, lay, padded, wordAt}
-use Rattle.geometry.proofs.Bytes.{Apart, where-is, same-bytes, same-parts, length-lay, length-part-min, length-padded, getD-lay-in, getD-lay-behind, getD-padded-in, getD-padded-behind, part-lay-apart, part-part, wordAt-small, wordAt-part}
+use Rattle.geometry.proofs.Bytes.{where-is, same-bytes, length-lay, length-part-min, length-padded, getD-lay-in, getD-lay-behind, getD-padded-in, getD-padded-behind, part-lay-apart, part-part, wordAt-small, wordAt-part}
 use Rattle.geometry.specs.Sizes.{entries, entrySize}
 use Rattle.directory.specs.declared.Entry.{Entry}
 use Rattle.directory.specs.Entries.{entryFrom, entriesFrom, tableOf, freeEntry, entryAt}

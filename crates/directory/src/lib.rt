@@ -1,13 +1,18 @@
 // The directory: document 01's "Sizes and the directory".
-use geometry::{Geometry, lay, part, same, word_at};
+use geometry::Geometry;
+use geometry::lay;
+use geometry::part;
+use geometry::same;
+use geometry::word_at;
 ghost use mathlib.Core.Path.{_≡_};
-ghost use mathlib.Core.Bool.{_&&_};
+ghost use mathlib.Core.List.{_++_};
 ghost use Prim.Native.Nat.{_+_, _*_, _%_};
 ghost use lib.Dec.{eqb};
 ghost use lib.ListN.{length, getD, drop, replicate};
-ghost use Rattle.geometry.specs.Bytes.{padded};
+ghost use Rattle.geometry.specs.Bytes.{padded, word};
 ghost use Rattle.geometry.specs.Bytes as Bytes;
 ghost use Rattle.geometry.specs.Lists.{every};
+ghost use Rattle.geometry.specs.Lists as Lists;
 ghost use Rattle.directory.specs.Entries.{entryFrom, entryBytes, oneWord, freeEntry, tableOf, entryAt, isMarked, isProtected};
 ghost use Rattle.directory.specs.Rules.{capital, digit, isName, freeIsZero, nameGood, namesDiffer, extentInside, extentsApart, longest, lengthGood, countGood, randomBare, tableGood};
 ghost use Rattle.directory.specs.Grouped.{entryGood, twoGood};
@@ -93,6 +98,59 @@ pub fn entry_of(t: [Entry; 18], i: usize) -> Entry
     ensures { λ r. ⌜ r ≡ entryAt t i ⌝ }
 {
     if i < 18 { t[i] } else { free_entry() }
+}
+
+// A name and six words, as 20 bytes.
+fn twenty_bytes(
+    name: [u8; 8],
+    kind: u16,
+    length: u16,
+    first: u16,
+    sectors: u16,
+    count: u16,
+    flags: u16,
+) -> [u8; 20]
+    ensures { λ r. ⌜ r ≡ name ++ (word kind ++ (word length ++ (word first ++ (word sectors ++ (word count ++ word flags))))) ⌝ }
+{
+    [
+        name[0],
+        name[1],
+        name[2],
+        name[3],
+        name[4],
+        name[5],
+        name[6],
+        name[7],
+        (kind / 256) as u8,
+        (kind % 256) as u8,
+        (length / 256) as u8,
+        (length % 256) as u8,
+        (first / 256) as u8,
+        (first % 256) as u8,
+        (sectors / 256) as u8,
+        (sectors % 256) as u8,
+        (count / 256) as u8,
+        (count % 256) as u8,
+        (flags / 256) as u8,
+        (flags % 256) as u8,
+    ]
+}
+
+// The 20 bytes of an entry, which have room for the last 16 bits of its count.
+pub fn entry_bytes(e: Entry) -> [u8; 20]
+    ensures { λ r. ⌜ r ≡ entryBytes (oneWord e) ⌝ }
+{
+    let name = e.name;
+    let count = (e.count % 65536) as u16;
+    twenty_bytes(name, e.kind, e.length, e.first, e.sectors, count, e.flags)
+}
+
+// Lays an entry's 20 bytes over those from byte at on, if they fit there.
+pub fn put_entry(out: &mut [u8], at: usize, e: Entry)
+    ensures { λ _. ⌜ now (out .exit) ≡ Bytes.lay (now (out .entry)) at (entryBytes (oneWord e)) ⌝ }
+{
+    let b = entry_bytes(e);
+    lay(out, at, &b);
 }
 
 // Entry i of an image's directory; a free one where there is none.
@@ -185,7 +243,194 @@ fn is_zero(e: Entry) -> bool
 {
     let x = e.name;
     is_zero_name(x)
-        & ((e.kind == 0)
+        & ((e.kind == Geometry::FREE)
             & ((e.length == 0)
                 & ((e.first == 0) & ((e.sectors == 0) & ((e.count == 0) & (e.flags == 0))))))
+}
+
+// A free entry is 20 zero bytes.
+fn free_is_zero(e: Entry) -> bool
+    ensures { λ r. ⌜ r ≡ freeIsZero e ⌝ }
+{
+    if e.kind == Geometry::FREE {
+        is_zero(e)
+    } else {
+        true
+    }
+}
+
+// A used entry has a name.
+fn name_good(e: Entry) -> bool
+    ensures { λ r. ⌜ r ≡ nameGood e ⌝ }
+{
+    if e.kind == Geometry::FREE {
+        true
+    } else {
+        let x = e.name;
+        is_name(x)
+    }
+}
+
+// A used entry's extent lies in an image of n sectors, behind the directory.
+fn extent_inside(e: Entry, n: u32) -> bool
+    ensures { λ r. ⌜ r ≡ extentInside n e ⌝ }
+{
+    (e.kind == Geometry::FREE)
+        | ((1 <= e.first) & ((1 <= e.sectors) & ((e.first as u32) + (e.sectors as u32) <= n)))
+}
+
+// The greatest length of a record or granule, by kind.
+fn longest_of(kind: u16) -> u16
+    ensures { λ r. ⌜ r ≡ longest kind ⌝ }
+{
+    if kind == Geometry::BLOCKED {
+        360
+    } else if kind == Geometry::COMPRESSED {
+        132
+    } else {
+        3600
+    }
+}
+
+// A used entry's length is even, and within the bounds of its kind.
+fn length_good(e: Entry) -> bool
+    ensures { λ r. ⌜ r ≡ lengthGood e ⌝ }
+{
+    let most = longest_of(e.kind);
+    (e.kind == Geometry::FREE) | ((e.length % 2 == 0) & ((2 <= e.length) & (e.length <= most)))
+}
+
+// The count is within the capacity, or is one word.
+fn count_good(e: Entry) -> bool
+    ensures { λ r. ⌜ r ≡ countGood e ⌝ }
+{
+    if (e.kind == Geometry::UNBLOCKED) | (e.kind == Geometry::BLOCKED) {
+        e.count <= Geometry::capacity(e.kind, e.length, e.sectors)
+    } else {
+        e.count <= Geometry::MOST_RECORDS
+    }
+}
+
+// A random file has no count and no mark.
+fn random_bare(e: Entry) -> bool
+    ensures { λ r. ⌜ r ≡ randomBare e ⌝ }
+{
+    !(e.kind == Geometry::RANDOM) | ((e.count == 0) & !is_marked(e))
+}
+
+// Whether an entry keeps the rules of one entry, in an image of n sectors.
+fn entry_good(e: Entry, n: u32) -> bool
+    ensures { λ r. ⌜ r ≡ entryGood n e ⌝ }
+{
+    (e.kind <= Geometry::RANDOM)
+        & (free_is_zero(e)
+            & (name_good(e)
+                & (extent_inside(e, n)
+                    & ((e.flags <= 3) & (length_good(e) & (count_good(e) & random_bare(e)))))))
+}
+
+// ---- the rules of two entries, and of the table
+
+// Whether two names are the same.
+fn same_name(x: [u8; 8], y: [u8; 8]) -> bool
+    ensures { λ r. ⌜ r ≡ Lists.same x y ⌝ }
+{
+    same(&x, &y)
+}
+
+// Whether two entries keep the rules of two. The extents are looked at before the names, since that is quick.
+fn two_good(a: Entry, b: Entry) -> bool
+    ensures { λ r. ⌜ r ≡ twoGood a b ⌝ }
+{
+    if (a.kind == Geometry::FREE) | (b.kind == Geometry::FREE) {
+        return true;
+    }
+    let a_end = (a.first as u32) + (a.sectors as u32);
+    let b_end = (b.first as u32) + (b.sectors as u32);
+    if (a_end <= (b.first as u32)) | (b_end <= (a.first as u32)) {
+        let x = a.name;
+        let y = b.name;
+        !same_name(x, y)
+    } else {
+        false
+    }
+}
+
+// Whether a table keeps every rule of a directory but the decoding one, in an image of n sectors.
+pub fn is_good(t: [Entry; 18], n: u32) -> bool
+    ensures { λ r. ⌜ r ≡ tableGood n t ⌝ }
+{
+    let mut i: usize = 0;
+    while i < 18 {
+        let e = t[i];
+        if !entry_good(e, n) {
+            return false;
+        }
+        if e.kind != Geometry::FREE {
+            let mut j = i + 1;
+            while j < 18 {
+                let f = t[j];
+                if !two_good(e, f) {
+                    return false;
+                }
+                j += 1;
+            }
+        }
+        i += 1;
+    }
+    true
+}
+
+// ---- an entry found by name
+
+// Whether a used entry has that name.
+pub fn is_named(e: Entry, name: &[u8]) -> bool
+    ensures { λ r. ⌜ r ≡ matches (now (name .entry)) e ⌝ }
+{
+    if (name.len() == 8) & (e.kind != Geometry::FREE) {
+        let own = e.name;
+        same(&own, name)
+    } else {
+        false
+    }
+}
+
+// The number of the lowest entry of an image's directory that has that name.
+pub fn search(image: &[u8], name: &[u8]) -> Found
+    ensures { λ r. ⌜ r ≡ Search.search (now (image .entry)) (now (name .entry)) ⌝ }
+{
+    let mut i: usize = 0;
+    while i < Geometry::ENTRIES {
+        let e = entry_at(image, i);
+        if is_named(e, name) {
+            return Found::Number(i);
+        }
+        i += 1;
+    }
+    Found::Nothing
+}
+
+// ---- what closing a file writes
+
+// Count and flags as four bytes.
+fn stamp_bytes(count: u32, flags: u16) -> [u8; 4]
+    ensures { λ r. ⌜ r ≡ stampBytes count flags ⌝ }
+{
+    let c = count % 65536;
+    [
+        (c / 256) as u8,
+        (c % 256) as u8,
+        (flags / 256) as u8,
+        (flags % 256) as u8,
+    ]
+}
+
+// Writes count and flags to bytes 16 to 19 of entry i, if there is such an entry.
+pub fn stamp(image: &mut [u8], i: usize, count: u32, flags: u16)
+    ensures { λ _. ⌜ now (image .exit) ≡ stamped (now (image .entry)) i count flags ⌝ }
+{
+    if i < Geometry::ENTRIES {
+        let b = stamp_bytes(count, flags);
+        lay(image, Geometry::ENTRY * i + 16, &b);
+    }
 }

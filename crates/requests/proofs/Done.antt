@@ -9,8 +9,9 @@ use lib.Dec.{eqb, leb, ltb}
 use borrow.Author.Tests.{ltb-false, leb-false, leb-true, eqb-false, eqb-true, not-true, not-false}
 use Rattle.geometry.specs.Sizes.{free, compressed, random, mostOpen, mostRecords, sector}
 use Rattle.geometry.specs.Places.{capacity}
+use Rattle.geometry.proofs.Tests.{and-left, and-right}
 use Rattle.packing.specs.Placing.{hasRoom}
-use Rattle.requests.specs.Judge.{Stage, Test, refusedIf, notLegal, noEntry, notOpen, notSequential, oddCount, badSize, badCode, noGranule, meetsMark, atEnd, backOverMark, atStart, backToStart, tests, firstOf, judge, isFull}
+use Rattle.requests.specs.Judge.{whether, orElse, Stage, Test, refusedIf, notLegal, noEntry, notOpen, notSequential, oddCount, badSize, badCode, noGranule, meetsMark, atEnd, backOverMark, atStart, backToStart, tests, firstOf, judge, isFull}
 use Rattle.requests.specs.declared.Facts.{Facts}
 use Rattle.requests.specs.declared.Order.the-variants.{WriteMark, RewindOnline, RewindOffline, RecordForward, RecordBack, FileForward, FileBack}
 use Rattle.requests.specs.declared.Request.{Request}
@@ -157,43 +158,35 @@ Tells q f (Refused x) = Unit {0}
 
 -- ---- one test after another
 
-or-first : (a b : Bool) → a || b ≡ false → a ≡ false
-or-first true b e = e
-or-first false b e = refl
+or-none-first : (a b : Bool) → a || b ≡ false → a ≡ false
+or-none-first true b e = e
+or-none-first false b e = refl
 
-or-second : (a b : Bool) → a || b ≡ false → b ≡ false
-or-second true b e = absurd (false≢true (sym e))
-or-second false b e = e
+or-none-second : (a b : Bool) → a || b ≡ false → b ≡ false
+or-none-second true b e = absurd (false≢true (sym e))
+or-none-second false b e = e
 
-and-first : (a b : Bool) → a && b ≡ true → a ≡ true
-and-first true b e = refl
-and-first false b e = e
-
-and-left : (a b : Bool) → a ≡ true → a && b ≡ false → b ≡ false
-and-left true b k e = e
-and-left false b k e = absurd (false≢true k)
+and-none-second : (a b : Bool) → a ≡ true → a && b ≡ false → b ≡ false
+and-none-second true b k e = e
+and-none-second false b k e = absurd (false≢true k)
 
 positive : (n : ℕ) → eqb n 0 ≡ false → 1 ≤ n
 positive n e = let z : n ≢ 0 = eqb-false n 0 e in omega arith
 
-and-second : (a b : Bool) → a && b ≡ true → b ≡ true
-and-second true b e = e
-and-second false b e = absurd (false≢true e)
-
 -- a test that holds gives its answer; one that does not hands on
 passing : (P : Answer → Type 0) (t : Test) (ts : List Test) (f : Facts) → (t .holds f ≡ true → P (t .gives)) → (t .holds f ≡ false → P (firstOf ts f))
     → P (firstOf (t ∷ ts) f)
-unfolding firstOf
+unfolding firstOf orElse whether
 passing P t ts f p r = go (t .holds f) p r
   where
-    go : (b : Bool) → (b ≡ true → P (t .gives)) → (b ≡ false → P (firstOf ts f)) → P (elim b [ true ↦ t .gives | false ↦ firstOf ts f ])
+    go : (b : Bool) → (b ≡ true → P (t .gives)) → (b ≡ false → P (firstOf ts f)) → P (whether b (t .gives) (firstOf ts f))
     go true h k = h refl
     go false h k = k refl
 
 module _ (q : Request) (f : Facts) where
   -- past them all
   last : Tells q f Done → Tells q f (firstOf [] f)
-  unfolding firstOf
+  unfolding firstOf orElse
   last h = h
 
   -- past a test that refuses
@@ -216,7 +209,7 @@ module _ (q : Request) (f : Facts) where
   sized ts k =
       past _ _ _ _ λ (a : eqb (f .given % 2) 1 ≡ false). past _ _ _ _ λ (b : eqb (f .given) 0 || ltb (f .length) (f .given) ≡ false).
       let n : f .given % 2 ≢ 1 = eqb-false _ _ a in
-      k (omega arith, positive (f .given) (or-first _ _ b), ltb-false _ _ (or-second (eqb (f .given) 0) _ b))
+      k (omega arith, positive (f .given) (or-none-first _ _ b), ltb-false _ _ (or-none-second (eqb (f .given) 0) _ b))
 
   -- the tests of a record that is read
   advancing : Running f → (MeetsMark f → Tells q f (Met EndOfFile)) → (Advances f → Tells q f Done)
@@ -224,7 +217,7 @@ module _ (q : Request) (f : Facts) where
   advancing r m d b =
       past _ _ _ _ λ (s : f .bad ≡ false). passing (Tells q f) meetsMark (atEnd ∷ []) f
       (λ (e : leb (f .count) (f .position) && f .marked ≡ true).
-      m (record { running = r; before = b; sound = s; ended = leb-true _ _ (and-first _ _ e); marked = and-second (leb (f .count) (f .position)) _ e }))
+      m (record { running = r; before = b; sound = s; ended = leb-true _ _ (and-left _ _ e); marked = and-right (leb (f .count) (f .position)) _ e }))
       λ e. past _ _ _ _ λ (a : leb (f .count) (f .position) ≡ false). last (d (record { running = r; before = b; sound = s; ahead = leb-false _ _ a }))
 
   -- the test of a granule's number
@@ -250,9 +243,9 @@ judge-tells Write f =
       even = z .0;
       some = z .1;
       short = z .2;
-      coded = λ (k : eqb (f .kind) compressed ≡ true). ltb-false _ _ (and-left _ _ k c);
-      below = leb-false _ _ (or-first _ _ n);
-      room = or-second (leb mostRecords (f .position)) _ n;
+      coded = λ (k : eqb (f .kind) compressed ≡ true). ltb-false _ _ (and-none-second _ _ k c);
+      below = leb-false _ _ (or-none-first _ _ n);
+      room = or-none-second (leb mostRecords (f .position)) _ n;
     })
 judge-tells (GranuleRead g) f =
     live (GranuleRead g) f _ λ l. past (GranuleRead g) f _ _ _ _ λ (k : not (eqb (f .kind) random) ≡ false).
@@ -271,8 +264,8 @@ judge-tells (Position RecordForward) f =
     running (Position RecordForward) f _ λ r. past (Position RecordForward) f _ _ _ _ λ b. advancing (Position RecordForward) f r skipsMark (λ a. a) b
 judge-tells (Position RecordBack) f =
     live (Position RecordBack) f _ λ l. past (Position RecordBack) f _ _ _ _ λ (k : eqb (f .kind) random || eqb (f .kind) compressed ≡ false).
-    let r : Running f = record { live = l; sequential = or-first _ _ k } in
-    let n : eqb (f .kind) compressed ≡ false = or-second (eqb (f .kind) random) _ k in
+    let r : Running f = record { live = l; sequential = or-none-first _ _ k } in
+    let n : eqb (f .kind) compressed ≡ false = or-none-second (eqb (f .kind) random) _ k in
     passing (Tells (Position RecordBack) f) backOverMark (atStart ∷ []) f (λ b. backOver (record { running = r; fixed = n; past = b }))
     λ b. passing (Tells (Position RecordBack) f) atStart [] f (λ (z : eqb (f .position) 0 ≡ true). backAtStart (record { running = r; fixed = n; before = b; first = eqb-true _ _ z }))
     λ (z : eqb (f .position) 0 ≡ false). last (Position RecordBack) f (record { running = r; fixed = n; before = b; started = positive (f .position) z })

@@ -1,11 +1,10 @@
 -- A file of kind 1 or 2 is its tape: a record is the R bytes at its place, so a write of record p makes the tape its first p records and the new one.
 use mathlib.Core.Path.{_≡_, refl, sym, ap, _∙_}
-use mathlib.Core.Bool.{true, false, and-false}
+use mathlib.Core.Bool.{true, false}
 use mathlib.Core.List.{List, [], _∷_, _++_}
 use Prim.Native.Nat.{ℕ, zero, suc, _+_, _≤_, _<_}
 use native.Mathlib.Omega.{arith}
 use native.Mathlib.Numerals.{add-one}
-use lib.Dec.{ltb}
 use lib.ListN.{length, take, getD}
 use borrow.Author.Tests.{eq-eqb}
 use Rattle.geometry.specs.Sizes.{sector, blocked, compressed, random}
@@ -14,14 +13,14 @@ use Rattle.directory.specs.Entries.{isKind}
 use Rattle.directory.specs.Rules.{longest}
 use Rattle.packing.specs.Reading.{Recorded, behind, behindFrom}
 use Rattle.requests.proofs.Done.{Tells, Writes, judge-tells, room-fixed}
-use Rattle.steps.specs.Next.{Scene, factsOf, badIn, Decoding, decoding, theCounted, theNext, none, recordHere, bytesGot, isLost, fixedAt}
+use Rattle.steps.specs.Next.{Scene, factsOf, decoding, recordHere, bytesGot, fixedAt}
 use Rattle.steps.specs.Effects.{writeEffects}
 use Rattle.steps.proofs.Lawful.{ownAll}
 use Rattle.tapes.specs.Tape.{Shape, fixedRecord, fixedRecords, recordsIn, newRecord, padByte, tapeRecord}
 use Rattle.tapes.specs.Model.{shapeOf}
 use Rattle.serving.proofs.ByRule.{listOf, length-listOf, take-listOf, same-listOf, getD-listOf}
 use Rattle.serving.proofs.Solo.{Sound, Serves, Solo, soloAnswer, shows}
-use Rattle.serving.proofs.Stays.{stays-fixed}
+use Rattle.serving.proofs.Stays.{stays-fixed, decodes-nothing}
 use Rattle.serving.proofs.Taped.{Taped, tape-serves, recordsShown, tapeShown}
 use Rattle.serving.proofs.Written.{written, own-write, written-here, written-before}
 use Rattle.directory.specs.declared.Entry.{Entry}
@@ -68,13 +67,6 @@ module _ (c : Scene) (k : isKind compressed (c .entry) ≡ false) (r : isKind ra
   small : c .entry .kind ≡ blocked → c .entry .length ≤ sector
   unfolding longest
   small e = let h : c .entry .length ≤ longest (c .entry .kind) = s .lawful .short in rw (eq-eqb (c .entry .kind) blocked e, longest) at h
-
-  -- nothing is decoded
-  decodes-nothing : (d : Decoding) → badIn d c ≡ false
-  unfolding badIn recordHere isLost
-  decodes-nothing theCounted = rw k
-  decodes-nothing theNext = rw (k, recordHere) (and-false (ltb (c .file .position) (c .entry .count)))
-  decodes-nothing none = refl
 
   -- the records before the position
   first : take (c .file .position) (recordsShown (c .entry) (c .bytes)) ≡ listOf (fixedRecord (shapeOf (c .entry)) (c .bytes)) (c .file .position)
@@ -133,7 +125,7 @@ module _ (c : Scene) (k : isKind compressed (c .entry) ≡ false) (r : isKind ra
     here = s .nowhere k .0
         ∙ sym (ap (λ (rs : List Recorded). behind rs (c .file .position)) (records-fixed (c .entry) (c .bytes) (c .entry .count) k)
         ∙ nowhere (shapeOf (c .entry)) (c .bytes) (c .entry .count) (c .file .position));
-    sound = λ q. decodes-nothing (decoding q);
+    sound = λ q. decodes-nothing c k (decoding q);
     reads = reads;
     cut = records-fixed (c .entry) (c .bytes) (c .file .position) k ∙ sym first;
     writes = writes;

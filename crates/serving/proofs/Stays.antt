@@ -1,12 +1,12 @@
 -- An answered request leaves the entry and its open-file state lawful, whatever the kind: a test that was passed gives each bound.
 use mathlib.Core.Path.{_≡_, refl, sym, ap, _∙_}
-use mathlib.Core.Bool.{Bool, true, false, not, false≢true}
+use mathlib.Core.Bool.{Bool, true, false, not, and-false, false≢true}
+use mathlib.Core.List.{List, [], _∷_}
 use Prim.Native.Nat.{ℕ, _+_, _-_, _*_, _/_, _%_, _≤_, _<_}
 use native.Mathlib.Omega.{arith}
-use lib.Dec.{eqb, leb}
-use borrow.Author.Tests.{eq-eqb, le-leb, lt-leb, leb-true, leb-false}
-use mathlib.Core.List.{List, [], _∷_}
+use lib.Dec.{eqb, leb, ltb}
 use lib.ListN.{length}
+use borrow.Author.Tests.{eq-eqb, le-leb, lt-leb, leb-true, leb-false}
 use Rattle.geometry.specs.Bytes.{lay}
 use Rattle.geometry.proofs.Bytes.{length-lay}
 use Rattle.geometry.specs.Sizes.{sector, compressed, random, mostRecords}
@@ -14,11 +14,12 @@ use Rattle.geometry.specs.Places.{capacity, byteOf, origin}
 use Rattle.directory.specs.Entries.{isKind, isMarked, isProtected}
 use Rattle.sessions.specs.Session.{placeGood}
 use Rattle.requests.proofs.Done.{Tells, Meets, readsMark, skipsMark, backOver, backAtStart, fileBackToStart, room-fixed}
-use Rattle.steps.specs.Next.{Scene, factsOf, fileDone, fileMet, entryDone, counted, recordHere, behindGot, behindWritten, endPlace}
+use Rattle.steps.specs.Next.{Scene, factsOf, fileDone, fileMet, entryDone, counted, badIn, Decoding, theCounted, theNext, none, isLost, recordHere, behindGot, behindWritten, endPlace}
 use Rattle.steps.specs.Effects.{Effect, hold, change, store, stamp, putBack, effects}
 use Rattle.steps.proofs.Lawful.{Lawful, ownDo, ownAll}
 use Rattle.tapes.specs.Model.{shapeOf}
-use Rattle.serving.proofs.Solo.{Sound, entryNext, fileNext, bytesNext}
+use Rattle.steps.specs.Verdict.{entryNext, fileNext}
+use Rattle.serving.proofs.Solo.{Sound, bytesNext}
 use Rattle.directory.specs.declared.Entry.{Entry}
 use Rattle.sessions.specs.declared.OpenFile.{OpenFile}
 use Rattle.requests.specs.declared.Order.the-variants.{WriteMark, RewindOnline, RewindOffline, RecordForward, RecordBack, FileForward, FileBack}
@@ -198,6 +199,13 @@ unfolding counted
 size-next q c a e = bytes-length q c a ∙ (e ∙ sym (ap (λ (n : ℕ). sector * n) (same-next (λ x. x .sectors) q c a (λ n m h. refl))))
 
 -- ---- kinds but the compressed one
+
+-- nothing is decoded
+pub decodes-nothing : (c : Scene) → isKind compressed (c .entry) ≡ false → (d : Decoding) → badIn d c ≡ false
+unfolding badIn recordHere isLost
+decodes-nothing c k theCounted = rw k
+decodes-nothing c k theNext = rw (k, recordHere) (and-false (ltb (c .file .position) (c .entry .count)))
+decodes-nothing c k none = refl
 
 -- no place
 nowhere-next : (q : Request) (c : Scene) (a : Answer) → isKind compressed (c .entry) ≡ false → (c .file .here ≡ origin) × (c .file .end ≡ origin)

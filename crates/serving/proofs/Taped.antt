@@ -17,7 +17,8 @@ use Rattle.steps.specs.Effects.{Effect, effects, readEffects, writeEffects}
 use Rattle.steps.proofs.Lawful.{Lawful, ownDo, ownAll}
 use Rattle.tapes.specs.Tape.{Tape, recordsIn, recordCode, tapeFacts, tapeDone, tapeMet, tapeNext, tapeRecord, newRecord}
 use Rattle.tapes.specs.Model.{tape, shapeOf, modelFacts, modelNext, modelInto, modelRecord}
-use Rattle.serving.proofs.Solo.{shows, Sound, Serves, entryNext, fileNext, bytesNext}
+use Rattle.steps.specs.Verdict.{entryNext, fileNext}
+use Rattle.serving.proofs.Solo.{shows, Sound, Serves, bytesNext}
 use Rattle.serving.proofs.Stays.{shape-counted, marked-counted, kind-next}
 use Rattle.directory.specs.declared.Entry.{Entry}
 use Rattle.sessions.specs.declared.OpenFile.{OpenFile}
@@ -64,14 +65,14 @@ pub record Taped (c : Scene) : Type 0 where
       ≡ take (c .file .position) (recordsShown (c .entry) (c .bytes)) ++ (newRecord (c .given) (tapeShown (c .entry) (c .file) (c .bytes)) ∷ [])
 
 -- of both branches, so of the choice
-pub either : {A : Type 0} (P : A → Type 0) (b : Bool) {x y : A} → P x → P y → P (elim b [ true ↦ x | false ↦ y ])
-either P true p q = p
-either P false p q = q
+chosen : {A : Type 0} (P : A → Type 0) (b : Bool) {x y : A} → P x → P y → P (elim b [ true ↦ x | false ↦ y ])
+chosen P true p q = p
+chosen P false p q = q
 
 -- a read changes no byte
 pub own-read : (c : Scene) (bytes : List ℕ) → ownAll (readEffects c) bytes ≡ bytes
 unfolding readEffects ownAll ownDo
-own-read c bytes = either Still (isKind blocked (c .entry)) refl (either Still (isKind compressed (c .entry)) (either Still (goesOn (c .bytes) (c .file .here) && ltb (c .file .here .byte) sector) refl refl) refl)
+own-read c bytes = chosen Still (isKind blocked (c .entry)) refl (chosen Still (isKind compressed (c .entry)) (chosen Still (goesOn (c .bytes) (c .file .here) && ltb (c .file .here .byte) sector) refl refl) refl)
   where
     Still : List Effect → Type 0
     Still xs = ownAll xs bytes ≡ bytes

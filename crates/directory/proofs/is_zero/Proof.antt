@@ -1,5 +1,5 @@
 -- `directory::is_zero` meets its contract: the name, then a word after the other.
-use mathlib.Core.Path.{sym, _∙_}
+use mathlib.Core.Path.{sym}
 use Rattle.directory.proofs.Free.{zero-entry}
 use borrow.Author.Needs.{needs}
 use Rattle.directory.proofs.is_zero.Statement.{statement}

@@ -1,10 +1,8 @@
-use mathlib.Core.List.{List}
+use mathlib.Core.List.{List, _++_, append-nil}
 use Rattle.directory.specs.declared.Entry.{Entry}
 use lib.Seq.{take-all}
-use mathlib.Core.List.{_++_, append-nil}
 use Rattle.directory.proofs.Table.{table-more, length-table}
 use mathlib.Core.Path.{_≡_, _∙_}
-use mathlib.Core.List.{_++_}
 use Prim.Native.Nat.{_≤_, _-_}
 use native.Mathlib.Omega.{arith}
 use lib.ListN.{take, drop, replicate, length}

@@ -1,0 +1,103 @@
+-- What a whole session shows: for each of the 18 entries the tape or row of its entry, its open-file state and its extent.
+use mathlib.Core.Path.{_≡_, refl, sym, ap, _∙_}
+use mathlib.Core.Bool.{Bool, true, false}
+use mathlib.Core.List.{List, [], _∷_, map}
+use Prim.Native.Nat.{ℕ, zero, suc, _+_, _≤_, _<_}
+use native.Mathlib.Omega.{arith}
+use native.Mathlib.Decide.{decLt}
+use lib.ListN.{length, getD, List·getD-eq-default}
+use borrow.Author.Tests.{eq-eqb}
+use Rattle.geometry.specs.Lists.{howMany, numbersFrom}
+use Rattle.geometry.specs.Sizes.{entries, random}
+use Rattle.geometry.proofs.Tests.{either, both-ways}
+use Rattle.geometry.proofs.Numbered.{length-numbered, getD-numbered, many-map, many-alike}
+use Rattle.directory.specs.Entries.{entryAt, freeEntry, isFree, isKind, isMarked}
+use Rattle.sessions.specs.Session.{idle, fileOf, slotOf, openFiles, spotOf, extent, legal}
+use Rattle.sessions.proofs.Files.{Finds, opened, closed, finds}
+use Rattle.sessions.proofs.Legal.{entry-inside, entry-used}
+use Rattle.sessions.proofs.Distinct.{distinct}
+use Rattle.sessions.proofs.Counted.{open-count}
+use Rattle.steps.proofs.Lawful.{Lawful}
+use Rattle.tapes.specs.Model.{Model, nothing, tape, row, modelAt, isOpenModel, openModels, modelSpot}
+use Rattle.serving.proofs.Solo.{shows}
+use Rattle.directory.specs.declared.Entry.{Entry}
+use Rattle.sessions.specs.declared.OpenFile.{OpenFile}
+use Rattle.sessions.specs.declared.Session.{Session}
+use Rattle.sessions.specs.declared.Spot.{Spot}
+use Rattle.sessions.specs.declared.Spot.the-variants.{Closed, At}
+
+-- what entry i shows
+unfoldable pub showsAt : List ℕ → Session → ℕ → Model
+showsAt image s i = shows (entryAt (s .table) i) (fileOf (s .files) i) (extent (entryAt (s .table) i) image)
+
+unfoldable pub view : List ℕ → Session → List Model
+view image s = map (showsAt image s) (numbersFrom 0 entries)
+
+-- ---- of one entry
+
+-- where an open file stands
+abbrev spot : Bool → ℕ → Bool → Spot
+spot b p y = elim b [ true ↦ At p y | false ↦ Closed ]
+
+pub shows-free : (e : Entry) (f : OpenFile) (bytes : List ℕ) → isFree e ≡ true → shows e f bytes ≡ nothing
+unfolding shows
+shows-free e f bytes u = rw (u, shows)
+
+module _ (e : Entry) (f : OpenFile) (bytes : List ℕ) (shut : isFree e ≡ true → f .used ≡ false) where
+  open-shows : isOpenModel (shows e f bytes) ≡ f .used
+  unfolding shows isOpenModel
+  open-shows =
+      either (isFree e) (λ (u : isFree e ≡ true). rw (u, shows) (sym (shut u)))
+      λ (u : isFree e ≡ false). either (isKind random e) (λ (r : isKind random e ≡ true). rw (u, r, shows)) (λ (r : isKind random e ≡ false). rw (u, r, shows))
+
+  -- where a file stands is where its tape stands; a random file stands at 0
+  spot-shows : (isFree e ≡ false → Lawful e f) → spot (f .used) (f .position) (f .beyond) ≡ modelSpot (shows e f bytes)
+  unfolding shows modelSpot
+  spot-shows w =
+      either (isFree e) (λ (u : isFree e ≡ true). rw (u, shows) (ap (λ (b : Bool). spot b (f .position) (f .beyond)) (shut u)))
+      λ (u : isFree e ≡ false). either (isKind random e) (λ (r : isKind random e ≡ true). rw (u, r, shows) (start (w u) r)) (λ (r : isKind random e ≡ false). rw (u, r, shows))
+    where
+      start : Lawful e f → isKind random e ≡ true → spot (f .used) (f .position) (f .beyond) ≡ spot (f .used) 0 false
+      start l r =
+          let p : f .position ≡ 0 = omega (arith, l .standing, l .bare r .0) in
+          let b : f .beyond ≡ false = either (f .beyond) (λ (b : f .beyond ≡ true). both-ways (isMarked e) (l .ahead b .0) (l .bare r .1)) (λ b. b) in
+          ap (λ (n : ℕ). spot (f .used) n (f .beyond)) p ∙ ap (spot (f .used) 0) b
+
+-- ---- of all
+
+module _ (image : List ℕ) (s : Session) where
+  pub length-view : length (view image s) ≡ entries
+  unfolding view
+  length-view = length-numbered (showsAt image s) 0 entries
+
+  pub view-at : length (s .table) ≡ entries → (i : ℕ) → modelAt (view image s) i ≡ showsAt image s i
+  unfolding view showsAt
+  view-at many i = go (decLt i entries)
+    where
+      go : Dec (i < entries) → modelAt (view image s) i ≡ showsAt image s i
+      go (yes h) = let z : 0 + i ≡ i = omega arith in getD-numbered (showsAt image s) 0 entries i nothing h ∙ ap (showsAt image s) z
+      go (no h) =
+          List·getD-eq-default (view image s) nothing {n = i} (omega (arith, length-view))
+          ∙ sym (shows-free (entryAt (s .table) i) _ _ (ap isFree (List·getD-eq-default (s .table) freeEntry {n = i} (omega (arith, many)))))
+
+  module _ (ok : legal image s ≡ true) where
+    -- a free entry has no open file
+    pub free-shut : (i : ℕ) → isFree (entryAt (s .table) i) ≡ true → fileOf (s .files) i .used ≡ false
+    free-shut i e = go (finds (s .files) i)
+      where
+        go : Finds (s .files) i → fileOf (s .files) i .used ≡ false
+        go (opened h f u n b) =
+            let w : isFree (entryAt (s .table) (getD (s .files) (slotOf (s .files) i) idle .entry)) ≡ false = entry-used image s ok (slotOf (s .files) i) (rw f at u) in
+            both-ways (isFree (entryAt (s .table) i)) e (rw (← f, n) at w)
+        go (closed f k b) = ap (λ (g : OpenFile). g .used) f
+
+    pub open-view : openFiles (s .files) ≡ openModels (view image s)
+    unfolding view openModels showsAt
+    open-view =
+        open-count entries (s .files) (distinct image s ok) (entry-inside image s ok)
+        ∙ many-alike _ _ 0 entries (λ i l k. sym (open-shows (entryAt (s .table) i) (fileOf (s .files) i) _ (free-shut i)))
+        ∙ sym (many-map isOpenModel (showsAt image s) (numbersFrom 0 entries))
+
+    pub spot-view : (i : ℕ) → (isFree (entryAt (s .table) i) ≡ false → Lawful (entryAt (s .table) i) (fileOf (s .files) i)) → spotOf s i ≡ modelSpot (showsAt image s i)
+    unfolding spotOf showsAt
+    spot-view i w = spot-shows (entryAt (s .table) i) (fileOf (s .files) i) _ (free-shut i) w

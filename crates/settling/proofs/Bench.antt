@@ -1,0 +1,265 @@
+-- One effect done by way of the buffer, seen with the buffer laid back, is that effect done straight in the image.
+use mathlib.Core.Path.{_≡_, refl, sym, ap, _∙_}
+use mathlib.Core.Bool.{Bool, true, false, _&&_}
+use mathlib.Core.List.{List, [], _∷_}
+use Prim.Native.Nat.{ℕ, _+_, _*_, _≤_, _<_}
+use native.Mathlib.Omega.{arith}
+use lib.ListN.{length}
+use lib.Dec.{eqb}
+use borrow.Author.Tests.{eqb-true}
+use Rattle.geometry.specs.Bytes.{part, lay}
+use Rattle.geometry.specs.Sizes.{sector, entrySize, entries}
+use Rattle.geometry.proofs.Bytes.{Apart, length-lay, length-part, lay-nil, lay-part, lay-lay-same, lay-lay-apart, lay-lay-inside, part-lay-same, part-lay-apart}
+use Rattle.geometry.proofs.Tests.{either, both-ways, and-left, and-right}
+use Rattle.steps.specs.Effects.{Effect, hold, change, store, stamp, putBack, sectorAt, plainDo, plainAll, Bench, holding, puttingBack, loaded, taking, working, bufferedDo, bufferedAll}
+use Rattle.steps.specs.Next.{Scene}
+use Rattle.steps.proofs.Inside.{buffers, Suits, AllSuit}
+use Rattle.settling.proofs.Settle.{Hold, back, allBack, holdAt, Off, heldBy, back-lay}
+use Rattle.directory.specs.declared.Entry.{Entry}
+use Rattle.sessions.specs.declared.BufferedFile.{BufferedFile}
+
+-- the image with the one buffer laid back
+abbrev pub own : Entry → Bench → List ℕ
+own e w = back (w .image) (heldBy e (w .file))
+
+-- the extent lies in the image behind the directory, and the buffer is as legality says; an unchanged one equals its sector
+pub record Fits (e : Entry) (w : Bench) : Type 0 where
+  pub starts : 1 ≤ e .first
+  pub room : sector * (e .first + e .sectors) ≤ length (w .image)
+  pub size : length (w .file .buffer) ≡ sector
+  pub within : w .file .holds ≡ true → (buffers e ≡ true) × (w .file .held < e .sectors)
+  pub unchanged : w .file .holds ≡ true → w .file .changed ≡ false → w .file .buffer ≡ part (w .image) (sectorAt e (w .file .held)) sector
+
+-- apart from the extent and from the directory
+abbrev pub Elsewhere : Entry → ℕ → ℕ → Type 0
+Elsewhere e a n = (Apart (sector * e .first) (sector * e .sectors) a n) × (Apart 0 sector a n)
+
+-- a hold that lies elsewhere
+abbrev pub Clear : Entry → Hold → Type 0
+Clear e h = Elsewhere e (h .at) (length (h .bytes))
+
+-- from w to v: seen with the buffer laid back it is this image; nothing else is touched
+pub record Does (e : Entry) (w v : Bench) (image : List ℕ) : Type 0 where
+  pub same : own e v ≡ image
+  pub fits : Fits e v
+  pub state : v .file .file ≡ w .file .file
+  pub size : length (v .image) ≡ length (w .image)
+  pub others : (a n : ℕ) → Elsewhere e a n → part (v .image) a n ≡ part (w .image) a n
+
+module _ (e : Entry) (w : Bench) where
+  pub own-held : w .file .holds ≡ true → own e w ≡ lay (w .image) (sectorAt e (w .file .held)) (w .file .buffer)
+  unfolding heldBy
+  own-held h = rw (h, heldBy)
+
+  pub own-none : w .file .holds ≡ false → own e w ≡ w .image
+  unfolding heldBy
+  own-none h = rw (h, heldBy) (lay-nil (w .image) 0)
+
+pub and-other : (a b : Bool) → a ≡ true → (a && b) ≡ false → b ≡ false
+and-other true b h k = k
+and-other false b h k = both-ways false h refl
+
+stays : (e : Entry) (w : Bench) → Fits e w → Does e w w (own e w)
+stays e w f = record { same = refl; fits = f; state = refl; size = refl; others = λ a n x. refl }
+
+-- a putting back: what is seen does not change, and is then in the image
+module _ (e : Entry) (w : Bench) (f : Fits e w) where
+  abbrev at : ℕ
+  at = sectorAt e (w .file .held)
+
+  put : w .file .holds ≡ true → Does e w (record { image = lay (w .image) at (w .file .buffer); file = holding (w .file) (w .file .held) false (w .file .buffer) }) (own e w)
+  unfolding heldBy
+  put h =
+      let r : w .file .held < e .sectors = f .within h .1 in
+      let l : length (lay (w .image) at (w .file .buffer)) ≡ length (w .image) = length-lay (w .image) at (w .file .buffer) in
+      record {
+        same = lay-lay-same (w .image) at (w .file .buffer) (w .file .buffer) refl ∙ sym (own-held e w h);
+        fits = record {
+          starts = f .starts;
+          room = omega (arith, f .room);
+          size = f .size;
+          within = λ q. f .within h;
+          unchanged = λ q z. sym (part-lay-same (w .image) at (w .file .buffer) sector (f .size) (omega (arith, f .room)));
+        };
+        state = refl;
+        size = l;
+        others = λ a n x. part-lay-apart (w .image) at (w .file .buffer) a n (omega (arith, f .size, x .0));
+      }
+
+  puts : Does e w (puttingBack e w) (own e w)
+  unfolding puttingBack
+  puts = either (w .file .holds && w .file .changed)
+      (λ (t : (w .file .holds && w .file .changed) ≡ true). rw (t, puttingBack) (put (and-left (w .file .holds) (w .file .changed) t)))
+      (λ (t : (w .file .holds && w .file .changed) ≡ false). rw (t, puttingBack) (stays e w f))
+
+  -- a buffer that is not changed has what the image has
+  pub own-unchanged : w .file .holds ≡ true → w .file .changed ≡ false → own e w ≡ w .image
+  own-unchanged h z = own-held e w h ∙ ap (lay (w .image) at) (f .unchanged h z) ∙ lay-part (w .image) at sector
+
+  put-image : puttingBack e w .image ≡ own e w
+  unfolding puttingBack
+  put-image = either (w .file .holds && w .file .changed)
+      (λ (t : (w .file .holds && w .file .changed) ≡ true). rw (t, puttingBack) (sym (own-held e w (and-left (w .file .holds) (w .file .changed) t))))
+      (λ (t : (w .file .holds && w .file .changed) ≡ false).
+      rw (t, puttingBack) (sym (either (w .file .holds) (λ (h : w .file .holds ≡ true). own-unchanged h (and-other (w .file .holds) (w .file .changed) h t)) (own-none e w))))
+
+-- one after another
+then-does : (e : Entry) (w v u : Bench) (k m image : List ℕ) → Does e w v k → Does e v u m → m ≡ image → Does e w u image
+then-does e w v u k m image d g q = record {
+  same = g .same ∙ q;
+  fits = g .fits;
+  state = g .state ∙ d .state;
+  size = g .size ∙ d .size;
+  others = λ a n x. g .others a n x ∙ d .others a n x;
+}
+
+-- what lies apart from the extent lies apart from the held sector
+pub held-off : (e : Entry) (b : BufferedFile) (a n : ℕ) → length (b .buffer) ≡ sector → (b .holds ≡ true → b .held < e .sectors)
+    → Apart a n (sector * e .first) (sector * e .sectors) → Off a n (heldBy e b)
+unfolding heldBy
+held-off e b a n l r x = either (b .holds)
+    (λ (h : b .holds ≡ true).
+    let q : b .held < e .sectors = r h in
+    rw (h, heldBy) (omega arith))
+    (λ (h : b .holds ≡ false). rw (h, heldBy) (omega arith))
+
+-- a sector is taken: what is seen does not change
+module _ (e : Entry) (k : ℕ) (b : buffers e ≡ true) (h : k < e .sectors) where
+  loads : (w : Bench) → Fits e w → own e w ≡ w .image → Does e w (loaded e k w) (own e w)
+  unfolding loaded heldBy
+  loads w f i = record {
+    same = lay-part (w .image) (sectorAt e k) sector ∙ sym i;
+    fits = record {
+      starts = f .starts;
+      room = f .room;
+      size = length-part (w .image) (sectorAt e k) sector (omega (arith, f .room));
+      within = λ q. (b, h);
+      unchanged = λ q z. refl;
+    };
+    state = refl;
+    size = refl;
+    others = λ a n x. refl;
+  }
+
+  takes : (w : Bench) → Fits e w → Does e w (taking e k w) (own e w)
+  unfolding taking
+  takes w f = either (w .file .holds && eqb (w .file .held) k)
+      (λ (t : (w .file .holds && eqb (w .file .held) k) ≡ true). rw (t, taking) (stays e w f))
+      (λ (t : (w .file .holds && eqb (w .file .held) k) ≡ false).
+      let p : Does e w (puttingBack e w) (own e w) = puts e w f in
+      rw (t, taking) (then-does e w (puttingBack e w) (loaded e k (puttingBack e w)) _ (own e (puttingBack e w)) (own e w) p
+      (loads (puttingBack e w) (p .fits) (p .same ∙ sym (put-image e w f))) (p .same)))
+
+-- and is then held
+pub takes-held : (e : Entry) (k : ℕ) (w : Bench) → (taking e k w .file .holds ≡ true) × (taking e k w .file .held ≡ k)
+unfolding taking loaded
+takes-held e k w = either (w .file .holds && eqb (w .file .held) k)
+    (λ (t : (w .file .holds && eqb (w .file .held) k) ≡ true).
+    rw (t, taking) (and-left (w .file .holds) _ t, eqb-true (w .file .held) k (and-right (w .file .holds) (eqb (w .file .held) k) t)))
+    (λ (t : (w .file .holds && eqb (w .file .held) k) ≡ false). rw (t, taking) (refl, refl))
+
+-- bytes laid in the held sector
+works : (e : Entry) (w : Bench) (o : ℕ) (xs : List ℕ) → Fits e w → w .file .holds ≡ true → o + length xs ≤ sector
+    → Does e w (working o xs w) (lay (own e w) (sectorAt e (w .file .held) + o) xs)
+unfolding working heldBy
+works e w o xs f h r =
+    let q : w .file .held < e .sectors = f .within h .1 in
+    let l : length (w .file .buffer) ≡ sector = f .size in
+    record {
+      same = lay-lay-inside (w .image) (sectorAt e (w .file .held)) (w .file .buffer) o xs (omega (arith, f .room)) (omega arith)
+          ∙ ap (λ (z : List ℕ). lay z (sectorAt e (w .file .held) + o) xs) (sym (own-held e w h));
+      fits = record {
+        starts = f .starts;
+        room = f .room;
+        size = length-lay (w .file .buffer) o xs ∙ l;
+        within = λ z. f .within h;
+        unchanged = λ z y. both-ways true refl y;
+      };
+      state = refl;
+      size = refl;
+      others = λ a n x. refl;
+    }
+
+-- ---- one effect
+
+module _ (c : Scene) (inTable : c .number < entries) where
+  abbrev stampAt : ℕ
+  stampAt = entrySize * c .number + 16
+
+  pub does : (x : Effect) → Suits (c .entry) x → (w : Bench) → Fits (c .entry) w → Does (c .entry) w (bufferedDo c x w) (plainDo c x (own (c .entry) w))
+  unfolding bufferedDo plainDo
+  does (hold k) s w f = takes (c .entry) k (s .0) (s .1) w f
+  does (change x) s w f =
+      let e : Entry = c .entry in
+      let v : Bench = taking e (x .place .sector) w in
+      let t : Does e w v (own e w) = takes e (x .place .sector) (s .0) (s .1) w f in
+      let h : (v .file .holds ≡ true) × (v .file .held ≡ x .place .sector) = takes-held e (x .place .sector) w in
+      then-does e w v (working (x .place .byte) (x .bytes) v) _ (lay (own e v) (sectorAt e (v .file .held) + x .place .byte) (x .bytes)) _ t
+      (works e v (x .place .byte) (x .bytes) (t .fits) (h .0) (s .2))
+      (changed-at (own e v) (own e w) (v .file .held) (x .place .sector) (t .same) (h .1))
+    where
+      changed-at : (m image : List ℕ) (i j : ℕ) → m ≡ image → i ≡ j → lay m (sectorAt (c .entry) i + x .place .byte) (x .bytes) ≡ lay image (sectorAt (c .entry) j + x .place .byte) (x .bytes)
+      changed-at m image i j p q = rw (p, q)
+  does (store k xs) s w f = stores (no-hold (w .file .holds) refl)
+    where
+      no-hold : (b : Bool) → w .file .holds ≡ b → w .file .holds ≡ false
+      no-hold true h = both-ways (buffers (c .entry)) (f .within h .0) (s .0)
+      no-hold false h = h
+
+      stores : w .file .holds ≡ false → Does (c .entry) w (record { image = lay (w .image) (sectorAt (c .entry) k) xs; file = w .file }) (lay (own (c .entry) w) (sectorAt (c .entry) k) xs)
+      stores h = record {
+        same = own-none (c .entry) (record { image = lay (w .image) (sectorAt (c .entry) k) xs; file = w .file }) h ∙ ap (λ (z : List ℕ). lay z (sectorAt (c .entry) k) xs) (sym (own-none (c .entry) w h));
+        fits = record {
+          starts = f .starts;
+          room = omega (arith, f .room, length-lay (w .image) (sectorAt (c .entry) k) xs);
+          size = f .size;
+          within = f .within;
+          unchanged = λ q z. both-ways (w .file .holds) q h;
+        };
+        state = refl;
+        size = length-lay (w .image) (sectorAt (c .entry) k) xs;
+        others = λ a n x. part-lay-apart (w .image) (sectorAt (c .entry) k) xs a n (omega (arith, x .0, s .1));
+      }
+  does (stamp xs) s w f = record {
+    same = lay-lay-apart (w .image) stampAt xs (heldBy (c .entry) (w .file) .at) (heldBy (c .entry) (w .file) .bytes)
+        (held-off (c .entry) (w .file) stampAt (length xs) (f .size) (λ h. f .within h .1) (omega (arith, f .starts)));
+    fits = record {
+      starts = f .starts;
+      room = omega (arith, f .room, length-lay (w .image) stampAt xs);
+      size = f .size;
+      within = f .within;
+      unchanged = λ h z.
+          f .unchanged h z
+          ∙ sym (part-lay-apart (w .image) stampAt xs (sectorAt (c .entry) (w .file .held)) sector (omega (arith, f .starts)));
+    };
+    state = refl;
+    size = length-lay (w .image) stampAt xs;
+    others = λ a n x. part-lay-apart (w .image) stampAt xs a n (omega (arith, x .1));
+  }
+  does putBack s w f = puts (c .entry) w f
+
+  -- and so several
+  pub all-does : (xs : List Effect) → AllSuit (c .entry) xs → (w : Bench) → Fits (c .entry) w → Does (c .entry) w (bufferedAll c xs w) (plainAll c xs (own (c .entry) w))
+  unfolding bufferedAll plainAll
+  all-does [] s w f = stays (c .entry) w f
+  all-does (x ∷ xs) s w f =
+      let v : Bench = bufferedDo c x w in
+      let d : Does (c .entry) w v (plainDo c x (own (c .entry) w)) = does x (s .0) w f in
+      then-does (c .entry) w v (bufferedAll c xs v) _ (plainAll c xs (own (c .entry) v)) _ d (all-does xs (s .1) v (d .fits)) (ap (plainAll c xs) (d .same))
+
+  -- ---- holds of other files, laid before or behind
+
+  back-plain : (hs : List Hold) → ((j : ℕ) → Clear (c .entry) (holdAt hs j)) → (x : Effect) → Suits (c .entry) x → (image : List ℕ)
+      → allBack hs (plainDo c x image) ≡ plainDo c x (allBack hs image)
+  unfolding plainDo
+  back-plain hs o (hold k) s image = refl
+  back-plain hs o (change x) s image = back-lay hs image (sectorAt (c .entry) (x .place .sector) + x .place .byte) (x .bytes) (λ j. omega (arith, o j .0, s .1, s .2))
+  back-plain hs o (store k xs) s image = back-lay hs image (sectorAt (c .entry) k) xs (λ j. omega (arith, o j .0, s .1))
+  back-plain hs o (stamp xs) s image = back-lay hs image stampAt xs (λ j. omega (arith, o j .1))
+  back-plain hs o putBack s image = refl
+
+  pub back-plain-all : (hs : List Hold) → ((j : ℕ) → Clear (c .entry) (holdAt hs j)) → (xs : List Effect) → AllSuit (c .entry) xs → (image : List ℕ)
+      → allBack hs (plainAll c xs image) ≡ plainAll c xs (allBack hs image)
+  unfolding plainAll
+  back-plain-all hs o [] s image = refl
+  back-plain-all hs o (x ∷ xs) s image = back-plain-all hs o xs (s .1) (plainDo c x image) ∙ ap (plainAll c xs) (back-plain hs o x (s .0) image)

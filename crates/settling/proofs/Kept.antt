@@ -1,0 +1,160 @@
+-- What holds of every session of the buffered engine from a mounting on, and what it says of one file among the others: its buffer is as
+-- legality says, and what the others hold lies elsewhere.
+use mathlib.Core.Path.{_≡_, refl, sym, ap, subst, _∙_}
+use mathlib.Core.Bool.{Bool, true, false, _&&_}
+use mathlib.Core.List.{List, map}
+use Prim.Native.Nat.{ℕ, _+_, _*_, _≤_, _<_}
+use native.Mathlib.Omega.{arith}
+use lib.ListN.{length, getD, set, length-set, List·getD-map}
+use lib.Dec.{eqb}
+use borrow.Author.Tests.{eqb-true, eqb-false, eq-eqb}
+use Rattle.geometry.specs.Bytes.{part}
+use Rattle.geometry.specs.Lists.{every}
+use Rattle.geometry.specs.Sizes.{sector, entries, mostOpen, sectorsOf}
+use Rattle.geometry.proofs.Places.{lawful-whole}
+use Rattle.geometry.proofs.Tests.{either, both-ways, and-left, and-right, and-both, every-any, every-set, every-set-same}
+use Rattle.directory.specs.Entries.{entryAt, freeEntry, isFree}
+use Rattle.directory.specs.Rules.{tableGood}
+use Rattle.directory.proofs.Good.{Lies, lies, extents-apart}
+use Rattle.sessions.specs.Session.{idle, fresh, bare, legal, bufferedLegal, typed}
+use Rattle.sessions.proofs.Legal.{lawful-length, good-table, entry-inside, entry-used, bare-legal, held-inside}
+use Rattle.steps.specs.Effects.{sectorAt}
+use Rattle.steps.proofs.Inside.{buffers}
+use Rattle.settling.proofs.Settle.{Hold, empty, holdAt, heldBy, holdOf}
+use Rattle.settling.proofs.Bench.{Fits, Clear, held-off}
+use Rattle.directory.specs.declared.Entry.{Entry}
+use Rattle.sessions.specs.declared.BufferedFile.{BufferedFile}
+use Rattle.sessions.specs.declared.BufferedSession.{BufferedSession}
+use Rattle.sessions.specs.declared.OpenFile.{OpenFile}
+
+-- a buffer that is not changed equals its sector
+abbrev pub InStep : List ℕ → List Entry → BufferedFile → Type 0
+InStep image table b =
+    b .file .used ≡ true → b .holds ≡ true → b .changed ≡ false → b .buffer ≡ part image (sectorAt (entryAt table (b .file .entry)) (b .held)) sector
+
+-- the state of number k with its buffer
+abbrev pub heldAt : BufferedSession → ℕ → BufferedFile
+heldAt s k = getD (s .files) k (fresh idle)
+
+pub record Kept (image : List ℕ) (s : BufferedSession) : Type 0 where
+  pub isLegal : bufferedLegal image s ≡ true
+  pub isTyped : typed s ≡ true
+  pub inStep : (k : ℕ) → InStep image (s .table) (heldAt s k)
+
+-- a case whose test is known
+pub chosen : {A : Type 0} (t : Bool) (x y : A) → t ≡ true → elim t [ true ↦ x | false ↦ y ] ≡ x
+chosen true x y h = refl
+chosen false x y h = both-ways false h refl
+
+pub not-chosen : {A : Type 0} (t : Bool) (x y : A) → t ≡ false → elim t [ true ↦ x | false ↦ y ] ≡ y
+not-chosen true x y h = both-ways true refl h
+not-chosen false x y h = refl
+
+-- ---- what `typed` says
+
+module _ (s : BufferedSession) (t : typed s ≡ true) where
+  pub table-length : length (s .table) ≡ entries
+  unfolding typed
+  table-length = eqb-true (length (s .table)) entries (and-left (eqb (length (s .table)) entries) _ t)
+
+  pub names-eight : every (λ e. eqb (length (e .name)) 8) (s .table) ≡ true
+  unfolding typed
+  names-eight = and-left (every (λ e. eqb (length (e .name)) 8) (s .table)) _ (and-right (eqb (length (s .table)) entries) _ t)
+
+  rest : (eqb (length (s .files)) mostOpen && every (λ b. eqb (length (b .buffer)) sector) (s .files)) ≡ true
+  unfolding typed
+  rest = and-right (every (λ e. eqb (length (e .name)) 8) (s .table)) _ (and-right (eqb (length (s .table)) entries) _ t)
+
+  pub files-length : length (s .files) ≡ mostOpen
+  files-length = eqb-true (length (s .files)) mostOpen (and-left (eqb (length (s .files)) mostOpen) _ rest)
+
+  pub buffers-whole : every (λ b. eqb (length (b .buffer)) sector) (s .files) ≡ true
+  buffers-whole = and-right (eqb (length (s .files)) mostOpen) _ rest
+
+  pub buffer-length : (k : ℕ) → length (heldAt s k .buffer) ≡ sector
+  buffer-length k = eqb-true (length (heldAt s k .buffer)) sector (every-any (λ b. eqb (length (b .buffer)) sector) (s .files) k (fresh idle) buffers-whole refl)
+
+  -- another entry of the same name, and another state with a buffer
+  pub typed-set : (i : ℕ) (a : Entry) (k : ℕ) (b : BufferedFile) → a .name ≡ entryAt (s .table) i .name → length (b .buffer) ≡ sector
+      → typed (record { table = set (s .table) i a; files = set (s .files) k b }) ≡ true
+  unfolding typed
+  typed-set i a k b n l =
+      and-both _ _ (eq-eqb (length (set (s .table) i a)) entries (length-set (s .table) i a ∙ table-length))
+      (and-both _ _ (every-set-same (λ e. eqb (length (e .name)) 8) (s .table) i a freeEntry (ap (λ (x : List ℕ). eqb (length x) 8) n) ∙ names-eight)
+      (and-both _ _ (eq-eqb (length (set (s .files) k b)) mostOpen (length-set (s .files) k b ∙ files-length))
+      (every-set (λ b. eqb (length (b .buffer)) sector) (s .files) k b buffers-whole (eq-eqb (length (b .buffer)) sector l))))
+
+-- ---- the states, bare and with what they hold
+
+pub bare-at : (s : BufferedSession) (k : ℕ) → getD (bare s .files) k idle ≡ heldAt s k .file
+unfolding bare
+bare-at s k = List·getD-map (λ f. f .file) (s .files) k (fresh idle)
+
+abbrev pub holds : BufferedSession → List Hold
+holds s = map (holdOf (s .table)) (s .files)
+
+pub hold-at : (s : BufferedSession) (k : ℕ) → holdAt (holds s) k ≡ holdOf (s .table) (heldAt s k)
+unfolding holdOf
+hold-at s k = List·getD-map (holdOf (s .table)) (s .files) k (fresh idle)
+
+pub hold-used : (table : List Entry) (b : BufferedFile) → b .file .used ≡ true → holdOf table b ≡ heldBy (entryAt table (b .file .entry)) b
+unfolding holdOf
+hold-used table b h = chosen (b .file .used) (heldBy (entryAt table (b .file .entry)) b) empty h
+
+pub hold-unused : (table : List Entry) (b : BufferedFile) → b .file .used ≡ false → holdOf table b ≡ empty
+unfolding holdOf
+hold-unused table b h = not-chosen (b .file .used) (heldBy (entryAt table (b .file .entry)) b) empty h
+
+-- ---- one file among the others
+
+module _ (image : List ℕ) (s : BufferedSession) (kept : Kept image s) where
+  abbrev N : ℕ
+  N = sectorsOf image
+
+  is-legal : legal image (bare s) ≡ true
+  is-legal = bare-legal image s (kept .isLegal)
+
+  pub entry-lies : (i : ℕ) → isFree (entryAt (s .table) i) ≡ false → Lies N (entryAt (s .table) i)
+  unfolding bare
+  entry-lies i u = lies N (s .table) (good-table image (bare s) is-legal) i (eqb-false (entryAt (s .table) i .kind) 0 u)
+
+  pub used-entry : (k : ℕ) → heldAt s k .file .used ≡ true → (heldAt s k .file .entry < entries) × (isFree (entryAt (s .table) (heldAt s k .file .entry)) ≡ false)
+  unfolding bare
+  used-entry k u =
+      let w : getD (bare s .files) k idle .used ≡ true = ap (λ (f : OpenFile). f .used) (bare-at s k) ∙ u in
+      (rw (bare-at s k) at (entry-inside image (bare s) is-legal k w), rw (bare-at s k) at (entry-used image (bare s) is-legal k w))
+
+  pub held-below : (k : ℕ) → heldAt s k .file .used ≡ true → heldAt s k .holds ≡ true
+      → (buffers (entryAt (s .table) (heldAt s k .file .entry)) ≡ true) × (heldAt s k .held < entryAt (s .table) (heldAt s k .file .entry) .sectors)
+  held-below k u h = held-inside image s (kept .isLegal) k (heldAt s k) _ refl refl u h
+
+  -- a used entry's extent lies in the image, behind the directory
+  pub entry-room : (i : ℕ) → isFree (entryAt (s .table) i) ≡ false → (1 ≤ entryAt (s .table) i .first) × (sector * (entryAt (s .table) i .first + entryAt (s .table) i .sectors) ≤ length image)
+  entry-room i u =
+      let l : Lies N (entryAt (s .table) i) = entry-lies i u in
+      (l .starts, omega (arith, l .ends, lawful-whole image (lawful-length image (bare s) is-legal)))
+
+  -- a file's image and buffer
+  pub file-fits : (k : ℕ) (e : Entry) → entryAt (s .table) (heldAt s k .file .entry) ≡ e → heldAt s k .file .used ≡ true → Fits e (record { image = image; file = heldAt s k })
+  file-fits k e q u =
+      let r = entry-room (heldAt s k .file .entry) (used-entry k u .1) in
+      let f : Fits (entryAt (s .table) (heldAt s k .file .entry)) (record { image = image; file = heldAt s k }) =
+      record { starts = r .0; room = r .1; size = buffer-length s (kept .isTyped) k; within = held-below k u; unchanged = kept .inStep k u } in
+      subst (λ (x : Entry). Fits x (record { image = image; file = heldAt s k })) q f
+
+  -- what another file holds
+  pub clear : (i : ℕ) → isFree (entryAt (s .table) i) ≡ false → (j : ℕ) → (heldAt s j .file .used ≡ true → ¬ (heldAt s j .file .entry ≡ i))
+      → Clear (entryAt (s .table) i) (holdAt (holds s) j)
+  clear i v j d = either (heldAt s j .file .used)
+      (λ (u : heldAt s j .file .used ≡ true).
+      let x : Entry = entryAt (s .table) (heldAt s j .file .entry) in
+      let g : isFree x ≡ false = used-entry j u .1 in
+      let a = extents-apart N (s .table) good i (heldAt s j .file .entry) (λ q. d u (sym q)) (eqb-false (entryAt (s .table) i .kind) 0 v) (eqb-false (x .kind) 0 g) in
+      let l : length (heldAt s j .buffer) ≡ sector = buffer-length s (kept .isTyped) j in
+      let o : heldAt s j .holds ≡ true → heldAt s j .held < x .sectors = λ h. held-below j u h .1 in
+      rw (hold-at s j ∙ hold-used (s .table) (heldAt s j) u)
+      (held-off x (heldAt s j) (sector * entryAt (s .table) i .first) (sector * entryAt (s .table) i .sectors) l o (omega arith), held-off x (heldAt s j) 0 sector l o (omega (arith, entry-room (heldAt s j .file .entry) g .0))))
+      (λ (u : heldAt s j .file .used ≡ false). rw (hold-at s j ∙ hold-unused (s .table) (heldAt s j) u) (omega arith, omega arith))
+    where
+      good : tableGood N (s .table) ≡ true
+      good = unfold bare in good-table image (bare s) is-legal
