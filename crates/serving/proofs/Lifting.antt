@@ -28,7 +28,8 @@ use Rattle.steps.proofs.Lawful.{Lawful, AllInside, ownAll}
 use Rattle.steps.proofs.Inside.{lawful, inside}
 use Rattle.steps.proofs.Frame.{length-plain, other-plain, own-plain, Unstamped, table-plain, stamps-or}
 use Rattle.tapes.specs.Model.{Model, nothing, modelAt, modelNext}
-use Rattle.serving.proofs.Solo.{shows, Sound, Serves, Solo, soloAnswer, entryNext, fileNext, bytesNext}
+use Rattle.steps.specs.Verdict.{entryNext, fileNext}
+use Rattle.serving.proofs.Solo.{shows, Sound, Serves, Solo, soloAnswer, bytesNext}
 use Rattle.serving.proofs.Stays.{same-next}
 use Rattle.serving.proofs.Packed.{packed-serves}
 use Rattle.serving.proofs.Fixed.{fixed}

@@ -14,7 +14,7 @@ use Rattle.geometry.proofs.Bytes.{part-lay-within}
 use Rattle.geometry.proofs.Tests.{either, and-left, and-right, all-getD, every-any}
 use Rattle.directory.specs.Entries.{entryAt, entryBytes, freeEntry, isFree}
 use Rattle.directory.specs.Rules.{freeIsZero, tableGood, tableRules}
-use Rattle.directory.proofs.Lists.{every-append}
+use Rattle.directory.proofs.Free.{every-append}
 use Rattle.sessions.specs.Session.{idle, bare, fileOf, extent, extentWith, legal}
 use Rattle.sessions.proofs.Legal.{bare-legal, files-differ, legal-length, good-table}
 use Rattle.steps.specs.Effects.{sectorAt, Bench}
