@@ -13,11 +13,13 @@ use lib.Seq.{getD-set-same, getD-set-other, ext-getD, set-getD}
 use borrow.Author.Tests.{eqb-false}
 use Rattle.geometry.specs.Bytes.{lay}
 use Rattle.geometry.specs.Sizes.{entries, compressed, random, mostOpen, sectorsOf, free, lawfulLength}
+use Rattle.geometry.proofs.Places.{lawful-whole, lawful-some}
 use Rattle.geometry.proofs.Tests.{either, both-ways}
 use Rattle.directory.specs.Entries.{entryAt, tableOf, freeEntry, isFree, isKind}
 use Rattle.directory.specs.Stamp.{stampBytes, stamped, restamped}
 use Rattle.directory.proofs.Good.{Lies, lies, extents-apart}
 use Rattle.directory.proofs.Table.{length-table}
+use Rattle.directory.proofs.Stamped.{stamped-in, stamp-table}
 use Rattle.requests.specs.Judge.{judge, tests, firstOf}
 use Rattle.requests.proofs.Done.{Tells, judge-tells, done-allows}
 use Rattle.sessions.specs.Session.{idle, fileOf, slotOf, openFiles, extent, legal}
@@ -30,7 +32,7 @@ use Rattle.steps.proofs.Frame.{length-plain, other-plain, own-plain, Unstamped,
 use Rattle.tapes.specs.Model.{Model, nothing, modelAt, modelNext}
 use Rattle.serving.proofs.Solo.{shows, Sound, Serves, Solo, soloAnswer, entryNext, fileNext, bytesNext}
 use Rattle.serving.proofs.Stays.{same-next}
-use Rattle.serving.proofs.Packed.{packed-serves}
+use Rattle.serving.proofs.Packed.{packed}
 use Rattle.serving.proofs.Fixed.{fixed}
 use Rattle.serving.proofs.Granules.{granules}
 use Rattle.serving.proofs.Keeping.{next-restamped, Goes, on, off, goes, Of, Answered, done, met, sessionNext, legal-next, in-entries, file-then, file-others}
@@ -49,15 +51,11 @@ use Rattle.requests.specs.declared.Refusal.the-variants.{NotThere}
 use Rattle.requests.specs.declared.Request.{Request}
 use Rattle.requests.specs.declared.Request.the-variants.{Open, Read, Write, GranuleRead, GranuleWrite, GranuleLook, Position}
 
-stamp-table : (image : List ℕ) (i count flags : ℕ) → i < entries → 360 ≤ length image → count < 65536 → flags < 65536
-    → tableOf (lay image (20 * i + 16) (stampBytes count flags)) ≡ set (tableOf image) i (restamped (entryAt (tableOf image) i) count flags)
-stamp-table image i count flags h l k g = ?
-
 -- ---- every kind
 
 pub any-serves : Solo (λ e. isFree e ≡ false)
 any-serves files buffer q c used v =
-    either (isKind compressed (c .entry)) (λ (k : isKind compressed (c .entry) ≡ true). packed-serves files buffer q c k v)
+    either (isKind compressed (c .entry)) (λ (k : isKind compressed (c .entry) ≡ true). packed files buffer q c k v)
     λ (k : isKind compressed (c .entry) ≡ false). either (isKind random (c .entry)) (λ (r : isKind random (c .entry) ≡ true). granules files buffer q c r v)
     λ (r : isKind random (c .entry) ≡ false). fixed files buffer q c (k, r) v
 
@@ -168,7 +166,8 @@ module _ (image : List ℕ) (s : Session) (v : Stands image s) (i : ℕ) (used :
         table : tableOf (lay image (20 * i + 16) (stampBytes (c .entry .count) (c .entry .flags))) ≡ set (tableOf image) i (restamped (entryAt (tableOf image) i) (c .entry .count) (c .entry .flags))
         table =
             let ok : lawfulLength image ≡ true = lawful-length image s (v .ok) in
-            stamp-table image i (c .entry .count) (c .entry .flags) few (omega (arith, lawful-sectors image ok, lawful-some image ok)) (omega (arith, w .words)) (omega (arith, w .flags))
+            rw (← (stamped-in image i (c .entry .count) (c .entry .flags) few))
+            (stamp-table image i (c .entry .count) (c .entry .flags) few (w .words) (omega (arith, lawful-whole image ok, lawful-some image ok)))
 
     done-moves : Moves image image′ s i Done q c
     unfolding bytesNext
