@@ -1,7 +1,7 @@
--- A free entry keeps every rule exactly if its 20 bytes are zero; a word is zero where both its bytes are.
+-- The 20 bytes of an entry are zero exactly if its name and its words are.
 use mathlib.Core.Path.{_≡_, refl, sym, ap, _∙_}
-use mathlib.Core.Bool.{Bool, true, false, _&&_}
-use mathlib.Core.List.{List, _++_}
+use mathlib.Core.Bool.{Bool, true, false, _&&_, and-assoc}
+use mathlib.Core.List.{List, [], _∷_, _++_}
 use Prim.Native.Nat.{ℕ, _+_, _/_, _%_}
 use native.Mathlib.Omega.{arith}
 use lib.Dec.{eqb}
@@ -10,7 +10,11 @@ use Rattle.geometry.specs.Lists.{every}
 use Rattle.geometry.specs.Bytes.{word}
 use Rattle.directory.specs.declared.Entry.{Entry}
 use Rattle.directory.specs.Entries.{entryBytes}
-use Rattle.directory.proofs.Lists.{every-append}
+
+every-append : {A : Type 0} (p : A → Bool) (xs ys : List A) → every p (xs ++ ys) ≡ (every p xs && every p ys)
+unfolding every
+every-append p [] ys = refl
+every-append p (x ∷ xs) ys = rw (every-append p xs ys, and-assoc (p x) (every p xs) (every p ys))
 
 abbrev zero-byte : ℕ → Bool
 zero-byte b = eqb b 0

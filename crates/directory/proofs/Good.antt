@@ -2,8 +2,7 @@
 use mathlib.Core.Path.{_≡_, refl, ap}
 use mathlib.Core.Bool.{Bool, true, false, _&&_, _||_, not}
 use mathlib.Core.List.{List}
-use Prim.Native.Nat.{ℕ, _+_, _*_, _/_, _%_, _≤_, _<_, min, max}
-use native.Mathlib.Nat.{div-le-self}
+use Prim.Native.Nat.{ℕ, _+_, _%_, _≤_, _<_, min, max}
 use native.Mathlib.Omega.{arith}
 use native.Mathlib.Decide.{decLt}
 use lib.ListN.{length, getD, List·getD-eq-default}
@@ -11,11 +10,12 @@ use lib.Dec.{leb, eqb}
 use borrow.Author.Tests.{leb-true, eqb-true, eqb-false, ne-eqb, eq-eqb, not-true}
 use Rattle.geometry.specs.Lists.{every}
 use Rattle.geometry.specs.Sizes.{unblocked, blocked, random, mostRecords, mostSectors}
-use Rattle.geometry.specs.Places.{capacity, sectorsFor, perSector}
+use Rattle.geometry.specs.Places.{capacity}
 use Rattle.directory.specs.declared.Entry.{Entry}
 use Rattle.directory.specs.Entries.{isFree, isKind, isMarked, entryAt, freeEntry}
 use Rattle.directory.specs.Rules.{kindKnown, isName, nameGood, extentInside, extentsApart, flagsKnown, longest, lengthGood, countGood, randomBare, tableRules, tableGood}
-use Rattle.directory.proofs.Lists.{and-left, and-right, all-at, every-at, pairwise-at}
+use Rattle.geometry.proofs.Places.{capacity-word}
+use Rattle.geometry.proofs.Tests.{and-left, and-right, all-getD, every-getD, pairwise-getD}
 
 -- what a used entry keeps, in an image of N sectors
 pub record Lies (N : ℕ) (e : Entry) : Type 0 where
@@ -33,15 +33,6 @@ pub record Lies (N : ℕ) (e : Entry) : Type 0 where
   pub counted : N ≤ mostSectors → e .count ≤ mostRecords
   pub bare : e .kind ≡ random → e .count ≡ 0
   pub unmarked : e .kind ≡ random → isMarked e ≡ false
-
--- the capacity is no more than the sectors, or than the most records
-capacity-most : (kind R sectors : ℕ) → sectors ≤ mostRecords → capacity kind R sectors ≤ mostRecords
-unfolding capacity
-capacity-most kind R sectors h = go (eqb kind blocked)
-  where
-    go : (b : Bool) → elim b [ true ↦ min (perSector R * sectors) mostRecords | false ↦ sectors / sectorsFor R ] ≤ mostRecords
-    go true = omega arith
-    go false = omega (arith, div-le-self sectors (sectorsFor R))
 
 -- kinds 1 and 2
 pub has-capacity : (e : Entry) → 1 ≤ e .kind → e .kind ≤ 2 → (isKind unblocked e || isKind blocked e) ≡ true
@@ -77,7 +68,7 @@ module _ (N : ℕ) (e : Entry) (used : ¬ (e .kind ≡ 0)) where
   count-most l h = go (isKind unblocked e || isKind blocked e) h
     where
       go : (b : Bool) → elim b [ true ↦ leb (e .count) (capacity (e .kind) (e .length) (e .sectors)) | false ↦ leb (e .count) mostRecords ] ≡ true → e .count ≤ mostRecords
-      go true q = omega (arith, leb-true (e .count) (capacity (e .kind) (e .length) (e .sectors)) q, capacity-most (e .kind) (e .length) (e .sectors) l)
+      go true q = omega (arith, leb-true (e .count) (capacity (e .kind) (e .length) (e .sectors)) q, capacity-word (e .kind) (e .length) (e .sectors) l)
       go false q = leb-true (e .count) mostRecords q
 
   bareness : e .kind ≡ random → randomBare e ≡ true → (eqb (e .count) 0 && not (isMarked e)) ≡ true
@@ -128,7 +119,7 @@ no-shared a b u v e = go (leb (a .first + a .sectors) (b .first)) refl (rw (ne-e
 module _ (N : ℕ) (t : List Entry) (ok : tableGood N t ≡ true) where
   rule : (k : ℕ) → getD (tableRules N t) k true ≡ true
   unfolding tableGood
-  rule = all-at (tableRules N t) ok
+  rule k = all-getD (tableRules N t) k ok
 
   -- a used entry of a good table
   pub lies : (i : ℕ) → ¬ (entryAt t i .kind ≡ 0) → Lies N (entryAt t i)
@@ -137,7 +128,7 @@ module _ (N : ℕ) (t : List Entry) (ok : tableGood N t ≡ true) where
       entry-lies N (entryAt t i) used (one kindKnown (rule 0)) (one nameGood (rule 2)) (one (extentInside N) (rule 4)) (one flagsKnown (rule 6)) (one lengthGood (rule 7)) (one countGood (rule 8)) (one randomBare (rule 9))
     where
       one : (p : Entry → Bool) → every p t ≡ true → p (entryAt t i) ≡ true
-      one p q = every-at p t freeEntry q i (used-inside t i used)
+      one p q = every-getD p t i freeEntry q (used-inside t i used)
 
   -- two of them share no sector
   pub extents-apart : (i j : ℕ) → ¬ (i ≡ j) → ¬ (entryAt t i .kind ≡ 0) → ¬ (entryAt t j .kind ≡ 0)
@@ -146,7 +137,7 @@ module _ (N : ℕ) (t : List Entry) (ok : tableGood N t ≡ true) where
   extents-apart i j d u v = go (decLt i j)
     where
       two : (a b : ℕ) → a < b → ¬ (entryAt t b .kind ≡ 0) → extentsApart (entryAt t a) (entryAt t b) ≡ true
-      two a b l w = pairwise-at extentsApart t freeEntry (rule 5) a b l (used-inside t b w)
+      two a b l w = pairwise-getD extentsApart t a b freeEntry (rule 5) l (used-inside t b w)
 
       go : Dec (i < j) → min (entryAt t i .first + entryAt t i .sectors) (entryAt t j .first + entryAt t j .sectors) ≤ max (entryAt t i .first) (entryAt t j .first)
       go (yes l) = no-shared (entryAt t i) (entryAt t j) u v (two i j l v)

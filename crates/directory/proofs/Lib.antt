@@ -1,4 +1,3 @@
-pub mod Lists
 pub mod Table
 pub mod Names
 pub mod Free

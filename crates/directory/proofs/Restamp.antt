@@ -14,7 +14,7 @@ use Rattle.directory.specs.declared.Entry.{Entry}
 use Rattle.directory.specs.Entries.{isKind, isMarked, entryAt, freeEntry}
 use Rattle.directory.specs.Rules.{kindKnown, freeIsZero, nameGood, namesDiffer, extentInside, extentsApart, flagsKnown, lengthGood, countGood, randomBare, tableRules, tableGood}
 use Rattle.directory.specs.Stamp.{restamped}
-use Rattle.directory.proofs.Lists.{all-at, every-set, every-set-alike, pairwise-set-alike}
+use Rattle.geometry.proofs.Tests.{all-getD, every-set, every-set-same, pairwise-set-same}
 
 -- a count and flags that the rules allow an entry
 pub record Stampable (e : Entry) (count flags : ℕ) : Type 0 where
@@ -65,17 +65,17 @@ module _ (N : ℕ) (t : List Entry) (i count flags : ℕ) (ok : tableGood N t �
 
   rule : (k : ℕ) → getD (tableRules N t) k true ≡ true
   unfolding tableGood
-  rule = all-at (tableRules N t) ok
+  rule k = all-getD (tableRules N t) k ok
 
   -- a rule that the new entry keeps, and one that does not look at count and flags
   kept : (p : Entry → Bool) → every p t ≡ true → p (restamped e count flags) ≡ true → every p t′ ≡ true
   kept p q h = every-set p t i (restamped e count flags) q h
 
   same-one : (p : Entry → Bool) → every p t ≡ true → p (restamped e count flags) ≡ p e → every p t′ ≡ true
-  same-one p q h = every-set-alike p t i (restamped e count flags) freeEntry h ∙ q
+  same-one p q h = every-set-same p t i (restamped e count flags) freeEntry h ∙ q
 
   same-two : (r : Entry → Entry → Bool) → pairwise r t ≡ true → ((y : Entry) → r (restamped e count flags) y ≡ r e y) → ((y : Entry) → r y (restamped e count flags) ≡ r y e) → pairwise r t′ ≡ true
-  same-two r q h k = pairwise-set-alike r t i (restamped e count flags) freeEntry h k ∙ q
+  same-two r q h k = pairwise-set-same r t i (restamped e count flags) freeEntry h k ∙ q
 
   pub restamp-good : ¬ (e .kind ≡ 0) → Stampable e count flags → tableGood N (set t i (restamped (entryAt t i) count flags)) ≡ true
   unfolding tableGood tableRules all kindKnown nameGood namesDiffer extentInside extentsApart lengthGood

@@ -243,7 +243,7 @@ fn is_zero(e: Entry) -> bool
 {
     let x = e.name;
     is_zero_name(x)
-        & ((e.kind == 0)
+        & ((e.kind == Geometry::FREE)
             & ((e.length == 0)
                 & ((e.first == 0) & ((e.sectors == 0) & ((e.count == 0) & (e.flags == 0))))))
 }
@@ -252,14 +252,18 @@ fn is_zero(e: Entry) -> bool
 fn free_is_zero(e: Entry) -> bool
     ensures { λ r. ⌜ r ≡ freeIsZero e ⌝ }
 {
-    if e.kind == 0 { is_zero(e) } else { true }
+    if e.kind == Geometry::FREE {
+        is_zero(e)
+    } else {
+        true
+    }
 }
 
 // A used entry has a name.
 fn name_good(e: Entry) -> bool
     ensures { λ r. ⌜ r ≡ nameGood e ⌝ }
 {
-    if e.kind == 0 {
+    if e.kind == Geometry::FREE {
         true
     } else {
         let x = e.name;
@@ -271,7 +275,7 @@ fn name_good(e: Entry) -> bool
 fn extent_inside(e: Entry, n: u32) -> bool
     ensures { λ r. ⌜ r ≡ extentInside n e ⌝ }
 {
-    (e.kind == 0)
+    (e.kind == Geometry::FREE)
         | ((1 <= e.first) & ((1 <= e.sectors) & ((e.first as u32) + (e.sectors as u32) <= n)))
 }
 
@@ -279,9 +283,9 @@ fn extent_inside(e: Entry, n: u32) -> bool
 fn longest_of(kind: u16) -> u16
     ensures { λ r. ⌜ r ≡ longest kind ⌝ }
 {
-    if kind == 2 {
+    if kind == Geometry::BLOCKED {
         360
-    } else if kind == 3 {
+    } else if kind == Geometry::COMPRESSED {
         132
     } else {
         3600
@@ -293,14 +297,14 @@ fn length_good(e: Entry) -> bool
     ensures { λ r. ⌜ r ≡ lengthGood e ⌝ }
 {
     let most = longest_of(e.kind);
-    (e.kind == 0) | ((e.length % 2 == 0) & ((2 <= e.length) & (e.length <= most)))
+    (e.kind == Geometry::FREE) | ((e.length % 2 == 0) & ((2 <= e.length) & (e.length <= most)))
 }
 
 // The count is within the capacity, or is one word.
 fn count_good(e: Entry) -> bool
     ensures { λ r. ⌜ r ≡ countGood e ⌝ }
 {
-    if (e.kind == 1) | (e.kind == 2) {
+    if (e.kind == Geometry::UNBLOCKED) | (e.kind == Geometry::BLOCKED) {
         e.count <= Geometry::capacity(e.kind, e.length, e.sectors)
     } else {
         e.count <= Geometry::MOST_RECORDS
@@ -311,14 +315,14 @@ fn count_good(e: Entry) -> bool
 fn random_bare(e: Entry) -> bool
     ensures { λ r. ⌜ r ≡ randomBare e ⌝ }
 {
-    !(e.kind == 4) | ((e.count == 0) & !is_marked(e))
+    !(e.kind == Geometry::RANDOM) | ((e.count == 0) & !is_marked(e))
 }
 
 // Whether an entry keeps the rules of one entry, in an image of n sectors.
 fn entry_good(e: Entry, n: u32) -> bool
     ensures { λ r. ⌜ r ≡ entryGood n e ⌝ }
 {
-    (e.kind <= 4)
+    (e.kind <= Geometry::RANDOM)
         & (free_is_zero(e)
             & (name_good(e)
                 & (extent_inside(e, n)
@@ -338,7 +342,7 @@ fn same_name(x: [u8; 8], y: [u8; 8]) -> bool
 fn two_good(a: Entry, b: Entry) -> bool
     ensures { λ r. ⌜ r ≡ twoGood a b ⌝ }
 {
-    if (a.kind == 0) | (b.kind == 0) {
+    if (a.kind == Geometry::FREE) | (b.kind == Geometry::FREE) {
         return true;
     }
     let a_end = (a.first as u32) + (a.sectors as u32);
@@ -362,7 +366,7 @@ pub fn is_good(t: [Entry; 18], n: u32) -> bool
         if !entry_good(e, n) {
             return false;
         }
-        if e.kind != 0 {
+        if e.kind != Geometry::FREE {
             let mut j = i + 1;
             while j < 18 {
                 let f = t[j];
@@ -383,7 +387,7 @@ pub fn is_good(t: [Entry; 18], n: u32) -> bool
 pub fn is_named(e: Entry, name: &[u8]) -> bool
     ensures { λ r. ⌜ r ≡ matches (now (name .entry)) e ⌝ }
 {
-    if (name.len() == 8) & (e.kind != 0) {
+    if (name.len() == 8) & (e.kind != Geometry::FREE) {
         let own = e.name;
         same(&own, name)
     } else {

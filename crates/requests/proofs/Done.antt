@@ -11,7 +11,7 @@ use Rattle.geometry.specs.Sizes.{free, compressed, random, mostOpen, mostRecord
 use Rattle.geometry.specs.Places.{capacity}
 use Rattle.geometry.proofs.Tests.{and-left, and-right}
 use Rattle.packing.specs.Placing.{hasRoom}
-use Rattle.requests.specs.Judge.{Stage, Test, refusedIf, notLegal, noEntry, notOpen, notSequential, oddCount, badSize, badCode, noGranule, meetsMark, atEnd, backOverMark, atStart, backToStart, tests, firstOf, judge, isFull}
+use Rattle.requests.specs.Judge.{whether, orElse, Stage, Test, refusedIf, notLegal, noEntry, notOpen, notSequential, oddCount, badSize, badCode, noGranule, meetsMark, atEnd, backOverMark, atStart, backToStart, tests, firstOf, judge, isFull}
 use Rattle.requests.specs.declared.Facts.{Facts}
 use Rattle.requests.specs.declared.Order.the-variants.{WriteMark, RewindOnline, RewindOffline, RecordForward, RecordBack, FileForward, FileBack}
 use Rattle.requests.specs.declared.Request.{Request}
@@ -176,17 +176,17 @@ positive n e = let z : n ≢ 0 = eqb-false n 0 e in omega arith
 -- a test that holds gives its answer; one that does not hands on
 passing : (P : Answer → Type 0) (t : Test) (ts : List Test) (f : Facts) → (t .holds f ≡ true → P (t .gives)) → (t .holds f ≡ false → P (firstOf ts f))
     → P (firstOf (t ∷ ts) f)
-unfolding firstOf
+unfolding firstOf orElse whether
 passing P t ts f p r = go (t .holds f) p r
   where
-    go : (b : Bool) → (b ≡ true → P (t .gives)) → (b ≡ false → P (firstOf ts f)) → P (elim b [ true ↦ t .gives | false ↦ firstOf ts f ])
+    go : (b : Bool) → (b ≡ true → P (t .gives)) → (b ≡ false → P (firstOf ts f)) → P (whether b (t .gives) (firstOf ts f))
     go true h k = h refl
     go false h k = k refl
 
 module _ (q : Request) (f : Facts) where
   -- past them all
   last : Tells q f Done → Tells q f (firstOf [] f)
-  unfolding firstOf
+  unfolding firstOf orElse
   last h = h
 
   -- past a test that refuses

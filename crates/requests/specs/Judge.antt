@@ -140,10 +140,18 @@ tests (Position RecordBack) = notLegal ∷ noEntry ∷ notOpen ∷ notBackwards 
 tests (Position FileForward) = notLegal ∷ noEntry ∷ notOpen ∷ notSequential ∷ isBeyond ∷ notMarked ∷ []
 tests (Position FileBack) = notLegal ∷ noEntry ∷ notOpen ∷ notSequential ∷ backToStart ∷ []
 
--- the first test that holds gives the answer; none: "0 done"
+unfoldable pub whether : Bool → Answer → Answer → Answer
+whether true a later = a
+whether false a later = later
+
+-- the first test that holds gives the answer, else what stands behind the tests
+unfoldable pub orElse : List Test → Facts → Answer → Answer
+orElse [] f later = later
+orElse (t ∷ ts) f later = whether (t .holds f) (t .gives) (orElse ts f later)
+
+-- where none holds, "0 done"
 unfoldable pub firstOf : List Test → Facts → Answer
-firstOf [] f = Done
-firstOf (t ∷ ts) f = elim (t .holds f) [ true ↦ t .gives | false ↦ firstOf ts f ]
+firstOf ts f = orElse ts f Done
 
 unfoldable pub judge : Request → Facts → Answer
 judge q f = firstOf (tests q) f

@@ -20,7 +20,8 @@ use Rattle.tapes.specs.Tape.{Shape}
 use Rattle.tapes.specs.Row.{Row, granulesIn, rowFacts, rowDone, rowNext, granule}
 use Rattle.tapes.specs.Model.{row, shapeOf, modelFacts, modelNext, modelInto, modelShown, modelGranule}
 use Rattle.serving.proofs.ByRule.{listOf, getD-listOf, set-listOf}
-use Rattle.serving.proofs.Solo.{Sound, Serves, Solo, soloAnswer, shows, entryNext, fileNext, bytesNext}
+use Rattle.steps.specs.Verdict.{entryNext, fileNext}
+use Rattle.serving.proofs.Solo.{Sound, Serves, Solo, soloAnswer, shows, bytesNext}
 use Rattle.serving.proofs.Stays.{kind-next, stays-fixed, decodes-nothing}
 use Rattle.serving.proofs.Taped.{used-entry}
 use Rattle.serving.proofs.Written.{written, own-store, written-here, written-other}

@@ -26,7 +26,8 @@ use Rattle.sessions.proofs.Kept.{Keeps, legal-set}
 use Rattle.steps.specs.Next.{Scene, factsOf, fileDone, fileMet, counted}
 use Rattle.steps.proofs.Lawful.{Lawful}
 use Rattle.steps.proofs.Inside.{lawful}
-use Rattle.serving.proofs.Solo.{entryNext, fileNext}
+use Rattle.steps.specs.Verdict.{entryNext, fileNext}
+
 use Rattle.serving.proofs.Stays.{same-next, lawful-next}
 use Rattle.serving.proofs.Places.{places-next}
 use Rattle.directory.specs.declared.Entry.{Entry}

@@ -11,7 +11,8 @@ use Rattle.directory.specs.Entries.{isFree, isKind, isMarked}
 use Rattle.packing.specs.Reading.{decodes, recordsOf, behind}
 use Rattle.requests.specs.Judge.{judge}
 use Rattle.mounting.specs.Mounting.{countedWalk}
-use Rattle.steps.specs.Next.{Scene, factsOf, fileDone, fileMet, entryDone, intoBuffer, fixedAt}
+use Rattle.steps.specs.Next.{Scene, factsOf, intoBuffer, fixedAt}
+use Rattle.steps.specs.Verdict.{entryNext, fileNext}
 use Rattle.steps.specs.Effects.{effects}
 use Rattle.steps.proofs.Lawful.{Lawful, ownAll}
 use Rattle.tapes.specs.Tape.{recordsIn}
@@ -57,17 +58,7 @@ pub record Sound (e : Entry) (f : OpenFile) (bytes : List ℕ) : Type 0 where
   -- a file that is not open stands at its start
   pub closed : f .used ≡ false → (f .position ≡ 0) × (f .beyond ≡ false)
 
--- what an answered request makes of the three
-unfoldable pub entryNext : Answer → Request → Scene → Entry
-entryNext Done q c = entryDone q c
-entryNext (Met x) q c = c .entry
-entryNext (Refused x) q c = c .entry
-
-unfoldable pub fileNext : Answer → Request → Scene → OpenFile
-fileNext Done q c = fileDone q c
-fileNext (Met x) q c = fileMet x (c .file)
-fileNext (Refused x) q c = c .file
-
+-- what an answered request makes of the extent's bytes (of entry and state: steps/specs/Verdict)
 unfoldable pub bytesNext : Answer → Request → Scene → List ℕ
 bytesNext Done q c = ownAll (effects q c) (c .bytes)
 bytesNext (Met x) q c = c .bytes

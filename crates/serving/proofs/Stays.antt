@@ -18,7 +18,8 @@ use Rattle.steps.specs.Next.{Scene, factsOf, fileDone, fileMet, entryDone, coun
 use Rattle.steps.specs.Effects.{Effect, hold, change, store, stamp, putBack, effects}
 use Rattle.steps.proofs.Lawful.{Lawful, ownDo, ownAll}
 use Rattle.tapes.specs.Model.{shapeOf}
-use Rattle.serving.proofs.Solo.{Sound, entryNext, fileNext, bytesNext}
+use Rattle.steps.specs.Verdict.{entryNext, fileNext}
+use Rattle.serving.proofs.Solo.{Sound, bytesNext}
 use Rattle.directory.specs.declared.Entry.{Entry}
 use Rattle.sessions.specs.declared.OpenFile.{OpenFile}
 use Rattle.requests.specs.declared.Order.the-variants.{WriteMark, RewindOnline, RewindOffline, RecordForward, RecordBack, FileForward, FileBack}

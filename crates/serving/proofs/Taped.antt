@@ -17,7 +17,8 @@ use Rattle.steps.specs.Effects.{Effect, effects, readEffects, writeEffects}
 use Rattle.steps.proofs.Lawful.{Lawful, ownDo, ownAll}
 use Rattle.tapes.specs.Tape.{Tape, recordsIn, recordCode, tapeFacts, tapeDone, tapeMet, tapeNext, tapeRecord, newRecord}
 use Rattle.tapes.specs.Model.{tape, shapeOf, modelFacts, modelNext, modelInto, modelRecord}
-use Rattle.serving.proofs.Solo.{shows, Sound, Serves, entryNext, fileNext, bytesNext}
+use Rattle.steps.specs.Verdict.{entryNext, fileNext}
+use Rattle.serving.proofs.Solo.{shows, Sound, Serves, bytesNext}
 use Rattle.serving.proofs.Stays.{shape-counted, marked-counted, kind-next}
 use Rattle.directory.specs.declared.Entry.{Entry}
 use Rattle.sessions.specs.declared.OpenFile.{OpenFile}

@@ -55,7 +55,7 @@ module _ (e : Entry) (w : Bench) where
   unfolding heldBy
   own-none h = rw (h, heldBy) (lay-nil (w .image) 0)
 
-and-other : (a b : Bool) → a ≡ true → (a && b) ≡ false → b ≡ false
+pub and-other : (a b : Bool) → a ≡ true → (a && b) ≡ false → b ≡ false
 and-other true b h k = k
 and-other false b h k = both-ways false h refl
 
@@ -93,7 +93,7 @@ module _ (e : Entry) (w : Bench) (f : Fits e w) where
       (λ (t : (w .file .holds && w .file .changed) ≡ false). rw (t, puttingBack) (stays e w f))
 
   -- a buffer that is not changed has what the image has
-  own-unchanged : w .file .holds ≡ true → w .file .changed ≡ false → own e w ≡ w .image
+  pub own-unchanged : w .file .holds ≡ true → w .file .changed ≡ false → own e w ≡ w .image
   own-unchanged h z = own-held e w h ∙ ap (lay (w .image) at) (f .unchanged h z) ∙ lay-part (w .image) at sector
 
   put-image : puttingBack e w .image ≡ own e w

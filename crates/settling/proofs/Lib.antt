@@ -4,3 +4,4 @@ pub mod Kept
 pub mod Standing
 pub mod Scene
 pub mod Served
+pub mod Step

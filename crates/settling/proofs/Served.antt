@@ -53,7 +53,7 @@ held-shape : (a a′ : Entry) (b : BufferedFile) → a .first ≡ a′ .first �
 unfolding heldBy
 held-shape a a′ b q = rw q
 
-map-set : {A B : Type 0} (f : A → B) (xs : List A) (k : ℕ) (y : A) → map f (set xs k y) ≡ set (map f xs) k (f y)
+pub map-set : {A B : Type 0} (f : A → B) (xs : List A) (k : ℕ) (y : A) → map f (set xs k y) ≡ set (map f xs) k (f y)
 map-set f [] k y = refl
 map-set f (x ∷ xs) zero y = refl
 map-set {B = B} f (x ∷ xs) (suc k) y = ap (λ (zs : List B). f x ∷ zs) (map-set f xs k y)
@@ -71,7 +71,7 @@ kept-unused : (f : OpenFile) (b : BufferedFile) → f .used ≡ false → kept f
 unfolding kept
 kept-unused f b u = not-chosen (f .used) (withBuffer f b) (fresh f) u
 
-kept-file : (f : OpenFile) (b : BufferedFile) → kept f b .file ≡ f
+pub kept-file : (f : OpenFile) (b : BufferedFile) → kept f b .file ≡ f
 kept-file f b = either (f .used) (λ (u : f .used ≡ true). ap (λ (x : BufferedFile). x .file) (kept-used f b u)) (λ (u : f .used ≡ false). ap (λ (x : BufferedFile). x .file) (kept-unused f b u))
 
 held-with : (e : Entry) (f : OpenFile) (b : BufferedFile) → heldBy e (withBuffer f b) ≡ heldBy e b

@@ -1,4 +1,5 @@
 pub mod Next
+pub mod Verdict
 pub mod Effects
 pub mod Step
 pub mod Look

@@ -85,9 +85,9 @@ badIn none c = false
 unfoldable pub codeLength : Entry → List ℕ → ℕ
 codeLength e given = elim (isKind compressed e && leb (length given) (e .length)) [ true ↦ length (codeOf (e .length) given) | false ↦ 0 ]
 
--- `buffer` is the size of the buffer that the caller lends
-unfoldable pub factsOf : Bool → ℕ → ℕ → Request → Scene → Facts
-factsOf legal files buffer q c = record {
+-- `files` are open; `buffer` is the size of the buffer that the caller lends, and `code` the length of the code of the bytes given
+abbrev pub factsWith : Bool → ℕ → ℕ → ℕ → Request → Scene → Facts
+factsWith legal files buffer code q c = record {
   legal = legal;
   files = files;
   kind = c .entry .kind;
@@ -102,9 +102,12 @@ factsOf legal files buffer q c = record {
   here = c .file .here;
   bad = badIn (decoding q) c;
   given = length (c .given);
-  code = codeLength (c .entry) (c .given);
+  code = code;
   buffer = buffer;
 }
+
+unfoldable pub factsOf : Bool → ℕ → ℕ → Request → Scene → Facts
+factsOf legal files buffer q c = factsWith legal files buffer (codeLength (c .entry) (c .given)) q c
 
 -- ---- the next state of the file
 

@@ -1,0 +1,52 @@
+-- What a request comes to, judged once for both engines: the answer, the next entry and the next state of the file, and the caller's buffer.
+-- Document 01, "The tape a file is" and "Answer numbers". Definitions only.
+use mathlib.Core.Bool.{Bool, true, false, _&&_, _||_}
+use mathlib.Core.List.{List}
+use Prim.Native.Nat.{ℕ, _*_}
+use lib.ListN.{length}
+use lib.Dec.{eqb}
+use Rattle.geometry.specs.Bytes.{lay}
+use Rattle.geometry.specs.Sizes.{sector, blocked, compressed}
+use Rattle.directory.specs.Entries.{isKind}
+use Rattle.requests.specs.Judge.{judge}
+use Rattle.sessions.specs.Session.{extent}
+use Rattle.steps.specs.Next.{Scene, factsWith, fileDone, fileMet, entryDone, intoBuffer}
+use Rattle.directory.specs.declared.Entry.{Entry}
+use Rattle.sessions.specs.declared.OpenFile.{OpenFile}
+use Rattle.requests.specs.declared.Request.{Request}
+use Rattle.requests.specs.declared.Answer.{Answer}
+use Rattle.requests.specs.declared.Answer.the-variants.{Done, Met, Refused}
+use Rattle.steps.specs.declared.Verdict.{Verdict}
+
+-- the bytes of a file's extent as the file has them: of a blocked or compressed one the held sector, if 360 bytes are lent for it, in place of the image's
+unfoldable pub seenBytes : Entry → List ℕ → ℕ → List ℕ → List ℕ
+seenBytes e image held over = elim ((isKind blocked e || isKind compressed e) && eqb (length over) sector) [
+  | true ↦ lay (extent e image) (sector * held) over
+  | false ↦ extent e image
+]
+
+-- a request answered 0 changes entry and state; one answered 1 or 2 the position; any other nothing
+unfoldable pub entryNext : Answer → Request → Scene → Entry
+entryNext Done q c = entryDone q c
+entryNext (Met x) q c = c .entry
+entryNext (Refused x) q c = c .entry
+
+unfoldable pub fileNext : Answer → Request → Scene → OpenFile
+fileNext Done q c = fileDone q c
+fileNext (Met x) q c = fileMet x (c .file)
+fileNext (Refused x) q c = c .file
+
+-- the caller's buffer
+unfoldable pub bufferNext : Answer → Request → Scene → List ℕ → List ℕ
+bufferNext Done q c buffer = lay buffer 0 (intoBuffer q c)
+bufferNext (Met x) q c buffer = buffer
+bufferNext (Refused x) q c buffer = buffer
+
+-- `legal`: the session is legal; `files` are open; `code` is the length of the code of the bytes given
+abbrev pub answerOf : Bool → ℕ → ℕ → ℕ → Request → Scene → Answer
+answerOf legal files buffer code q c = judge q (factsWith legal files buffer code q c)
+
+unfoldable pub verdictOf : Bool → ℕ → ℕ → ℕ → Request → Scene → Verdict
+verdictOf legal files buffer code q c =
+    let a : Answer = answerOf legal files buffer code q c in
+    record { answer = a; entry = entryNext a q c; file = fileNext a q c }
