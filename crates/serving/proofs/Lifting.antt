@@ -26,11 +26,12 @@ use Rattle.sessions.specs.Session.{idle, fileOf, slotOf, openFiles, extent, leg
 use Rattle.sessions.proofs.Legal.{good-table, lawful-length, legal-length}
 use Rattle.steps.specs.Next.{Scene, factsOf, fileDone, fileMet, entryDone, counted}
 use Rattle.steps.specs.Effects.{effects, plainDo, plainAll}
+use Rattle.steps.specs.Verdict.{entryNext, fileNext}
 use Rattle.steps.proofs.Lawful.{Lawful, AllInside, ownAll}
 use Rattle.steps.proofs.Inside.{lawful, inside}
 use Rattle.steps.proofs.Frame.{length-plain, other-plain, own-plain, Unstamped, table-plain, stamps-or}
 use Rattle.tapes.specs.Model.{Model, nothing, modelAt, modelNext}
-use Rattle.serving.proofs.Solo.{shows, Sound, Serves, Solo, soloAnswer, entryNext, fileNext, bytesNext}
+use Rattle.serving.proofs.Solo.{shows, Sound, Serves, Solo, soloAnswer, bytesNext}
 use Rattle.serving.proofs.Stays.{same-next}
 use Rattle.serving.proofs.Packed.{packed}
 use Rattle.serving.proofs.Fixed.{fixed}
