@@ -37,7 +37,7 @@ use Rattle.steps.specs.Verdict.{entryNext, fileNext}
 >>>>>>> 27d88c1085a0f64a6ca985fddb779886c1aa69ae
 use Rattle.serving.proofs.Solo.{shows, Sound, Serves, Solo, soloAnswer, bytesNext}
 use Rattle.serving.proofs.Stays.{same-next}
-use Rattle.serving.proofs.Packed.{packed}
+use Rattle.serving.proofs.Packed.{packed-serves}
 use Rattle.serving.proofs.Fixed.{fixed}
 use Rattle.serving.proofs.Granules.{granules}
 use Rattle.serving.proofs.Keeping.{next-restamped, Goes, on, off, goes, Of, Answered, done, met, sessionNext, legal-next, in-entries, file-then, file-others}
