@@ -12,6 +12,7 @@ use lib.Seq.{take-at, drop-at, length-take-le, take-length, take-append-le}
 use borrow.Author.Tests.{le-leb}
 use Rattle.geometry.specs.Sizes.{blank}
 use Rattle.geometry.specs.Bytes.{padded}
+use Rattle.geometry.proofs.Bytes.{length-padded}
 use Rattle.coding.specs.Decode.{Control, control, good, before, obey, decodeFrom, decode}
 use Rattle.coding.specs.Encode.{keeps, inGap, runLength, runCode, runsCode, encode, codeOf}
 use Rattle.coding.proofs.Reader.{control-characters, control-blanks, skip}
@@ -85,10 +86,8 @@ encode-padded R given =
     ap (runsCode 0 0) (ap (λ n. take n (given ++ replicate m blank)) same ∙ take-append-le (keeps (length given) given) given (replicate m blank) (keeps-le (length given) given))
 
 pub decode-codeOf : (R : ℕ) (given rest : List ℕ) → length given ≤ R → decode R (codeOf R given ++ rest) ≡ good (padded blank R given) (length (codeOf R given))
-unfolding codeOf padded
-decode-codeOf R given rest h =
-    let size : length (given ++ replicate (R - length given) blank) ≡ R = simp (length-append, length-replicate) (omega arith) in
-    rw size at (decode-encode (given ++ replicate (R - length given) blank) rest)
+unfolding codeOf
+decode-codeOf R given rest h = rw (length-padded blank R given h) at (decode-encode (padded blank R given) rest)
 
 -- ---- the code's first byte: there is one, and it is not 128
 

@@ -58,7 +58,7 @@ decode R s = decodeFrom 0 R 0 s
 unfoldable pub run : (n room at : ℕ) → List ℕ → Decoded
 run n room at s = obey (characters n) room at s (λ k r a. decodeFrom k r a s)
 
--- "R is even and .. 2 to 132 for kind 3": what the decoder reads, which takes no record over 132
+-- "R is .. 2 to 132 for kind 3": what the decoder reads as a record of R characters; over 132 all is bad from its first byte on
 unfoldable pub reading : ℕ → List ℕ → Decoded
 reading R s = elim (leb R 132) [ true ↦ decode R s | false ↦ bad 0 ]
 
@@ -67,7 +67,7 @@ unfoldable pub answer : Decoded → Coded
 answer (good xs e) = Good e
 answer (bad k) = Bad k
 
--- a lent buffer, old before: the record at its front; a bad code leaves it as it was
+-- a lent buffer of the record's length, old before: the record; a bad code leaves it as it was
 unfoldable pub given : Decoded → List ℕ → List ℕ
 given (good xs e) old = xs
 given (bad k) old = old

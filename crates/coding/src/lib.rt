@@ -20,7 +20,8 @@ pub enum Coded {
     Bad(usize),
 }
 
-// A run of n characters, which s begins with, with its control byte at offset at; then runs of blanks again. A good record is then in out.
+// A run of n characters, which s begins with, with its control byte at offset at; then it gives over to runs of blanks.
+// A good record is then in out; what a bad code leaves there is open.
 fn characters(s: &[u8], n: usize, at: usize, out: &mut [u8]) -> Coded
     requires { ⌜ at + 1 + length (now s) < 2 ^ 64 ⌝ }
     ensures { λ r. ⌜ (r ≡ answer (run n (length (now (out .entry))) at (now (s .entry))))
@@ -36,7 +37,8 @@ fn characters(s: &[u8], n: usize, at: usize, out: &mut [u8]) -> Coded
     blanks(&s[n..], at + 1 + n, &mut out[n..])
 }
 
-// Runs of blanks, up to the record's end or to a run of characters; s begins with a control byte, at offset at. A good record is then in out.
+// Runs of blanks, up to the record's end or to a run of characters, which it gives over to; s begins with a control byte, at offset at.
+// A good record is then in out; what a bad code leaves there is open.
 fn blanks(s: &[u8], at: usize, out: &mut [u8]) -> Coded
     requires { ⌜ at + length (now s) < 2 ^ 64 ⌝ }
     ensures { λ r. ⌜ (r ≡ answer (decodeFrom 0 (length (now (out .entry))) at (now (s .entry))))
@@ -82,7 +84,8 @@ fn decode_in(s: &[u8], room: &mut [u8], out: &mut [u8]) -> Coded
     }
 }
 
-// Decodes the record that s begins with into out, whose length is the record's, at most 132. A bad code leaves out as it was.
+// Decodes the record that s begins with into out, whose length is the record's; s ends where the sector ends. A bad code leaves out as it was,
+// and a length over 132 is answered as one.
 pub fn decode(s: &[u8], out: &mut [u8]) -> Coded
     ensures { λ r. ⌜ (r ≡ answer (reading (length (now (out .entry))) (now (s .entry))))
         × (now (out .exit) ≡ given (reading (length (now (out .entry))) (now (s .entry))) (now (out .entry))) ⌝ }
@@ -138,7 +141,7 @@ fn put_run(out: &mut [u8], at: usize, gap: bool, xs: &[u8]) -> usize
     }
 }
 
-// Puts the code of x, which has no trailing blanks, into out. Returns the code's length.
+// Puts the code of all of x into out, run by run, each as long as it can be, up to 127. Returns the code's length.
 fn put_runs(x: &[u8], out: &mut [u8]) -> usize
     ensures { λ r. ⌜ (r ≡ length (runsCode 0 0 (now (x .entry)))) × (now (out .exit) ≡ sets (now (out .entry)) 0 (runsCode 0 0 (now (x .entry)))) ⌝ }
 {
@@ -180,7 +183,7 @@ fn keeps(x: &[u8]) -> usize
     0
 }
 
-// Puts the code of the record x into out, as far as out has room. Returns the code's length.
+// Puts the code of the record x into out, as far as out has room. Returns the length of the whole code.
 pub fn encode(x: &[u8], out: &mut [u8]) -> usize
     ensures { λ r. ⌜ (r ≡ length (Encode.encode (now (x .entry)))) × (now (out .exit) ≡ sets (now (out .entry)) 0 (Encode.encode (now (x .entry)))) ⌝ }
 {
