@@ -31,10 +31,6 @@ use Rattle.steps.proofs.Lawful.{Lawful, AllInside, ownAll}
 use Rattle.steps.proofs.Inside.{lawful, inside}
 use Rattle.steps.proofs.Frame.{length-plain, other-plain, own-plain, Unstamped, table-plain, stamps-or}
 use Rattle.tapes.specs.Model.{Model, nothing, modelAt, modelNext}
-<<<<<<< HEAD
-use Rattle.steps.specs.Verdict.{entryNext, fileNext}
-=======
->>>>>>> 27d88c1085a0f64a6ca985fddb779886c1aa69ae
 use Rattle.serving.proofs.Solo.{shows, Sound, Serves, Solo, soloAnswer, bytesNext}
 use Rattle.serving.proofs.Stays.{same-next}
 use Rattle.serving.proofs.Packed.{packed-serves}
@@ -60,7 +56,7 @@ use Rattle.requests.specs.declared.Request.the-variants.{Open, Read, Write, Gra
 
 pub any-serves : Solo (λ e. isFree e ≡ false)
 any-serves files buffer q c used v =
-    either (isKind compressed (c .entry)) (λ (k : isKind compressed (c .entry) ≡ true). packed files buffer q c k v)
+    either (isKind compressed (c .entry)) (λ (k : isKind compressed (c .entry) ≡ true). packed-serves files buffer q c k v)
     λ (k : isKind compressed (c .entry) ≡ false). either (isKind random (c .entry)) (λ (r : isKind random (c .entry) ≡ true). granules files buffer q c r v)
     λ (r : isKind random (c .entry) ≡ false). fixed files buffer q c (k, r) v
 
@@ -111,7 +107,7 @@ module _ (image : List ℕ) (s : Session) (v : Stands image s) (i : ℕ) (used :
   n = openFiles (s .files)
 
   -- the image behind it
-  met-moves : (x : Edge) → Moves image image s i (Met x) q c
+  pub met-moves : (x : Edge) → Moves image image s i (Met x) q c
   unfolding fileNext bytesNext fileMet
   met-moves x = record {
     long = refl;
@@ -174,7 +170,7 @@ module _ (image : List ℕ) (s : Session) (v : Stands image s) (i : ℕ) (used :
             rw (← (stamped-in image i (c .entry .count) (c .entry .flags) few))
             (stamp-table image i (c .entry .count) (c .entry .flags) few (w .words) (omega (arith, lawful-whole image ok, lawful-some image ok)))
 
-    done-moves : Moves image image′ s i Done q c
+    pub done-moves : Moves image image′ s i Done q c
     unfolding bytesNext
     done-moves = record {
       long = length-plain c (effects q c) image;
