@@ -10,3 +10,4 @@ pub mod Granules
 pub mod Keeping
 pub mod View
 pub mod Lifting
+pub mod Step

@@ -107,7 +107,7 @@ module _ (image : List ℕ) (s : Session) (v : Stands image s) (i : ℕ) (used :
   n = openFiles (s .files)
 
   -- the image behind it
-  met-moves : (x : Edge) → Moves image image s i (Met x) q c
+  pub met-moves : (x : Edge) → Moves image image s i (Met x) q c
   unfolding fileNext bytesNext fileMet
   met-moves x = record {
     long = refl;
@@ -170,7 +170,7 @@ module _ (image : List ℕ) (s : Session) (v : Stands image s) (i : ℕ) (used :
             rw (← (stamped-in image i (c .entry .count) (c .entry .flags) few))
             (stamp-table image i (c .entry .count) (c .entry .flags) few (w .words) (omega (arith, lawful-whole image ok, lawful-some image ok)))
 
-    done-moves : Moves image image′ s i Done q c
+    pub done-moves : Moves image image′ s i Done q c
     unfolding bytesNext
     done-moves = record {
       long = length-plain c (effects q c) image;
