@@ -11,3 +11,4 @@ pub mod Keeping
 pub mod View
 pub mod Lifting
 pub mod Step
+pub mod Mounted

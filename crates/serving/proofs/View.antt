@@ -91,11 +91,15 @@ module _ (image : List ℕ) (s : Session) where
             both-ways (isFree (entryAt (s .table) i)) e (rw (← f, n) at w)
         go (closed f k b) = ap (λ (g : OpenFile). g .used) f
 
+    pub open-at : (i : ℕ) → isOpenModel (showsAt image s i) ≡ fileOf (s .files) i .used
+    unfolding showsAt
+    open-at i = open-shows (entryAt (s .table) i) (fileOf (s .files) i) _ (free-shut i)
+
     pub open-view : openFiles (s .files) ≡ openModels (view image s)
-    unfolding view openModels showsAt
+    unfolding view openModels
     open-view =
         open-count entries (s .files) (distinct image s ok) (entry-inside image s ok)
-        ∙ many-alike _ _ 0 entries (λ i l k. sym (open-shows (entryAt (s .table) i) (fileOf (s .files) i) _ (free-shut i)))
+        ∙ many-alike _ _ 0 entries (λ i l k. sym (open-at i))
         ∙ sym (many-map isOpenModel (showsAt image s) (numbersFrom 0 entries))
 
     pub spot-view : (i : ℕ) → (isFree (entryAt (s .table) i) ≡ false → Lawful (entryAt (s .table) i) (fileOf (s .files) i)) → spotOf s i ≡ modelSpot (showsAt image s i)
