@@ -1,38 +1,36 @@
 -- A mounted session shows what the image shows, and so does every session with nothing open: mounting its image afresh gives the same tapes and rows.
-use mathlib.Core.Path.{_≡_, refl, sym, ap, _∙_, subst}
-use mathlib.Core.Bool.{Bool, true, false, _&&_, _||_, not}
-use mathlib.Core.List.{List, [], _∷_, map}
-use Prim.Native.Nat.{ℕ, _+_, _*_, _≤_, _<_}
+use mathlib.Core.Path.{_≡_, refl, sym, _∙_}
+use mathlib.Core.Bool.{true, false, not}
+use mathlib.Core.List.{List, map}
+use Prim.Native.Nat.{ℕ, _*_}
 use native.Mathlib.Omega.{arith}
-use lib.ListN.{length, getD, replicate, length-map, List·getD-map}
+use lib.ListN.{getD, replicate, length-map, List·getD-map}
 use lib.Seq.{ext-getD}
 use borrow.Author.Tests.{eqb-true, eqb-false, ne-eqb, not-true}
 use Rattle.geometry.specs.Bytes.{word}
 use Rattle.geometry.specs.Lists.{all, every, pairwise, firstWith, howMany}
-use Rattle.geometry.specs.Sizes.{sector, entries, compressed, mostOpen, sectorsOf, free, lawfulLength}
+use Rattle.geometry.specs.Sizes.{sector, entries, compressed, sectorsOf, free, lawfulLength}
 use Rattle.geometry.specs.Places.{capacity}
 use Rattle.geometry.proofs.Bytes.{length-part}
 use Rattle.geometry.proofs.Places.{lawful-whole}
-use Rattle.geometry.proofs.Tests.{either, both-ways, and-left, and-right, and-both, every-getD, every-any, every-from}
-use Rattle.directory.specs.Entries.{entryBytes, tableOf, entryAt, freeEntry, isFree, isKind, isMarked}
+use Rattle.geometry.proofs.Tests.{either, both-ways, and-left, and-right, and-both, every-any, every-from}
+use Rattle.directory.specs.Entries.{entryBytes, tableOf, entryAt, freeEntry, isFree, isKind}
 use Rattle.directory.specs.Rules.{kindKnown, freeIsZero, nameGood, namesDiffer, extentInside, extentsApart, flagsKnown, lengthGood, countGood, randomBare, tableRules, tableGood}
 use Rattle.directory.proofs.Good.{Lies, lies}
 use Rattle.directory.proofs.Table.{length-table}
-use Rattle.packing.specs.Reading.{decodes, recordsOf, behind, behindFrom}
+use Rattle.packing.specs.Reading.{behind, behindFrom}
 use Rattle.sessions.specs.Session.{idle, isOf, fileOf, openFiles, extent, ofUsedEntry, ofOther, positionGood, beyondGood, placesGood, sessionRules, legal}
 use Rattle.sessions.proofs.Legal.{lawful-length, good-table}
 use Rattle.sessions.proofs.Distinct.{file-idle}
-use Rattle.mounting.specs.Mounting.{countedWalk, countDecodes, mounts, startWith, plainMount}
-use Rattle.steps.proofs.Lawful.{Lawful}
+use Rattle.mounting.specs.Mounting.{countDecodes, mounts, startWith, plainMount}
 use Rattle.steps.proofs.Inside.{lawful}
 use Rattle.tapes.specs.Tape.{tapeOf}
 use Rattle.tapes.specs.Row.{rowOf}
-use Rattle.tapes.specs.Model.{Model, nothing, shapeOf, modelOf, modelsOf, isOpenModel, nothingOpen, modelAt}
+use Rattle.tapes.specs.Model.{Model, nothing, shapeOf, modelOf, modelsOf, isOpenModel, nothingOpen}
 use Rattle.serving.proofs.Solo.{shows, Sound}
 use Rattle.serving.proofs.View.{showsAt, view, length-view, view-at, open-at}
 use Rattle.serving.proofs.Lifting.{Stands}
 use Rattle.directory.specs.declared.Entry.{Entry}
-use Rattle.sessions.specs.declared.OpenFile.{OpenFile}
 use Rattle.sessions.specs.declared.Session.{Session}
 
 -- ---- a session with nothing open

@@ -1,8 +1,8 @@
 -- One request in the plain engine, on any entry number: the answer, the bytes moved and what the session then shows are those of the tapes and rows
 -- that it shows; and what holds from a mounting on still holds.
-use mathlib.Core.Path.{_≡_, refl, sym, ap, _∙_, subst}
-use mathlib.Core.Bool.{Bool, true, false}
-use mathlib.Core.List.{List, [], _∷_}
+use mathlib.Core.Path.{_≡_, refl, sym, ap, _∙_}
+use mathlib.Core.Bool.{true, false}
+use mathlib.Core.List.{List}
 use Prim.Native.Nat.{ℕ, _+_, _*_, _≤_, _<_}
 use native.Mathlib.Omega.{arith}
 use lib.Dec.{eqb}
@@ -17,24 +17,21 @@ use Rattle.geometry.proofs.Places.{record-inside}
 use Rattle.geometry.proofs.Tests.{either}
 use Rattle.directory.specs.Entries.{entryAt, freeEntry, isFree, isKind}
 use Rattle.requests.specs.Judge.{judge, tests, firstOf, orElse, whether}
-use Rattle.requests.proofs.Done.{Tells, judge-tells, Finds, done-allows, met-meets}
-use Rattle.requests.proofs.Live.{Real, live-real, done-real, met-live}
-use Rattle.sessions.specs.Session.{fileOf, slotOf, openFiles, extent, legal}
-use Rattle.steps.specs.Next.{Scene, factsOf, fixedAt, intoBuffer}
-use Rattle.steps.specs.Effects.{effects, plainAll}
+use Rattle.requests.proofs.Done.{Finds, done-allows, met-meets}
+use Rattle.requests.proofs.Live.{done-real, met-live}
+use Rattle.sessions.specs.Session.{openFiles, extent, legal}
+use Rattle.steps.specs.Next.{Scene, factsOf, fixedAt}
 use Rattle.steps.specs.Look.{shown, plainLookAnswer, plainLook}
 use Rattle.steps.specs.Step.{After, plainScene, plainAnswer, plainAfter, plainStep}
 use Rattle.steps.specs.Verdict.{entryNext, fileNext}
 use Rattle.steps.proofs.Lawful.{Lawful}
 use Rattle.tapes.specs.Tape.{tapeNext}
 use Rattle.tapes.specs.Row.{rowNext}
-use Rattle.tapes.specs.Model.{Model, nothing, tape, row, Asked, modelAt, modelFacts, modelNext, modelInto, modelShown, modelGranule, openModels, modelAnswer, modelStep, ifDone}
-use Rattle.serving.proofs.Solo.{shows, Sound, Serves, soloAnswer}
-use Rattle.serving.proofs.Keeping.{Answered, done, met, sessionNext}
+use Rattle.tapes.specs.Model.{Model, nothing, tape, row, Asked, modelAt, modelFacts, modelNext, modelInto, modelShown, modelAnswer, modelStep, ifDone}
+use Rattle.serving.proofs.Solo.{shows, Serves, soloAnswer}
+use Rattle.serving.proofs.Keeping.{Answered, done, met}
 use Rattle.serving.proofs.View.{showsAt, view, shows-free, view-at, open-view}
 use Rattle.serving.proofs.Lifting.{any-serves, Stands, sceneOf, met-moves, done-moves, stands-next, view-next}
-use Rattle.directory.specs.declared.Entry.{Entry}
-use Rattle.sessions.specs.declared.OpenFile.{OpenFile}
 use Rattle.sessions.specs.declared.Session.{Session}
 use Rattle.requests.specs.declared.Answer.{Answer}
 use Rattle.requests.specs.declared.Answer.the-variants.{Done, Met, Refused}
