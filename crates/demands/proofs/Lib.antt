@@ -1,2 +1,3 @@
 pub mod Orderly
 pub mod Illegal
+pub mod Plain
