@@ -32,7 +32,7 @@ use Rattle.steps.proofs.Frame.{length-plain, other-plain, own-plain, Unstamped,
 use Rattle.tapes.specs.Model.{Model, nothing, modelAt, modelNext}
 use Rattle.serving.proofs.Solo.{shows, Sound, Serves, Solo, soloAnswer, bytesNext}
 use Rattle.serving.proofs.Stays.{same-next}
-use Rattle.serving.proofs.Packed.{packed}
+use Rattle.serving.proofs.Packed.{packed-serves}
 use Rattle.serving.proofs.Fixed.{fixed}
 use Rattle.serving.proofs.Granules.{granules}
 use Rattle.serving.proofs.Keeping.{Goes, on, off, goes, Of, Answered, done, sessionNext, legal-next, in-entries, file-then, file-others}
@@ -52,7 +52,7 @@ use Rattle.requests.specs.declared.Request.the-variants.{Position}
 
 pub any-serves : Solo (λ e. isFree e ≡ false)
 any-serves files buffer q c used v =
-    either (isKind compressed (c .entry)) (λ (k : isKind compressed (c .entry) ≡ true). packed files buffer q c k v)
+    either (isKind compressed (c .entry)) (λ (k : isKind compressed (c .entry) ≡ true). packed-serves files buffer q c k v)
     λ (k : isKind compressed (c .entry) ≡ false). either (isKind random (c .entry)) (λ (r : isKind random (c .entry) ≡ true). granules files buffer q c r v)
     λ (r : isKind random (c .entry) ≡ false). fixed files buffer q c (k, r) v
 

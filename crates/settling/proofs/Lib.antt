@@ -5,3 +5,5 @@ pub mod Standing
 pub mod Scene
 pub mod Served
 pub mod Step
+pub mod Begin
+pub mod Look

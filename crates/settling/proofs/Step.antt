@@ -128,7 +128,7 @@ module _ (image : List ℕ) (s : BufferedSession) (ok : Kept image s) (i : ℕ) 
   found = record { image = image; file = heldOf s i }
 
   -- a file that is open has a state, of this entry
-  live-slot : (q : Request) → Live (facts q) → Slot image s i (slotOf (bare s .files) i) (heldOf s i) × (fileOf (bare s .files) i .used ≡ true) × (fileOf (bare s .files) i .entry ≡ i)
+  pub live-slot : (q : Request) → Live (facts q) → Slot image s i (slotOf (bare s .files) i) (heldOf s i) × (fileOf (bare s .files) i .used ≡ true) × (fileOf (bare s .files) i .entry ≡ i)
   unfolding factsOf
   live-slot q l = go (standing s i)
     where
