@@ -1,3 +1,4 @@
 pub mod Orderly
 pub mod Illegal
 pub mod Plain
+pub mod Untouched

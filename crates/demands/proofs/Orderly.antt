@@ -2,13 +2,12 @@
 -- caller's buffer are one record or granule, which has at most R bytes. A plain session holds nothing, so it answers as the buffered one does.
 use mathlib.Core.Path.{_≡_, refl, sym, ap, _∙_}
 use mathlib.Core.Bool.{Bool, true, false}
-use mathlib.Core.List.{List, [], _∷_, _++_, map}
+use mathlib.Core.List.{List, [], _∷_, map}
 use Prim.Native.Nat.{ℕ, zero, suc, _+_, _-_, _≤_}
-use native.Mathlib.Nat.{not-suc-le-zero}
 use native.Mathlib.Omega.{arith}
-use lib.Dec.{leb, ltb}
+use lib.Dec.{ltb}
 use lib.Seq.{getD-drop}
-use lib.ListN.{length, drop, getD, set, List·getD-map}
+use lib.ListN.{length, length-drop, drop, getD, set, List·getD-map}
 use Rattle.geometry.specs.Bytes.{part, lay}
 use Rattle.geometry.specs.Places.{placeOf, byteOf}
 use Rattle.geometry.specs.Sizes.{sector, compressed}

@@ -60,11 +60,11 @@ module _ (w : Standing Session) (v : Stands (w .image) (w .session)) (a : Asked)
   abbrev w′ : Standing Session
   w′ = stepOf plainEngine w a
 
-  stands-then : Stands (w′ .image) (w′ .session)
+  pub stands-then : Stands (w′ .image) (w′ .session)
   unfolding stepOf answered
   stands-then = stands-step (w .image) (w .session) v (a .entry) (a .given) (a .request) (a .buffer)
 
-  view-then : view (w′ .image) (w′ .session) ≡ modelStep ms a
+  pub view-then : view (w′ .image) (w′ .session) ≡ modelStep ms a
   unfolding stepOf answered
   view-then = view-step (w .image) (w .session) v (a .entry) (a .given) (a .request) (a .buffer)
 

@@ -30,9 +30,7 @@ use Rattle.steps.proofs.Frame.{Elsewhere, elsewhere-plain}
 use Rattle.steps.proofs.Inside.{lawful, inside}
 use Rattle.steps.proofs.Lawful.{Lawful}
 use Rattle.serving.proofs.Stays.{same-next}
-use Rattle.tapes.specs.Tape.{tapeNext}
-use Rattle.tapes.specs.Row.{rowNext}
-use Rattle.tapes.specs.Model.{Model, nothing, tape, row, Asked, modelAt, modelFacts, modelNext, modelInto, modelShown, modelAnswer, modelStep, ifDone}
+use Rattle.tapes.specs.Model.{Model, nothing, Asked, modelAt, modelFacts, modelNext, modelInto, modelShown, modelAnswer, modelStep, ifDone}
 use Rattle.tapes.proofs.Opened.{refused-stays}
 use Rattle.serving.proofs.Solo.{shows, Serves, soloAnswer}
 use Rattle.serving.proofs.Keeping.{Answered, done, met}
@@ -45,7 +43,6 @@ use Rattle.requests.specs.declared.Answer.the-variants.{Done, Met, Refused}
 use Rattle.requests.specs.declared.Edge.{Edge}
 use Rattle.requests.specs.declared.Facts.{Facts}
 use Rattle.requests.specs.declared.Order.the-variants.{WriteMark, RewindOnline, RewindOffline, RecordForward, RecordBack, FileForward, FileBack}
-use Rattle.requests.specs.declared.Refusal.{Refusal}
 use Rattle.requests.specs.declared.Refusal.the-variants.{NotThere}
 use Rattle.requests.specs.declared.Request.{Request}
 use Rattle.requests.specs.declared.Request.the-variants.{Open, Read, Write, GranuleRead, GranuleWrite, GranuleLook, Position}

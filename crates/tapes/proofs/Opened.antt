@@ -1,5 +1,5 @@
 -- Only an opening answered 0 makes a file open that was not.
-use mathlib.Core.Path.{_≡_, refl, ap, _∙_}
+use mathlib.Core.Path.{_≡_, refl, ap}
 use mathlib.Core.Logic.{_⊎_, inl, inr}
 use mathlib.Core.Bool.{true}
 use mathlib.Core.List.{List}
@@ -7,10 +7,9 @@ use Prim.Native.Nat.{ℕ, _<_}
 use native.Mathlib.Omega.{arith}
 use native.Mathlib.Decide.{decLt, ℕ-discrete}
 use lib.Dec.{eqb}
-use lib.ListN.{length, set}
+use lib.ListN.{length}
 use lib.Seq.{getD-set-same, getD-set-other, set-out}
 use Rattle.geometry.proofs.Tests.{and-both}
-use Rattle.requests.specs.Judge.{judge}
 use Rattle.requests.specs.Numbers.{numberOf}
 use Rattle.requests.proofs.Done.{Live, done-allows, met-meets}
 use Rattle.requests.proofs.Live.{Alive, done-live, met-live}
