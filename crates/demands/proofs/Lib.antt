@@ -2,3 +2,5 @@ pub mod Orderly
 pub mod Illegal
 pub mod Plain
 pub mod Untouched
+pub mod Answers
+pub mod ReadsBack
