@@ -4,3 +4,4 @@ pub mod Plain
 pub mod Untouched
 pub mod Answers
 pub mod ReadsBack
+pub mod Counts

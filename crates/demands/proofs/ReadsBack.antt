@@ -1,12 +1,12 @@
 -- What is written reads back, and a lawful write is refused for want of room alone: of every faithful engine, since it is so of the tapes.
-use mathlib.Core.Path.{_≡_, refl, sym, ap, _∙_, subst}
-use mathlib.Core.Bool.{Bool, true, false, _&&_, _||_, not}
+use mathlib.Core.Path.{_≡_, refl, sym, ap, _∙_}
+use mathlib.Core.Bool.{Bool, true, false, _||_}
 use mathlib.Core.List.{List, [], _∷_, _++_, append-nil}
 use Prim.Native.Nat.{ℕ, zero, suc, _+_, _≤_, _<_}
 use native.Mathlib.Omega.{arith}
 use native.Mathlib.Decide.{decLt}
-use lib.Dec.{eqb, leb, ltb}
-use lib.ListN.{length, take, drop, getD, replicate, length-append, drop-of-length-le, List·getD-eq-default}
+use lib.Dec.{eqb, leb}
+use lib.ListN.{length, take, replicate, length-append, drop-of-length-le, List·getD-eq-default}
 use lib.Seq.{length-take-le, getD-at, getD-set-same}
 use borrow.Author.Tests.{lt-leb, le-ltb}
 use Rattle.geometry.specs.Bytes.{lay, padded}
@@ -15,7 +15,7 @@ use Rattle.geometry.specs.Sizes.{free, random, mostRecords}
 use Rattle.geometry.proofs.Bytes.{lay-fits, length-padded}
 use Rattle.geometry.proofs.Tests.{both-ways, and-left, and-right}
 use Rattle.requests.specs.Judge.{Test, noRoom, isFull, judge, tests, firstOf, orElse, whether}
-use Rattle.requests.proofs.Done.{Live, Running, Writes, done-allows}
+use Rattle.requests.proofs.Done.{Writes, done-allows}
 use Rattle.mounting.specs.Mounting.{mounts}
 use Rattle.tapes.specs.Tape.{Tape, padByte, tapeFacts, tapeDone, tapeNext, tapeRecord, newRecord}
 use Rattle.tapes.specs.Model.{Model, nothing, tape, Asked, modelAt, modelsOf, modelFacts, modelNext, modelRecord, modelInto, modelAnswer, modelStep, modelRun, openModels, ifDone}
@@ -31,7 +31,7 @@ use Rattle.requests.specs.declared.Facts.{Facts}
 use Rattle.requests.specs.declared.Refusal.the-variants.{NoRoom}
 use Rattle.requests.specs.declared.Order.the-variants.{RewindOnline, RecordForward}
 use Rattle.requests.specs.declared.Request.{Request}
-use Rattle.requests.specs.declared.Request.the-variants.{Open, Read, Write, GranuleRead, GranuleWrite, GranuleLook, Position}
+use Rattle.requests.specs.declared.Request.the-variants.{Read, Write, Position}
 
 -- ---- one request on a tape
 
@@ -46,11 +46,11 @@ module _ (ms : List Model) (i : ℕ) (t : Tape) (e : modelAt ms i ≡ tape t) wh
           absurd (let o : _≡_ {A = ℕ} 0 1 = cc in omega arith)
 
   module _ (q : Request) (given buffer : List ℕ) where
-    tape-answer : modelAnswer ms (asked i q given buffer) ≡ judge q (tapeFacts (openModels ms) given (length buffer) t)
+    pub tape-answer : modelAnswer ms (asked i q given buffer) ≡ judge q (tapeFacts (openModels ms) given (length buffer) t)
     unfolding modelAnswer modelFacts
     tape-answer = rw e
 
-    tape-step : judge q (tapeFacts (openModels ms) given (length buffer) t) ≡ Done → modelAt (modelStep ms (asked i q given buffer)) i ≡ tape (tapeDone q given t)
+    pub tape-step : judge q (tapeFacts (openModels ms) given (length buffer) t) ≡ Done → modelAt (modelStep ms (asked i q given buffer)) i ≡ tape (tapeDone q given t)
     unfolding modelStep modelNext tapeNext
     tape-step d = getD-set-same ms i _ nothing there ∙ rw (tape-answer, d, e)
 
