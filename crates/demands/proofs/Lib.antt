@@ -5,3 +5,4 @@ pub mod Untouched
 pub mod Answers
 pub mod ReadsBack
 pub mod Counts
+pub mod Impostors
