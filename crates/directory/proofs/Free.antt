@@ -11,7 +11,7 @@ use Rattle.geometry.specs.Bytes.{word}
 use Rattle.directory.specs.declared.Entry.{Entry}
 use Rattle.directory.specs.Entries.{entryBytes}
 
-every-append : {A : Type 0} (p : A → Bool) (xs ys : List A) → every p (xs ++ ys) ≡ (every p xs && every p ys)
+pub every-append : {A : Type 0} (p : A → Bool) (xs ys : List A) → every p (xs ++ ys) ≡ (every p xs && every p ys)
 unfolding every
 every-append p [] ys = refl
 every-append p (x ∷ xs) ys = rw (every-append p xs ys, and-assoc (p x) (every p xs) (every p ys))

@@ -13,22 +13,25 @@ use lib.Seq.{getD-set-same, getD-set-other, ext-getD, set-getD}
 use borrow.Author.Tests.{eqb-false}
 use Rattle.geometry.specs.Bytes.{lay}
 use Rattle.geometry.specs.Sizes.{entries, compressed, random, mostOpen, sectorsOf, free, lawfulLength}
+use Rattle.geometry.proofs.Places.{lawful-whole, lawful-some}
 use Rattle.geometry.proofs.Tests.{either, both-ways}
 use Rattle.directory.specs.Entries.{entryAt, tableOf, freeEntry, isFree, isKind}
 use Rattle.directory.specs.Stamp.{stampBytes, stamped, restamped}
 use Rattle.directory.proofs.Good.{Lies, lies, extents-apart}
 use Rattle.directory.proofs.Table.{length-table}
+use Rattle.directory.proofs.Stamped.{stamped-in, stamp-table}
 use Rattle.requests.specs.Judge.{judge, tests, firstOf}
 use Rattle.requests.proofs.Done.{Tells, judge-tells, done-allows}
 use Rattle.sessions.specs.Session.{idle, fileOf, slotOf, openFiles, extent, legal}
 use Rattle.sessions.proofs.Legal.{good-table, lawful-length, legal-length}
 use Rattle.steps.specs.Next.{Scene, factsOf, fileDone, fileMet, entryDone, counted}
 use Rattle.steps.specs.Effects.{effects, plainDo, plainAll}
+use Rattle.steps.specs.Verdict.{entryNext, fileNext}
 use Rattle.steps.proofs.Lawful.{Lawful, AllInside, ownAll}
 use Rattle.steps.proofs.Inside.{lawful, inside}
 use Rattle.steps.proofs.Frame.{length-plain, other-plain, own-plain, Unstamped, table-plain, stamps-or}
 use Rattle.tapes.specs.Model.{Model, nothing, modelAt, modelNext}
-use Rattle.serving.proofs.Solo.{shows, Sound, Serves, Solo, soloAnswer, entryNext, fileNext, bytesNext}
+use Rattle.serving.proofs.Solo.{shows, Sound, Serves, Solo, soloAnswer, bytesNext}
 use Rattle.serving.proofs.Stays.{same-next}
 use Rattle.serving.proofs.Packed.{packed-serves}
 use Rattle.serving.proofs.Fixed.{fixed}
@@ -48,10 +51,6 @@ use Rattle.requests.specs.declared.Refusal.{Refusal}
 use Rattle.requests.specs.declared.Refusal.the-variants.{NotThere}
 use Rattle.requests.specs.declared.Request.{Request}
 use Rattle.requests.specs.declared.Request.the-variants.{Open, Read, Write, GranuleRead, GranuleWrite, GranuleLook, Position}
-
-stamp-table : (image : List ℕ) (i count flags : ℕ) → i < entries → 360 ≤ length image → count < 65536 → flags < 65536
-    → tableOf (lay image (20 * i + 16) (stampBytes count flags)) ≡ set (tableOf image) i (restamped (entryAt (tableOf image) i) count flags)
-stamp-table image i count flags h l k g = ?
 
 -- ---- every kind
 
@@ -108,7 +107,7 @@ module _ (image : List ℕ) (s : Session) (v : Stands image s) (i : ℕ) (used :
   n = openFiles (s .files)
 
   -- the image behind it
-  met-moves : (x : Edge) → Moves image image s i (Met x) q c
+  pub met-moves : (x : Edge) → Moves image image s i (Met x) q c
   unfolding fileNext bytesNext fileMet
   met-moves x = record {
     long = refl;
@@ -168,9 +167,10 @@ module _ (image : List ℕ) (s : Session) (v : Stands image s) (i : ℕ) (used :
         table : tableOf (lay image (20 * i + 16) (stampBytes (c .entry .count) (c .entry .flags))) ≡ set (tableOf image) i (restamped (entryAt (tableOf image) i) (c .entry .count) (c .entry .flags))
         table =
             let ok : lawfulLength image ≡ true = lawful-length image s (v .ok) in
-            stamp-table image i (c .entry .count) (c .entry .flags) few (omega (arith, lawful-sectors image ok, lawful-some image ok)) (omega (arith, w .words)) (omega (arith, w .flags))
+            rw (← (stamped-in image i (c .entry .count) (c .entry .flags) few))
+            (stamp-table image i (c .entry .count) (c .entry .flags) few (w .words) (omega (arith, lawful-whole image ok, lawful-some image ok)))
 
-    done-moves : Moves image image′ s i Done q c
+    pub done-moves : Moves image image′ s i Done q c
     unfolding bytesNext
     done-moves = record {
       long = length-plain c (effects q c) image;
