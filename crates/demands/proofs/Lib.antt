@@ -1,2 +1,4 @@
 pub mod Orderly
 pub mod Illegal
+pub mod Settled
+pub mod Buffering

@@ -1,0 +1,208 @@
+-- One request in the plain engine, on any entry number: the answer, the bytes moved and what the session then shows are those of the tapes and rows
+-- that it shows; and what holds from a mounting on still holds.
+use mathlib.Core.Path.{_≡_, refl, sym, ap, _∙_}
+use mathlib.Core.Bool.{true, false}
+use mathlib.Core.List.{List}
+use Prim.Native.Nat.{ℕ, _+_, _*_, _≤_, _<_}
+use native.Mathlib.Omega.{arith}
+use lib.Dec.{eqb}
+use lib.ListN.{length, set}
+use lib.Seq.{set-getD}
+use borrow.Author.Tests.{eqb-true}
+use Rattle.geometry.specs.Bytes.{part, lay}
+use Rattle.geometry.specs.Sizes.{sector, random, free}
+use Rattle.geometry.specs.Places.{placeOf, byteOf, capacity}
+use Rattle.geometry.proofs.Bytes.{lay-nil, part-part}
+use Rattle.geometry.proofs.Places.{record-inside}
+use Rattle.geometry.proofs.Tests.{either}
+use Rattle.directory.specs.Entries.{entryAt, freeEntry, isFree, isKind}
+use Rattle.requests.specs.Judge.{judge, tests, firstOf, orElse, whether}
+use Rattle.requests.proofs.Done.{Finds, done-allows, met-meets}
+use Rattle.requests.proofs.Live.{done-real, met-live}
+use Rattle.sessions.specs.Session.{openFiles, extent, legal}
+use Rattle.steps.specs.Next.{Scene, factsOf, fixedAt}
+use Rattle.steps.specs.Look.{shown, plainLookAnswer, plainLook}
+use Rattle.steps.specs.Step.{After, plainScene, plainAnswer, plainAfter, plainStep}
+use Rattle.steps.specs.Verdict.{entryNext, fileNext}
+use Rattle.steps.proofs.Lawful.{Lawful}
+use Rattle.tapes.specs.Tape.{tapeNext}
+use Rattle.tapes.specs.Row.{rowNext}
+use Rattle.tapes.specs.Model.{Model, nothing, tape, row, Asked, modelAt, modelFacts, modelNext, modelInto, modelShown, modelAnswer, modelStep, ifDone}
+use Rattle.serving.proofs.Solo.{shows, Serves, soloAnswer}
+use Rattle.serving.proofs.Keeping.{Answered, done, met}
+use Rattle.serving.proofs.View.{showsAt, view, shows-free, view-at, open-view}
+use Rattle.serving.proofs.Lifting.{any-serves, Stands, sceneOf, met-moves, done-moves, stands-next, view-next}
+use Rattle.sessions.specs.declared.Session.{Session}
+use Rattle.requests.specs.declared.Answer.{Answer}
+use Rattle.requests.specs.declared.Answer.the-variants.{Done, Met, Refused}
+use Rattle.requests.specs.declared.Edge.{Edge}
+use Rattle.requests.specs.declared.Facts.{Facts}
+use Rattle.requests.specs.declared.Order.the-variants.{WriteMark, RewindOnline, RewindOffline, RecordForward, RecordBack, FileForward, FileBack}
+use Rattle.requests.specs.declared.Refusal.{Refusal}
+use Rattle.requests.specs.declared.Refusal.the-variants.{NotThere}
+use Rattle.requests.specs.declared.Request.{Request}
+use Rattle.requests.specs.declared.Request.the-variants.{Open, Read, Write, GranuleRead, GranuleWrite, GranuleLook, Position}
+
+-- 8 "no such entry"
+not-there : (q : Request) (f : Facts) → f .legal ≡ true → eqb (f .kind) free ≡ true → judge q f ≡ Refused NotThere
+unfolding judge tests firstOf orElse whether
+not-there Open f l k = rw (l, k)
+not-there Read f l k = rw (l, k)
+not-there Write f l k = rw (l, k)
+not-there (GranuleRead g) f l k = rw (l, k)
+not-there (GranuleWrite g) f l k = rw (l, k)
+not-there (GranuleLook g) f l k = rw (l, k)
+not-there (Position WriteMark) f l k = rw (l, k)
+not-there (Position RewindOnline) f l k = rw (l, k)
+not-there (Position RewindOffline) f l k = rw (l, k)
+not-there (Position RecordForward) f l k = rw (l, k)
+not-there (Position RecordBack) f l k = rw (l, k)
+not-there (Position FileForward) f l k = rw (l, k)
+not-there (Position FileBack) f l k = rw (l, k)
+
+-- a refusal leaves a tape or row as it is
+refused-stays : (q : Request) (x : Refusal) (given : List ℕ) (m : Model) → modelNext q (Refused x) given m ≡ m
+unfolding modelNext tapeNext rowNext
+refused-stays q x given nothing = refl
+refused-stays q x given (tape t) = refl
+refused-stays q x given (row w) = refl
+
+abbrev pub asked : ℕ → Request → List ℕ → List ℕ → Asked
+asked i q given buffer = record { entry = i; request = q; given = given; buffer = buffer }
+
+module _ (image : List ℕ) (s : Session) (v : Stands image s) (i : ℕ) (given : List ℕ) where
+  abbrev c : Scene
+  c = sceneOf image s i given
+
+  abbrev n : ℕ
+  n = openFiles (s .files)
+
+  abbrev ms : List Model
+  ms = view image s
+
+  module _ (q : Request) (buffer : List ℕ) where
+    -- the session is legal, so the file is judged as it is by itself
+    by-itself : plainAnswer image s i q given (length buffer) ≡ soloAnswer n (length buffer) q c
+    unfolding plainAnswer plainScene
+    by-itself = rw (v .ok)
+
+    serves-here : isFree (entryAt (s .table) i) ≡ false → Serves n (length buffer) q c (showsAt image s i) (soloAnswer n (length buffer) q c)
+    unfolding showsAt
+    serves-here u = any-serves n (length buffer) q c u (v .sound i u)
+
+    pub answer-same : plainAnswer image s i q given (length buffer) ≡ modelAnswer ms (asked i q given buffer)
+    unfolding modelAnswer
+    answer-same =
+        by-itself
+        ∙ either (isFree (entryAt (s .table) i)) free-entry (λ (u : isFree (entryAt (s .table) i) ≡ false). ap (judge q) (serves-here u .judged))
+        ∙ rw (open-view image s (v .ok), view-at image s (v .many) i)
+      where
+        free-entry : isFree (entryAt (s .table) i) ≡ true → soloAnswer n (length buffer) q c ≡ judge q (modelFacts n given (length buffer) (showsAt image s i))
+        free-entry u =
+            let m : showsAt image s i ≡ nothing = unfold showsAt in shows-free (entryAt (s .table) i) _ _ u in
+            not-there q (factsOf true n (length buffer) q c) (unfold factsOf in refl) (unfold factsOf in u)
+            ∙ sym (rw m (not-there q (modelFacts n given (length buffer) nothing) (unfold modelFacts in refl) (unfold modelFacts in refl)))
+
+    -- ---- what the session then shows
+
+    -- the step with its answer known
+    abbrev after : Answer → After Session
+    after a = plainAfter a image s q c buffer
+
+    -- an answer 0, 1 or 2 is for a used entry
+    used-done : soloAnswer n (length buffer) q c ≡ Done → isFree (entryAt (s .table) i) ≡ false
+    unfolding factsOf
+    used-done e = done-real q _ (done-allows q _ e) .used
+
+    used-met : (x : Edge) → soloAnswer n (length buffer) q c ≡ Met x → isFree (entryAt (s .table) i) ≡ false
+    unfolding factsOf
+    used-met x e = met-live _ q x (met-meets q _ x e) .used
+
+    record Behind (a : Answer) : Type 0 where
+      stands : Stands (after a .image) (after a .session)
+      shows : view (after a .image) (after a .session) ≡ set ms i (modelNext q a given (modelAt ms i))
+
+    behind-next : (a : Answer) → soloAnswer n (length buffer) q c ≡ a → Behind a
+    unfolding plainAfter entryNext fileNext
+    behind-next Done e =
+        let u : isFree (entryAt (s .table) i) ≡ false = used-done e in
+        let t : Answered q n (length buffer) c Done = done (done-allows q _ e) in
+        record {
+          stands = stands-next image s v i u given (length buffer) q Done e t _ (done-moves image s v i u given (length buffer) q e);
+          shows = view-next image s v i u given (length buffer) q Done e t _ (done-moves image s v i u given (length buffer) q e);
+        }
+    behind-next (Met x) e =
+        let u : isFree (entryAt (s .table) i) ≡ false = used-met x e in
+        let t : Answered q n (length buffer) c (Met x) = met x (met-meets q _ x e) in
+        let k : set (s .table) i (entryAt (s .table) i) ≡ s .table = set-getD (s .table) i freeEntry in
+        record {
+          stands = rw k at (stands-next image s v i u given (length buffer) q (Met x) e t image (met-moves image s v i u given (length buffer) q x));
+          shows = rw k at (view-next image s v i u given (length buffer) q (Met x) e t image (met-moves image s v i u given (length buffer) q x));
+        }
+    behind-next (Refused x) e = record { stands = v; shows = sym (rw (refused-stays q x given (modelAt ms i)) (set-getD ms i nothing)) }
+
+    behind-step : Behind (plainAnswer image s i q given (length buffer))
+    behind-step = behind-next _ (sym by-itself)
+
+    pub stands-step : Stands (plainStep image s i q given buffer .image) (plainStep image s i q given buffer .session)
+    unfolding plainStep plainScene
+    stands-step = behind-step .stands
+
+    pub view-step : view (plainStep image s i q given buffer .image) (plainStep image s i q given buffer .session) ≡ modelStep ms (asked i q given buffer)
+    unfolding plainStep plainScene modelStep
+    view-step = behind-step .shows ∙ ap (λ (a : Answer). set ms i (modelNext q a given (modelAt ms i))) answer-same
+
+    pub answer-step : plainStep image s i q given buffer .answer ≡ modelAnswer ms (asked i q given buffer)
+    unfolding plainStep plainScene
+    answer-step = same (plainAnswer image s i q given (length buffer)) ∙ answer-same
+      where
+        same : (a : Answer) → plainAfter a image s q c buffer .answer ≡ a
+        same Done = unfold plainAfter in refl
+        same (Met x) = unfold plainAfter in refl
+        same (Refused x) = unfold plainAfter in refl
+
+    -- ---- the bytes that are moved
+
+    pub buffer-step : plainStep image s i q given buffer .buffer ≡ lay buffer 0 (ifDone (modelAnswer ms (asked i q given buffer)) (modelInto q (modelAt ms i)))
+    unfolding plainStep plainScene plainAfter ifDone
+    buffer-step = go (plainAnswer image s i q given (length buffer)) (sym by-itself) ∙ rw answer-same
+      where
+        go : (a : Answer) → soloAnswer n (length buffer) q c ≡ a → plainAfter a image s q c buffer .buffer ≡ lay buffer 0 (ifDone a (modelInto q (modelAt ms i)))
+        go Done e = ap (lay buffer 0) (serves-here (used-done e) .moved e ∙ ap (modelInto q) (sym (view-at image s (v .many) i)))
+        go (Met x) e = sym (lay-nil buffer 0)
+        go (Refused x) e = sym (lay-nil buffer 0)
+
+  -- ---- what is shown in place
+
+  -- neither the bytes given nor the buffer are looked at
+  look-answer : (g m : ℕ) → plainLookAnswer image s i g ≡ plainAnswer image s i (GranuleLook g) given m
+  unfolding plainLookAnswer plainAnswer plainScene factsOf judge tests firstOf orElse whether
+  look-answer g m = refl
+
+  -- a granule of the extent, as the image has it
+  in-image : (g : ℕ) → Lawful (c .entry) (c .file) → isKind random (c .entry) ≡ true → g < capacity (c .entry .kind) (c .entry .length) (c .entry .sectors)
+      → part image (sector * c .entry .first + byteOf (placeOf random (c .entry .length) g)) (c .entry .length) ≡ fixedAt c g
+  unfolding fixedAt extent
+  in-image g w r h =
+      let k : c .entry .kind ≡ random = eqb-true (c .entry .kind) random r in
+      let l : byteOf (placeOf (c .entry .kind) (c .entry .length) g) + c .entry .length ≤ sector * c .entry .sectors =
+      record-inside (c .entry .kind) (c .entry .length) (omega (arith, w .long)) (λ z. absurd (omega arith)) g (c .entry .sectors) h in
+      ap (λ (j : ℕ). part image (sector * c .entry .first + byteOf (placeOf j (c .entry .length) g)) (c .entry .length)) (sym k)
+      ∙ sym (part-part image (sector * c .entry .first) (sector * c .entry .sectors) (byteOf (placeOf (c .entry .kind) (c .entry .length) g)) (c .entry .length) l)
+
+  pub look-step : (g : ℕ) (buffer : List ℕ) → plainLook image s i g ≡ ifDone (modelAnswer ms (asked i (GranuleLook g) given buffer)) (modelShown (GranuleLook g) (modelAt ms i))
+  unfolding plainLook shown ifDone factsOf
+  look-step g buffer =
+      rw (look-answer g (length buffer), ← (answer-same (GranuleLook g) buffer))
+      (go (plainAnswer image s i (GranuleLook g) given (length buffer)) (sym (by-itself (GranuleLook g) buffer)))
+    where
+      go : (a : Answer) → soloAnswer n (length buffer) (GranuleLook g) c ≡ a
+          → shown a (entryAt (s .table) i) g image ≡ ifDone a (modelShown (GranuleLook g) (modelAt ms i))
+      go Done e =
+          let u : isFree (entryAt (s .table) i) ≡ false = used-done (GranuleLook g) buffer e in
+          let f : Finds g (factsOf true n (length buffer) (GranuleLook g) c) = done-allows (GranuleLook g) _ e in
+          in-image g (v .sound i u .lawful) (f .random) (f .there)
+          ∙ serves-here (GranuleLook g) buffer u .seen g refl e
+          ∙ ap (modelShown (GranuleLook g)) (sym (view-at image s (v .many) i))
+      go (Met x) e = refl
+      go (Refused x) e = refl
