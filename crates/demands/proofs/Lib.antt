@@ -1,5 +1,7 @@
 pub mod Orderly
 pub mod Illegal
+pub mod Settled
+pub mod Buffering
 pub mod Plain
 pub mod Untouched
 pub mod Answers

@@ -2,8 +2,8 @@
 -- legality says, and what the others hold lies elsewhere.
 use mathlib.Core.Path.{_≡_, refl, sym, ap, subst, _∙_}
 use mathlib.Core.Bool.{Bool, true, false, _&&_}
-use mathlib.Core.List.{List, map}
-use Prim.Native.Nat.{ℕ, _+_, _*_, _≤_, _<_}
+use mathlib.Core.List.{List, [], _∷_, map}
+use Prim.Native.Nat.{ℕ, zero, suc, _+_, _*_, _≤_, _<_}
 use native.Mathlib.Omega.{arith}
 use lib.ListN.{length, getD, set, length-set, List·getD-map}
 use lib.Dec.{eqb}
@@ -49,6 +49,11 @@ chosen false x y h = both-ways false h refl
 pub not-chosen : {A : Type 0} (t : Bool) (x y : A) → t ≡ false → elim t [ true ↦ x | false ↦ y ] ≡ y
 not-chosen true x y h = both-ways true refl h
 not-chosen false x y h = refl
+
+pub map-set : {A B : Type 0} (f : A → B) (xs : List A) (k : ℕ) (y : A) → map f (set xs k y) ≡ set (map f xs) k (f y)
+map-set f [] k y = refl
+map-set f (x ∷ xs) zero y = refl
+map-set {B = B} f (x ∷ xs) (suc k) y = ap (λ (zs : List B). f x ∷ zs) (map-set f xs k y)
 
 -- ---- what `typed` says
 

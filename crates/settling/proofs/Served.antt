@@ -24,7 +24,7 @@ use Rattle.steps.specs.Step.{kept}
 use Rattle.steps.proofs.Inside.{buffers, AllSuit}
 use Rattle.settling.proofs.Settle.{Hold, empty, back, allBack, holdAt, heldBy, holdOf, Off, settle, back-first}
 use Rattle.settling.proofs.Bench.{own, Fits, Clear, Does, all-does, back-plain-all}
-use Rattle.settling.proofs.Kept.{Kept, InStep, chosen, not-chosen, heldAt, holds, hold-at, hold-used, hold-unused, buffer-length, typed-set}
+use Rattle.settling.proofs.Kept.{Kept, InStep, map-set, chosen, not-chosen, heldAt, holds, hold-at, hold-used, hold-unused, buffer-length, typed-set}
 use Rattle.settling.proofs.Scene.{held-clear, settle-own, others-clear}
 use Rattle.directory.specs.declared.Entry.{Entry}
 use Rattle.sessions.specs.declared.BufferedFile.{BufferedFile}
@@ -53,17 +53,12 @@ held-shape : (a a′ : Entry) (b : BufferedFile) → a .first ≡ a′ .first �
 unfolding heldBy
 held-shape a a′ b q = rw q
 
-pub map-set : {A B : Type 0} (f : A → B) (xs : List A) (k : ℕ) (y : A) → map f (set xs k y) ≡ set (map f xs) k (f y)
-map-set f [] k y = refl
-map-set f (x ∷ xs) zero y = refl
-map-set {B = B} f (x ∷ xs) (suc k) y = ap (λ (zs : List B). f x ∷ zs) (map-set f xs k y)
-
 -- ---- the file's next state, with the buffer that it then has
 
-abbrev withBuffer : OpenFile → BufferedFile → BufferedFile
+abbrev pub withBuffer : OpenFile → BufferedFile → BufferedFile
 withBuffer f b = record { file = f; holds = b .holds; held = b .held; changed = b .changed; buffer = b .buffer }
 
-kept-used : (f : OpenFile) (b : BufferedFile) → f .used ≡ true → kept f b ≡ withBuffer f b
+pub kept-used : (f : OpenFile) (b : BufferedFile) → f .used ≡ true → kept f b ≡ withBuffer f b
 unfolding kept
 kept-used f b u = chosen (f .used) (withBuffer f b) (fresh f) u
 

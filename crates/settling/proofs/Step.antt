@@ -23,10 +23,10 @@ use Rattle.steps.proofs.Lawful.{Lawful}
 use Rattle.steps.proofs.Inside.{lawful, AllSuit, suit}
 use Rattle.settling.proofs.Settle.{heldBy, settle}
 use Rattle.settling.proofs.Bench.{own, Fits, own-unchanged, own-none, and-other, all-does}
-use Rattle.settling.proofs.Kept.{Kept, heldAt, bare-at, hold-unused, table-length, files-length, entry-room, clear}
+use Rattle.settling.proofs.Kept.{Kept, map-set, heldAt, bare-at, hold-unused, table-length, files-length, entry-room, clear}
 use Rattle.settling.proofs.Standing.{Opened, Shut, Standing, isOpen, isShut, standing, shut-others}
 use Rattle.settling.proofs.Scene.{length-settle, same-scene, same-answer, open-fits, open-hold, open-clear}
-use Rattle.settling.proofs.Served.{SameShape, same-shape, Slot, settle-next, kept-next, map-set, kept-file}
+use Rattle.settling.proofs.Served.{SameShape, same-shape, Slot, settle-next, kept-next, kept-file}
 use Rattle.directory.specs.declared.Entry.{Entry}
 use Rattle.requests.specs.declared.Edge.{Edge}
 use Rattle.requests.specs.declared.Facts.{Facts}
