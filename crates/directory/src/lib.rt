@@ -405,7 +405,7 @@ pub fn is_named(e: Entry, name: &[u8]) -> bool
 pub fn search(image: &[u8], name: &[u8]) -> Found
     ensures { λ r. ⌜ r ≡ Search.search (now (image .entry)) (now (name .entry)) ⌝ }
 {
-    let mut i: usize = 0;
+    let mut i = 0;
     while i < Geometry::ENTRIES {
         let e = entry_at(image, i);
         if is_named(e, name) {
