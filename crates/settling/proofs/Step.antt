@@ -13,7 +13,8 @@ use Rattle.geometry.proofs.Tests.{either, both-ways, many-room, first-holds}
 use Rattle.directory.specs.Entries.{entryAt, freeEntry, isFree}
 use Rattle.directory.proofs.Good.{used-inside}
 use Rattle.requests.specs.Judge.{judge}
-use Rattle.requests.proofs.Done.{Live, Opens, Allows, Meets, readsMark, skipsMark, backOver, backAtStart, fileBackToStart, done-allows, met-meets}
+use Rattle.requests.proofs.Done.{Live, Opens, Allows, Meets, done-allows, met-meets}
+use Rattle.requests.proofs.Live.{met-live}
 use Rattle.sessions.specs.Session.{idle, fresh, bare, fileOf, slotOf, openFiles, extentWith, legal}
 use Rattle.sessions.proofs.Legal.{bare-legal, legal-length}
 use Rattle.steps.specs.Effects.{Effect, stamp, putBack, Bench, effects, plainAll, bufferedDo, bufferedAll, puttingBack}
@@ -29,6 +30,7 @@ use Rattle.settling.proofs.Scene.{length-settle, same-scene, same-answe
 use Rattle.settling.proofs.Served.{SameShape, same-shape, Slot, settle-next, kept-next, kept-file}
 use Rattle.directory.specs.declared.Entry.{Entry}
 use Rattle.requests.specs.declared.Edge.{Edge}
+use Rattle.requests.specs.declared.Edge.the-variants.{EndOfFile, BeginningOfTape}
 use Rattle.requests.specs.declared.Facts.{Facts}
 use Rattle.requests.specs.declared.Order.the-variants.{WriteMark, RewindOnline, RewindOffline, RecordForward, RecordBack, FileForward, FileBack}
 use Rattle.requests.specs.declared.Request.{Request}
@@ -177,11 +179,8 @@ module _ (image : List ℕ) (s : BufferedSession) (ok : Kept image s) (i : ℕ) 
 
   ready-met : (q : Request) (x : Edge) → Meets (facts q) q x → Ready (fileMet x (fileOf (bare s .files) i)) []
   unfolding fileMet
-  ready-met q x (readsMark a) = stays-open Read _ _ (a .running .live) refl refl
-  ready-met q x (skipsMark a) = stays-open (Position RecordForward) _ _ (a .running .live) refl refl
-  ready-met q x (backOver a) = stays-open (Position RecordBack) _ _ (a .running .live) refl refl
-  ready-met q x (backAtStart a) = stays-open (Position RecordBack) _ _ (a .running .live) refl refl
-  ready-met q x (fileBackToStart a) = stays-open (Position FileBack) _ _ (a .running .live) refl refl
+  ready-met q EndOfFile m = stays-open q _ _ (met-live _ q EndOfFile m) refl refl
+  ready-met q BeginningOfTape m = stays-open q _ _ (met-live _ q BeginningOfTape m) refl refl
 
   -- what is left of the image and the session
   module _ (f : OpenFile) (xs : List Effect) (r : Ready f xs) (suits : AllSuit (entryAt (s .table) i) xs) (a : Entry) (shape : SameShape a (entryAt (s .table) i)) where
