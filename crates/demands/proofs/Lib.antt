@@ -2,3 +2,4 @@ pub mod Orderly
 pub mod Illegal
 pub mod Settled
 pub mod Buffering
+pub mod Passing
