@@ -3,3 +3,5 @@ pub mod Illegal
 pub mod Settled
 pub mod Buffering
 pub mod Passing
+pub mod Plain
+pub mod Untouched

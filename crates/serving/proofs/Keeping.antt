@@ -31,7 +31,6 @@ use Rattle.steps.proofs.Lawful.{Lawful}
 use Rattle.steps.proofs.Frame.{length-plain}
 use Rattle.steps.proofs.Inside.{lawful}
 use Rattle.steps.specs.Verdict.{entryNext, fileNext}
-
 use Rattle.serving.proofs.Stays.{same-next, lawful-next}
 use Rattle.serving.proofs.Places.{places-next}
 use Rattle.directory.specs.declared.Entry.{Entry}
