@@ -5,3 +5,4 @@ pub mod Buffering
 pub mod Passing
 pub mod Plain
 pub mod Untouched
+pub mod Agree

@@ -129,7 +129,7 @@ module _ (image : List ℕ) (ok : mounts image ≡ true) where
 -- ---- mounting afresh
 
 module _ (image : List ℕ) (s : Session) (v : Stands image s) (none : nothingOpen (view image s) ≡ true) where
-  none-open : (i : ℕ) → fileOf (s .files) i .used ≡ false
+  pub none-open : (i : ℕ) → fileOf (s .files) i .used ≡ false
   unfolding nothingOpen isOpenModel
   none-open i =
       sym (open-at image s (v .ok) i)
