@@ -6,3 +6,6 @@ pub mod Passing
 pub mod Plain
 pub mod Untouched
 pub mod Agree
+pub mod Answers
+pub mod ReadsBack
+pub mod Counts

@@ -3,21 +3,23 @@
 use mathlib.Core.Path.{_≡_, refl, sym, ap, _∙_}
 use mathlib.Core.Bool.{true, false}
 use mathlib.Core.List.{List, [], _∷_, map}
-use Prim.Native.Nat.{ℕ}
+use Prim.Native.Nat.{ℕ, _≤_}
 use lib.ListN.{length, length-map}
 use Rattle.geometry.specs.Lists.{numbersFrom}
 use Rattle.geometry.specs.Sizes.{entries, mostOpen, sectorsOf, lawfulLength}
 use Rattle.geometry.proofs.Tests.{either}
+use Rattle.directory.specs.Entries.{entryAt}
 use Rattle.requests.specs.Numbers.{numberOf}
 use Rattle.sessions.specs.Session.{fresh, unheld, spotOf, legal, typed}
 use Rattle.sessions.proofs.Unheld.{unheld-legal}
 use Rattle.mounting.specs.Mounting.{mounts, plainMount}
-use Rattle.tapes.specs.Model.{Model, Asked, Report, modelAt, modelsOf, modelSpot, modelShown, modelAnswer, modelStep, modelReport, modelReports, modelRun, ifDone, nothingOpen}
+use Rattle.tapes.specs.Tape.{Tape}
+use Rattle.tapes.specs.Model.{tape, Model, Asked, Report, modelAt, modelsOf, modelSpot, modelShown, modelAnswer, modelStep, modelReport, modelReports, modelRun, ifDone, nothingOpen}
 use Rattle.serving.proofs.Keeping.{legal-step}
 use Rattle.serving.proofs.Lifting.{Stands}
 use Rattle.serving.proofs.Mounted.{start-legal, empty-good, mounted-session, mounted-stands, mounted-view, afresh-view, afresh-mounts}
-use Rattle.serving.proofs.Step.{asked, answer-step, buffer-step, look-step, view-step, stands-step}
-use Rattle.serving.proofs.View.{showsAt, view, spot-view}
+use Rattle.serving.proofs.Step.{asked, tape-counts, answer-step, buffer-step, look-step, view-step, stands-step}
+use Rattle.serving.proofs.View.{view-at, showsAt, view, spot-view}
 use Rattle.settling.proofs.Kept.{table-length, files-length}
 use Rattle.demands.specs.Engine.{plainEngine, Standing, spotsOf, shownBy, answered, stepOf, reportOf, reports, run, mounted}
 use Rattle.demands.specs.Demand1.{Passing}
@@ -131,6 +133,14 @@ module _ (image : List ℕ) (ok : mounts image ≡ true) where
 
     pub then-view : view (then .image) (then .session) ≡ modelRun (modelsOf image) asked
     then-view = run-view asked (mounted plainEngine image) mount-stands ∙ ap (λ (ms : List Model). modelRun ms asked) mount-view
+
+    -- a tape that was run to stands within its records, and its entry counts them
+    pub then-shows : (i : ℕ) → modelAt (modelRun (modelsOf image) asked) i ≡ showsAt (then .image) (then .session) i
+    then-shows i = ap (λ (ms : List Model). modelAt ms i) (sym then-view) ∙ view-at (then .image) (then .session) (then-stands .many) i
+
+    pub then-counts : (i : ℕ) (t : Tape) → modelAt (modelRun (modelsOf image) asked) i ≡ tape t
+        → (entryAt (then .session .table) i .count ≡ length (t .records)) × (t .position ≤ length (t .records))
+    then-counts i t e = tape-counts (then .image) (then .session) then-stands i t (sym (then-shows i) ∙ e)
 
     -- "whenever no file is open, mounting the image afresh gives the same tapes, marks and granules"
     pub afresh : nothingOpen (modelRun (modelsOf image) asked) ≡ true → (mounts (then .image) ≡ true) × (modelsOf (then .image) ≡ modelRun (modelsOf image) asked)

@@ -2,7 +2,7 @@
 -- that it shows; and what holds from a mounting on still holds.
 use mathlib.Core.Path.{_≡_, refl, sym, ap, _∙_}
 use mathlib.Core.Bool.{true, false}
-use mathlib.Core.List.{List}
+use mathlib.Core.List.{List, []}
 use Prim.Native.Nat.{ℕ, _+_, _*_, _≤_, _<_}
 use native.Mathlib.Omega.{arith}
 use lib.Dec.{eqb}
@@ -30,7 +30,8 @@ use Rattle.steps.proofs.Frame.{Elsewhere, elsewhere-plain}
 use Rattle.steps.proofs.Inside.{lawful, inside}
 use Rattle.steps.proofs.Lawful.{Lawful}
 use Rattle.serving.proofs.Stays.{same-next}
-use Rattle.tapes.specs.Model.{Model, nothing, Asked, modelAt, modelFacts, modelNext, modelInto, modelShown, modelAnswer, modelStep, ifDone}
+use Rattle.tapes.specs.Tape.{Tape, tapeFacts}
+use Rattle.tapes.specs.Model.{Model, tape, nothing, Asked, modelAt, modelFacts, modelNext, modelInto, modelShown, modelAnswer, modelStep, ifDone}
 use Rattle.tapes.proofs.Opened.{refused-stays}
 use Rattle.serving.proofs.Solo.{shows, Serves, soloAnswer}
 use Rattle.serving.proofs.Keeping.{Answered, done, met}
@@ -243,3 +244,24 @@ module _ (image : List ℕ) (s : Session) (v : Stands image s) (i : ℕ) (given 
           ∙ ap (modelShown (GranuleLook g)) (sym (view-at image s (v .many) i))
       go (Met x) e = refl
       go (Refused x) e = refl
+
+-- ---- a tape's length is its entry's count
+
+pub tape-used : (image : List ℕ) (s : Session) (i : ℕ) (t : Tape) → showsAt image s i ≡ tape t → isFree (entryAt (s .table) i) ≡ false
+unfolding showsAt
+tape-used image s i t e =
+    either (isFree (entryAt (s .table) i))
+    (λ (u : isFree (entryAt (s .table) i) ≡ true).
+    let z : nothing ≡ tape t = sym (shows-free (entryAt (s .table) i) _ _ u) ∙ e in
+    absurd (let o : _≡_ {A = ℕ} 0 1 = cc in omega arith))
+    (λ u. u)
+
+pub tape-counts : (image : List ℕ) (s : Session) → Stands image s → (i : ℕ) (t : Tape) → showsAt image s i ≡ tape t
+    → (entryAt (s .table) i .count ≡ length (t .records)) × (t .position ≤ length (t .records))
+unfolding factsOf modelFacts tapeFacts
+tape-counts image s v i t e =
+    let u : isFree (entryAt (s .table) i) ≡ false = tape-used image s i t e in
+    let k : factsOf true (openFiles (s .files)) 0 Write (sceneOf image s i []) ≡ tapeFacts (openFiles (s .files)) [] 0 t = rw e at (serves-here image s v i [] Write [] u .judged) in
+    let c : entryAt (s .table) i .count ≡ length (t .records) = ap (λ (f : Facts). f .count) k in
+    let p : fileOf (s .files) i .position ≡ t .position = ap (λ (f : Facts). f .position) k in
+    (c, omega (arith, v .sound i u .lawful .standing))
