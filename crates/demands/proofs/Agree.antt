@@ -16,13 +16,16 @@ use Rattle.mounting.proofs.Mounted.{mounts-length}
 use Rattle.tapes.specs.Model.{Asked, modelAt, isOpenModel}
 use Rattle.serving.proofs.Mounted.{none-open}
 use Rattle.serving.proofs.View.{view, view-at, open-at}
-use Rattle.settling.proofs.Kept.{Kept, heldAt, bare-at, settle-elsewhere}
-use Rattle.demands.specs.Engine.{plainEngine, bufferedEngine, Standing, run, mounted}
-use Rattle.demands.specs.Demand2.{Faithful}
+use Rattle.settling.proofs.Kept.{Kept, heldAt, bare-at, settle-elsewhere, settle-table}
+use Rattle.settling.proofs.Step.{Agrees}
+use Rattle.demands.specs.Engine.{plainEngine, bufferedEngine, Standing, answered, stepOf, run, mounted}
+use Rattle.demands.specs.Demand2.{Faithful, CountsStored}
 use Rattle.demands.specs.Demand3.{Untouched, Agreeing, Agree}
 use Rattle.demands.proofs.Plain.{then-stands, then-view, afresh, plain-faithful}
+use Rattle.demands.proofs.Counts.{plain-counts}
 use Rattle.demands.proofs.Untouched.{far, Spared, mounted-spared, plain-untouched}
-use Rattle.demands.proofs.Settled.{settled, mounted-run-kept, mounted-run, mounted-reports, idle-images}
+use Rattle.demands.proofs.Settled.{settled, KeptAt, agrees, kept-step, mounted-run-kept, mounted-run, mounted-reports, idle-images}
+use Rattle.directory.specs.declared.Entry.{Entry}
 use Rattle.sessions.specs.declared.BufferedSession.{BufferedSession}
 use Rattle.sessions.specs.declared.Session.{Session}
 
@@ -74,8 +77,8 @@ module _ (image : List ℕ) (ok : mounts image ≡ true) (asked : List Asked) wh
           far (tableOf image) j (v .image) (v .session) i [] (p .same i) (p .none i o) .extent in
           subst (λ (x : Standing Session). Apart j 1 (sector * entryAt (x .session .table) i .first) (sector * entryAt (x .session .table) i .sectors)) (sym same) y
 
-  agrees : Agreeing plainEngine bufferedEngine image asked
-  agrees = record {
+  agreeing : Agreeing plainEngine bufferedEngine image asked
+  agreeing = record {
     alike = sym (mounted-reports image (mounts-length image ok) asked);
     untouched = (plain-untouched image ok asked, buffered-untouched);
     whenIdle = λ z.
@@ -84,4 +87,23 @@ module _ (image : List ℕ) (ok : mounts image ≡ true) (asked : List Asked) wh
   }
 
 pub agree : Agree plainEngine bufferedEngine
-agree = record { first = plain-faithful; second = buffered-faithful; agreeing = agrees }
+agree = record { first = plain-faithful; second = buffered-faithful; agreeing = agreeing }
+
+-- the count that a closing stores: the directory is in no buffer
+module _ (image : List ℕ) (ok : mounts image ≡ true) (asked : List Asked) (a : Asked) where
+  then-kept : KeptAt (stepOf bufferedEngine (w image ok asked) a)
+  then-kept = kept-step (w image ok asked) (kept image ok asked) a
+
+  then-agrees : Agrees (answered bufferedEngine (w image ok asked) a) (answered plainEngine (v image ok asked) a)
+  then-agrees = rw (same image ok asked) at (agrees (w image ok asked) (kept image ok asked) a)
+
+  same-table : tableOf (answered bufferedEngine (w image ok asked) a .image) ≡ tableOf (answered plainEngine (v image ok asked) a .image)
+  unfolding stepOf
+  same-table = sym (settle-table (answered bufferedEngine (w image ok asked) a .image) (answered bufferedEngine (w image ok asked) a .session) then-kept) ∙ ap tableOf (then-agrees .image)
+
+pub buffered-counts : CountsStored bufferedEngine
+buffered-counts = record {
+  stored = λ image ok asked i t here a is done.
+      ap (λ (table : List Entry). entryAt table i .count) (same-table image ok asked a)
+      ∙ plain-counts .stored image ok asked i t here a is (sym (then-agrees image ok asked a .answer) ∙ done);
+}

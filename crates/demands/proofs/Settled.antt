@@ -48,7 +48,7 @@ still-legal image s ok i q given buffer =
     legal-step (settle image s) (bare s) (settled-legal image s ok i) (table-length s (ok .isTyped)) (length-map (s .files) (λ b. b .file) ∙ files-length s (ok .isTyped)) i q given buffer
 
 module _ (w : Standing BufferedSession) (ok : KeptAt w) (a : Asked) where
-  agrees : Agrees (answered bufferedEngine w a) (answered plainEngine (settled w) a)
+  pub agrees : Agrees (answered bufferedEngine w a) (answered plainEngine (settled w) a)
   unfolding answered
   agrees = step-agrees (w .image) (w .session) ok (a .entry) (a .request) (a .given) (a .buffer)
 
