@@ -20,7 +20,7 @@ use Rattle.directory.specs.declared.Entry.{Entry}
 
 -- ---- the two tables
 
-free-good : (N : ℕ) → tableGood N (replicate entries freeEntry) ≡ true
+pub free-good : (N : ℕ) → tableGood N (replicate entries freeEntry) ≡ true
 unfolding tableGood tableRules all every pairwise kindKnown freeIsZero entryBytes word nameGood namesDiffer extentInside extentsApart flagsKnown lengthGood countGood randomBare
 free-good N = refl
 
@@ -34,7 +34,7 @@ mounts-good image m = and-left (tableGood (sectorsOf image) (tableOf image)) _ (
 
 -- ---- legal
 
-start-legal : (image : List ℕ) (table : List Entry) → lawfulLength image ≡ true → tableGood (sectorsOf image) table ≡ true → legal image (startWith table) ≡ true
+pub start-legal : (image : List ℕ) (table : List Entry) → lawfulLength image ≡ true → tableGood (sectorsOf image) table ≡ true → legal image (startWith table) ≡ true
 unfolding legal sessionRules all every pairwise startWith openFiles howMany ofUsedEntry ofOther isOf positionGood beyondGood placesGood
 start-legal image table l g = rw (l, g)
 
