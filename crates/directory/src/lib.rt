@@ -6,15 +6,17 @@ use geometry::same;
 use geometry::word_at;
 ghost use mathlib.Core.Path.{_≡_};
 ghost use mathlib.Core.List.{_++_};
-ghost use Prim.Native.Nat.{_+_, _*_, _%_};
+ghost use mathlib.Core.Bool.{true, false};
+ghost use Prim.Native.Nat.{_-_, _≤_, _<_};
 ghost use lib.Dec.{eqb};
-ghost use lib.ListN.{length, getD, drop, replicate};
+ghost use lib.ListN.{drop, replicate};
 ghost use Rattle.geometry.specs.Bytes.{padded, word};
 ghost use Rattle.geometry.specs.Bytes as Bytes;
 ghost use Rattle.geometry.specs.Lists.{every};
 ghost use Rattle.geometry.specs.Lists as Lists;
+ghost use Rattle.geometry.specs.Sizes.{blank};
 ghost use Rattle.directory.specs.Entries.{entryFrom, entryBytes, oneWord, freeEntry, tableOf, entryAt, isMarked, isProtected};
-ghost use Rattle.directory.specs.Rules.{capital, digit, isName, freeIsZero, nameGood, namesDiffer, extentInside, extentsApart, longest, lengthGood, countGood, randomBare, tableGood};
+ghost use Rattle.directory.specs.Rules.{capital, digit, isName, nameGood, namesDiffer, extentInside, extentsApart, longest, lengthGood, countGood, randomBare, tableGood};
 ghost use Rattle.directory.specs.Grouped.{entryGood, twoGood};
 ghost use Rattle.directory.specs.Search.{matches};
 ghost use Rattle.directory.specs.Search as Search;
@@ -208,20 +210,33 @@ fn is_digit(c: u8) -> bool
     (0xF0 <= c) & (c <= 0xF9)
 }
 
-// Whether x is a capital letter followed by capitals or digits, then only blanks: seen from the end.
+// Where a name's blanks begin, at byte 1 or behind it: only blanks stand from there on, and none before.
+fn name_end(x: [u8; 8]) -> usize
+    ensures { λ r. ⌜ (1 ≤ r) × (r ≤ 8) × (every (λ b. eqb b blank) (drop r x) ≡ true) × (1 < r → every (λ b. eqb b blank) (drop (r - 1) x) ≡ false) ⌝ }
+{
+    let mut k: usize = 8;
+    while 1 < k {
+        if x[k - 1] != Geometry::BLANK {
+            return k;
+        }
+        k -= 1;
+    }
+    k
+}
+
+// Whether x is a capital letter followed by capitals or digits, then only blanks.
 fn is_name(x: [u8; 8]) -> bool
     ensures { λ r. ⌜ r ≡ isName x ⌝ }
 {
-    let mut blanks = true;
-    let mut rest = true;
-    let mut k: usize = 8;
+    let mut k = name_end(x);
     while 1 < k {
         k -= 1;
         let c = x[k];
-        blanks = (c == Geometry::BLANK) & blanks;
-        rest = ((is_capital(c) | is_digit(c)) & rest) | blanks;
+        if !(is_capital(c) | is_digit(c)) {
+            return false;
+        }
     }
-    is_capital(x[0]) & rest
+    is_capital(x[0])
 }
 
 // Whether the eight bytes are zero.
@@ -246,17 +261,6 @@ fn is_zero(e: Entry) -> bool
         & ((e.kind == Geometry::FREE)
             & ((e.length == 0)
                 & ((e.first == 0) & ((e.sectors == 0) & ((e.count == 0) & (e.flags == 0))))))
-}
-
-// A free entry is 20 zero bytes.
-fn free_is_zero(e: Entry) -> bool
-    ensures { λ r. ⌜ r ≡ freeIsZero e ⌝ }
-{
-    if e.kind == Geometry::FREE {
-        is_zero(e)
-    } else {
-        true
-    }
 }
 
 // A used entry has a name.
@@ -322,11 +326,13 @@ fn random_bare(e: Entry) -> bool
 fn entry_good(e: Entry, n: u32) -> bool
     ensures { λ r. ⌜ r ≡ entryGood n e ⌝ }
 {
+    if e.kind == Geometry::FREE {
+        return is_zero(e);
+    }
     (e.kind <= Geometry::RANDOM)
-        & (free_is_zero(e)
-            & (name_good(e)
-                & (extent_inside(e, n)
-                    & ((e.flags <= 3) & (length_good(e) & (count_good(e) & random_bare(e)))))))
+        & (name_good(e)
+            & (extent_inside(e, n)
+                & ((e.flags <= 3) & (length_good(e) & (count_good(e) & random_bare(e))))))
 }
 
 // ---- the rules of two entries, and of the table
