@@ -2,17 +2,16 @@
 -- caller's buffer are one record or granule, which has at most R bytes. A plain session holds nothing, so it answers as the buffered one does.
 use mathlib.Core.Path.{_≡_, refl, sym, ap, _∙_}
 use mathlib.Core.Bool.{Bool, true, false}
-use mathlib.Core.List.{List, [], _∷_, _++_, map}
+use mathlib.Core.List.{List, [], _∷_, map}
 use Prim.Native.Nat.{ℕ, zero, suc, _+_, _-_, _≤_}
-use native.Mathlib.Nat.{not-suc-le-zero}
 use native.Mathlib.Omega.{arith}
-use lib.Dec.{leb, ltb}
-use lib.Seq.{drop-nil}
-use lib.ListN.{length, drop, getD, set, List·getD-map}
+use lib.Dec.{ltb}
+use lib.Seq.{getD-drop}
+use lib.ListN.{length, length-drop, drop, getD, set, List·getD-map}
 use Rattle.geometry.specs.Bytes.{part, lay}
 use Rattle.geometry.specs.Places.{placeOf, byteOf}
 use Rattle.geometry.specs.Sizes.{sector, compressed}
-use Rattle.geometry.proofs.Bytes.{length-part-min, length-lay}
+use Rattle.geometry.proofs.Bytes.{same-bytes, length-part-min, length-lay, getD-lay-behind}
 use Rattle.coding.specs.Decode.{Decoded, good, bad, decode}
 use Rattle.coding.proofs.Known.{decode-good}
 use Rattle.directory.specs.Entries.{entryAt, isKind}
@@ -83,23 +82,10 @@ short-into (Position o) c = omega arith
 
 -- ---- bytes laid at the front of a buffer
 
-behind-front : (xs buffer : List ℕ) (n : ℕ) → length xs ≤ n → drop n (xs ++ drop (length xs) buffer) ≡ drop n buffer
-behind-front [] buffer n h = refl
-behind-front (x ∷ xs) buffer zero h = absurd (not-suc-le-zero h)
-behind-front (x ∷ xs) [] (suc n) h = ap (λ (z : List ℕ). drop n (xs ++ z)) (sym (drop-nil (length xs))) ∙ behind-front xs [] n (omega arith) ∙ drop-nil n
-behind-front (x ∷ xs) (b ∷ buffer) (suc n) h = behind-front xs buffer n (omega arith)
-
-module _ (buffer xs : List ℕ) where
-  lay-rest : (n : ℕ) → length xs ≤ n → drop n (lay buffer 0 xs) ≡ drop n buffer
-  unfolding lay
-  lay-rest n h = go (leb (0 + length xs) (length buffer))
-    where
-      z : 0 + length xs ≡ length xs
-      z = omega arith
-
-      go : (b : Bool) → drop n (elim b [ true ↦ xs ++ drop (0 + length xs) buffer | false ↦ buffer ]) ≡ drop n buffer
-      go true = rw z (behind-front xs buffer n h)
-      go false = refl
+lay-rest : (buffer xs : List ℕ) (n : ℕ) → length xs ≤ n → drop n (lay buffer 0 xs) ≡ drop n buffer
+lay-rest buffer xs n h =
+    same-bytes _ _ (rw (length-drop n (lay buffer 0 xs), length-drop n buffer, length-lay buffer 0 xs)) λ i l.
+    getD-drop n (lay buffer 0 xs) i 0 ∙ getD-lay-behind buffer 0 xs (n + i) 0 (omega arith) ∙ sym (getD-drop n buffer i 0)
 
 -- ---- what an engine makes of each answer
 

@@ -2,12 +2,12 @@
 -- that it shows; and what holds from a mounting on still holds.
 use mathlib.Core.Path.{_≡_, refl, sym, ap, _∙_}
 use mathlib.Core.Bool.{true, false}
-use mathlib.Core.List.{List}
+use mathlib.Core.List.{List, []}
 use Prim.Native.Nat.{ℕ, _+_, _*_, _≤_, _<_}
 use native.Mathlib.Omega.{arith}
 use lib.Dec.{eqb}
-use lib.ListN.{length, set}
-use lib.Seq.{set-getD}
+use lib.ListN.{length, getD, set, List·getD-map}
+use lib.Seq.{set-getD, map-set-same}
 use borrow.Author.Tests.{eqb-true}
 use Rattle.geometry.specs.Bytes.{part, lay}
 use Rattle.geometry.specs.Sizes.{sector, random, free}
@@ -16,29 +16,34 @@ use Rattle.geometry.proofs.Bytes.{lay-nil, part-part}
 use Rattle.geometry.proofs.Places.{record-inside}
 use Rattle.geometry.proofs.Tests.{either}
 use Rattle.directory.specs.Entries.{entryAt, freeEntry, isFree, isKind}
+use Rattle.directory.specs.Stamp.{restamped}
 use Rattle.requests.specs.Judge.{judge, tests, firstOf, orElse, whether}
-use Rattle.requests.proofs.Done.{Finds, done-allows, met-meets}
-use Rattle.requests.proofs.Live.{done-real, met-live}
-use Rattle.sessions.specs.Session.{openFiles, extent, legal}
-use Rattle.steps.specs.Next.{Scene, factsOf, fixedAt}
+use Rattle.requests.proofs.Done.{Live, Finds, done-allows, met-meets}
+use Rattle.requests.proofs.Live.{Alive, done-live, done-real, met-live}
+use Rattle.sessions.specs.Session.{fileOf, openFiles, extent, legal}
+use Rattle.steps.specs.Next.{Scene, factsOf, fixedAt, entryDone, counted}
+use Rattle.steps.specs.Effects.{effects, plainAll}
 use Rattle.steps.specs.Look.{shown, plainLookAnswer, plainLook}
 use Rattle.steps.specs.Step.{After, plainScene, plainAnswer, plainAfter, plainStep}
 use Rattle.steps.specs.Verdict.{entryNext, fileNext}
+use Rattle.steps.proofs.Frame.{Elsewhere, elsewhere-plain}
+use Rattle.steps.proofs.Inside.{lawful, inside}
 use Rattle.steps.proofs.Lawful.{Lawful}
-use Rattle.tapes.specs.Tape.{tapeNext}
-use Rattle.tapes.specs.Row.{rowNext}
-use Rattle.tapes.specs.Model.{Model, nothing, tape, row, Asked, modelAt, modelFacts, modelNext, modelInto, modelShown, modelAnswer, modelStep, ifDone}
+use Rattle.serving.proofs.Stays.{same-next}
+use Rattle.tapes.specs.Tape.{Tape, tapeFacts}
+use Rattle.tapes.specs.Model.{Model, tape, nothing, Asked, modelAt, modelFacts, modelNext, modelInto, modelShown, modelAnswer, modelStep, ifDone}
+use Rattle.tapes.proofs.Opened.{refused-stays}
 use Rattle.serving.proofs.Solo.{shows, Serves, soloAnswer}
 use Rattle.serving.proofs.Keeping.{Answered, done, met}
 use Rattle.serving.proofs.View.{showsAt, view, shows-free, view-at, open-view}
 use Rattle.serving.proofs.Lifting.{any-serves, Stands, sceneOf, met-moves, done-moves, stands-next, view-next}
+use Rattle.directory.specs.declared.Entry.{Entry}
 use Rattle.sessions.specs.declared.Session.{Session}
 use Rattle.requests.specs.declared.Answer.{Answer}
 use Rattle.requests.specs.declared.Answer.the-variants.{Done, Met, Refused}
 use Rattle.requests.specs.declared.Edge.{Edge}
 use Rattle.requests.specs.declared.Facts.{Facts}
 use Rattle.requests.specs.declared.Order.the-variants.{WriteMark, RewindOnline, RewindOffline, RecordForward, RecordBack, FileForward, FileBack}
-use Rattle.requests.specs.declared.Refusal.{Refusal}
 use Rattle.requests.specs.declared.Refusal.the-variants.{NotThere}
 use Rattle.requests.specs.declared.Request.{Request}
 use Rattle.requests.specs.declared.Request.the-variants.{Open, Read, Write, GranuleRead, GranuleWrite, GranuleLook, Position}
@@ -60,12 +65,10 @@ not-there (Position RecordBack) f l k = rw (l, k)
 not-there (Position FileForward) f l k = rw (l, k)
 not-there (Position FileBack) f l k = rw (l, k)
 
--- a refusal leaves a tape or row as it is
-refused-stays : (q : Request) (x : Refusal) (given : List ℕ) (m : Model) → modelNext q (Refused x) given m ≡ m
-unfolding modelNext tapeNext rowNext
-refused-stays q x given nothing = refl
-refused-stays q x given (tape t) = refl
-refused-stays q x given (row w) = refl
+-- what a change of one member leaves as it was
+set-alike : {A B : Type 0} (f : A → B) (l : List A) (i : ℕ) (a : A) (k : ℕ) (d : A) → f a ≡ f (getD l i d) → f (getD (set l i a) k d) ≡ f (getD l k d)
+set-alike {A} {B} f l i a k d e =
+    sym (List·getD-map f (set l i a) k d) ∙ ap (λ (m : List B). getD m k (f d)) (map-set-same f l i a d e) ∙ List·getD-map f l k d
 
 abbrev pub asked : ℕ → Request → List ℕ → List ℕ → Asked
 asked i q given buffer = record { entry = i; request = q; given = given; buffer = buffer }
@@ -172,6 +175,41 @@ module _ (image : List ℕ) (s : Session) (v : Stands image s) (i : ℕ) (given 
         go (Met x) e = sym (lay-nil buffer 0)
         go (Refused x) e = sym (lay-nil buffer 0)
 
+    -- ---- the bytes that are not
+
+    -- a byte that is none of the file's own stays, and so does every byte where the file is not open
+    pub untouched-step : (j : ℕ) → (fileOf (s .files) i .used ≡ true → Elsewhere c j) → getD (plainStep image s i q given buffer .image) j 0 ≡ getD image j 0
+    unfolding plainStep plainScene plainAfter
+    untouched-step j far = go (plainAnswer image s i q given (length buffer)) (sym by-itself)
+      where
+        inside-own : (q : Request) → soloAnswer n (length buffer) q c ≡ Done → Live (factsOf true n (length buffer) q c) → getD (plainAll c (effects q c) image) j 0 ≡ getD image j 0
+        inside-own q e l =
+            elsewhere-plain c (effects q c) (inside n (length buffer) q c (lawful image s (v .ok) i (unfold factsOf in l .used)) e) image j (far (unfold factsOf in l .opened))
+
+        alive : (q : Request) → soloAnswer n (length buffer) q c ≡ Done → Alive q (factsOf true n (length buffer) q c) → getD (plainAll c (effects q c) image) j 0 ≡ getD image j 0
+        alive Open e l = unfold effects plainAll in refl
+        alive Read e l = inside-own Read e l
+        alive Write e l = inside-own Write e l
+        alive (GranuleRead g) e l = inside-own (GranuleRead g) e l
+        alive (GranuleWrite g) e l = inside-own (GranuleWrite g) e l
+        alive (GranuleLook g) e l = inside-own (GranuleLook g) e l
+        alive (Position o) e l = inside-own (Position o) e l
+
+        go : (a : Answer) → soloAnswer n (length buffer) q c ≡ a → getD (plainAfter a image s q c buffer .image) j 0 ≡ getD image j 0
+        go Done e = alive q e (done-live q _ (done-allows q _ e))
+        go (Met x) e = refl
+        go (Refused x) e = refl
+
+    -- an entry keeps all but its count and flags
+    pub bare-step : (k : ℕ) → restamped (entryAt (plainStep image s i q given buffer .session .table) k) 0 0 ≡ restamped (entryAt (s .table) k) 0 0
+    unfolding plainStep plainScene plainAfter
+    bare-step k = go (plainAnswer image s i q given (length buffer))
+      where
+        go : (a : Answer) → restamped (entryAt (plainAfter a image s q c buffer .session .table) k) 0 0 ≡ restamped (entryAt (s .table) k) 0 0
+        go Done = set-alike (λ (e : Entry). restamped e 0 0) (s .table) i (entryDone q c) k freeEntry (unfold entryNext counted in same-next (λ (e : Entry). restamped e 0 0) q c Done (λ m p h. refl))
+        go (Met x) = refl
+        go (Refused x) = refl
+
   -- ---- what is shown in place
 
   -- neither the bytes given nor the buffer are looked at
@@ -206,3 +244,24 @@ module _ (image : List ℕ) (s : Session) (v : Stands image s) (i : ℕ) (given 
           ∙ ap (modelShown (GranuleLook g)) (sym (view-at image s (v .many) i))
       go (Met x) e = refl
       go (Refused x) e = refl
+
+-- ---- a tape's length is its entry's count
+
+pub tape-used : (image : List ℕ) (s : Session) (i : ℕ) (t : Tape) → showsAt image s i ≡ tape t → isFree (entryAt (s .table) i) ≡ false
+unfolding showsAt
+tape-used image s i t e =
+    either (isFree (entryAt (s .table) i))
+    (λ (u : isFree (entryAt (s .table) i) ≡ true).
+    let z : nothing ≡ tape t = sym (shows-free (entryAt (s .table) i) _ _ u) ∙ e in
+    absurd (let o : _≡_ {A = ℕ} 0 1 = cc in omega arith))
+    (λ u. u)
+
+pub tape-counts : (image : List ℕ) (s : Session) → Stands image s → (i : ℕ) (t : Tape) → showsAt image s i ≡ tape t
+    → (entryAt (s .table) i .count ≡ length (t .records)) × (t .position ≤ length (t .records))
+unfolding factsOf modelFacts tapeFacts
+tape-counts image s v i t e =
+    let u : isFree (entryAt (s .table) i) ≡ false = tape-used image s i t e in
+    let k : factsOf true (openFiles (s .files)) 0 Write (sceneOf image s i []) ≡ tapeFacts (openFiles (s .files)) [] 0 t = rw e at (serves-here image s v i [] Write [] u .judged) in
+    let c : entryAt (s .table) i .count ≡ length (t .records) = ap (λ (f : Facts). f .count) k in
+    let p : fileOf (s .files) i .position ≡ t .position = ap (λ (f : Facts). f .position) k in
+    (c, omega (arith, v .sound i u .lawful .standing))
