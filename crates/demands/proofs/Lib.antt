@@ -9,3 +9,4 @@ pub mod Agree
 pub mod Answers
 pub mod ReadsBack
 pub mod Counts
+pub mod Impostors
