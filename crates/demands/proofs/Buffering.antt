@@ -322,4 +322,4 @@ module _ (image : List ℕ) (s : BufferedSession) (i : ℕ) (given buffer : List
   }
 
 pub buffering : Buffering
-buffering = record { each = λ image s i given buffer t kind. buffers-well image s i given buffer t kind }
+buffering = record { each = buffers-well }
