@@ -37,7 +37,7 @@ pub record Lies (N : ℕ) (e : Entry) : Type 0 where
   pub unmarked : e .kind ≡ random → isMarked e ≡ false
 
 -- kinds 1 and 2
-pub has-capacity : (e : Entry) → 1 ≤ e .kind → e .kind ≤ 2 → (isKind unblocked e || isKind blocked e) ≡ true
+has-capacity : (e : Entry) → 1 ≤ e .kind → e .kind ≤ 2 → (isKind unblocked e || isKind blocked e) ≡ true
 has-capacity e h l = go (isKind unblocked e) refl
   where
     go : (b : Bool) → isKind unblocked e ≡ b → (b || isKind blocked e) ≡ true
