@@ -3,29 +3,36 @@
 use mathlib.Core.Path.{_≡_, refl, sym, ap, subst, _∙_}
 use mathlib.Core.Bool.{Bool, true, false, _&&_, _||_}
 use mathlib.Core.List.{List, [], _∷_, map}
-use Prim.Native.Nat.{ℕ}
+use Prim.Native.Nat.{ℕ, _+_, _*_}
 use native.Mathlib.Omega.{arith}
 use lib.ListN.{length, set}
 use lib.Dec.{eqb, ltb}
-use borrow.Author.Tests.{eqb-true, eq-eqb, ne-eqb}
+use borrow.Author.Tests.{eqb-true, eqb-false, eq-eqb, ne-eqb}
 use Rattle.geometry.specs.Lists.{every}
 use Rattle.geometry.specs.Places.{placeOf}
-use Rattle.geometry.specs.Sizes.{sector, blocked, compressed}
+use Rattle.geometry.specs.Sizes.{sector, entrySize, blocked, compressed, sectorsOf}
+use Rattle.geometry.specs.Bytes.{lay, word}
+use Rattle.geometry.proofs.Bytes.{part-lay-apart}
 use Rattle.geometry.proofs.Tests.{either, both-ways, and-left, and-right, or-either}
 use Rattle.coding.specs.Encode.{codeOf}
-use Rattle.directory.specs.Entries.{entryAt, isKind}
+use Rattle.directory.specs.Entries.{entryAt, isFree, isKind}
+use Rattle.directory.specs.Stamp.{stampBytes}
+use Rattle.directory.proofs.Good.{lies, used-inside}
 use Rattle.packing.specs.Reading.{startOf, goesOn}
 use Rattle.packing.specs.Placing.{Change, changes, filled, goesTo}
 use Rattle.packing.proofs.Placed.{Case, here, atEnd, over, which}
-use Rattle.steps.specs.Effects.{Effect, hold, change, putBack, readEffects, writeEffects, blockedEffect, storeEffect, effects, Bench, puttingBack, loaded, taking, working, bufferedDo, bufferedAll}
+use Rattle.steps.specs.Effects.{Effect, hold, change, putBack, readEffects, writeEffects, blockedEffect, storeEffect, effects, Bench, puttingBack, loaded, taking, working, plainDo, bufferedDo, bufferedAll}
 use Rattle.steps.specs.Next.{Scene, factsOf, fileDone, entryDone}
 use Rattle.steps.specs.Step.{After, heldOf, kept, bufferedScene, bufferedAnswer, bufferedAfter, bufferedStep}
 use Rattle.requests.proofs.Done.{Live, Allows, done-allows}
-use Rattle.sessions.specs.Session.{bare, fileOf, openFiles, extentWith, bufferedLegal}
+use Rattle.requests.proofs.Live.{done-live}
+use Rattle.sessions.specs.Session.{bare, fileOf, openFiles, extent, extentWith, bufferedLegal, typed}
+use Rattle.sessions.proofs.Legal.{bare-legal, good-table}
+use Rattle.settling.proofs.Kept.{table-length}
 use Rattle.settling.proofs.Bench.{takes-held}
-use Rattle.settling.proofs.Served.{kept-used, kept-file}
+use Rattle.settling.proofs.Next.{kept-used, kept-file}
 use Rattle.settling.proofs.Standing.{Standing, isOpen, isShut, standing, held-file, held-set}
-use Rattle.demands.specs.Demand3.{changed, liesIn, goesIn, Holds, Buffers, Buffering, PutsBack, leaves, puts, stamps, OnlyPutsBack, isGranule, ByPuttingBack}
+use Rattle.demands.specs.Demand3.{changed, readIn, putFirst, liesIn, goesIn, Holds, Buffers, Buffering, PutsBack, leaves, puts, stamps, OnlyPutsBack, isGranule, ByPuttingBack}
 use Rattle.geometry.specs.declared.Place.{Place}
 use Rattle.directory.specs.declared.Entry.{Entry}
 use Rattle.requests.specs.declared.Answer.{Answer}
@@ -33,6 +40,7 @@ use Rattle.requests.specs.declared.Answer.the-variants.{Done, Met, Refused}
 use Rattle.sessions.specs.declared.BufferedFile.{BufferedFile}
 use Rattle.sessions.specs.declared.BufferedSession.{BufferedSession}
 use Rattle.sessions.specs.declared.OpenFile.{OpenFile}
+use Rattle.requests.specs.declared.Order.{Order}
 use Rattle.requests.specs.declared.Order.the-variants.{WriteMark, RewindOnline, RewindOffline, RecordForward, RecordBack, FileForward, FileBack}
 use Rattle.requests.specs.declared.Request.{Request}
 use Rattle.requests.specs.declared.Request.the-variants.{Open, Read, Write, GranuleRead, GranuleWrite, GranuleLook, Position}
@@ -157,6 +165,35 @@ module _ (c : Scene) where
   blocked-place : isKind blocked e ≡ true → placeOf blocked (e .length) (c .file .position) ≡ placeOf (e .kind) (e .length) (c .file .position)
   blocked-place b = ap (λ (n : ℕ). placeOf n (e .length) (c .file .position)) (sym (eqb-true (e .kind) blocked b))
 
+  hold-stays : (k : ℕ) (w : Bench) → Holds (w .file) k → bufferedDo c (hold k) w ≡ w
+  unfolding bufferedDo
+  hold-stays k w h = held-same c k w (rw (h .0, eq-eqb (w .file .held) k (h .1)))
+
+  holds-stay : (k : ℕ) (ks : List ℕ) (w : Bench) → Holds (w .file) k → every (λ j. eqb j k) ks ≡ true → bufferedAll c (map hold ks) w ≡ w
+  unfolding bufferedAll every
+  holds-stay k [] w h r = refl
+  holds-stay k (j ∷ ks) w h r =
+      let q : j ≡ k = eqb-true j k (and-left (eqb j k) _ r) in
+      ap (bufferedAll c (map hold ks)) (hold-stays j w (h .0, h .1 ∙ sym q)) ∙ holds-stay k ks w h (and-right (eqb j k) _ r)
+
+  -- a read of what is held changes nothing
+  read-stays : (w : Bench) → (isKind blocked e || isKind compressed e) ≡ true → w .file .holds ≡ true → every (λ k. eqb k (w .file .held)) (readIn e (c .file) (c .bytes)) ≡ true
+      → bufferedAll c (readEffects c) w ≡ w
+  unfolding readEffects readIn
+  read-stays w k h r = of-kind k
+      (λ b z. rw (b, readEffects) (holds-stay (w .file .held) (_ ∷ []) w (h, refl) (rw (blocked-place b) (rw (z, readIn) at r))))
+      (λ b z.
+      let m : every (λ k. eqb k (w .file .held)) (coded (goesOn (c .bytes) (c .file .here) && ltb (c .file .here .byte) sector)) ≡ true = rw (z, readIn) at r in
+      rw (b, z, readEffects) (go (goesOn (c .bytes) (c .file .here) && ltb (c .file .here .byte) sector) m))
+    where
+      coded : Bool → List ℕ
+      coded g = elim g [ true ↦ c .file .here .sector ∷ startOf (c .bytes) (c .file .here) .sector ∷ [] | false ↦ startOf (c .bytes) (c .file .here) .sector ∷ [] ]
+
+      go : (g : Bool) → every (λ k. eqb k (w .file .held)) (coded g) ≡ true
+          → bufferedAll c (elim g [ true ↦ hold (c .file .here .sector) ∷ hold (startOf (c .bytes) (c .file .here) .sector) ∷ [] | false ↦ hold (startOf (c .bytes) (c .file .here) .sector) ∷ [] ]) w ≡ w
+      go true m = holds-stay (w .file .held) (coded true) w (h, refl) m
+      go false m = holds-stay (w .file .held) (coded false) w (h, refl) m
+
   -- a read ends holding the sector that its record lies in
   read-holds : (w : Bench) → (isKind blocked e || isKind compressed e) ≡ true → Holds (bufferedAll c (readEffects c) w .file) (liesIn e (c .file) (c .bytes))
   unfolding readEffects bufferedAll liesIn
@@ -191,7 +228,7 @@ module _ (c : Scene) where
 
 -- ---- one request
 
-module _ (image : List ℕ) (s : BufferedSession) (i : ℕ) (given buffer : List ℕ) (kind : (isKind blocked (entryAt (s .table) i) || isKind compressed (entryAt (s .table) i)) ≡ true) where
+module _ (image : List ℕ) (s : BufferedSession) (i : ℕ) (given buffer : List ℕ) (types : typed s ≡ true) (kind : (isKind blocked (entryAt (s .table) i) || isKind compressed (entryAt (s .table) i)) ≡ true) where
   abbrev found : Bench
   found = record { image = image; file = heldOf s i }
 
@@ -218,6 +255,41 @@ module _ (image : List ℕ) (s : BufferedSession) (i : ℕ) (given buffer : List
   unfolding bufferedAfter effects bufferedScene
   write-inside d h r = ap (λ (x : After BufferedSession). x .image) (step-is Write d) ∙ write-stays scene found kind h (rw (held-file s i) at r)
 
+  read-inside : bufferedStep image s i Read given buffer .answer ≡ Done → heldOf s i .holds ≡ true
+      → every (λ k. eqb k (heldOf s i .held)) (readIn (entryAt (s .table) i) (heldOf s i .file) (extentWith (entryAt (s .table) i) (heldOf s i) image)) ≡ true
+      → bufferedStep image s i Read given buffer .image ≡ image
+  unfolding bufferedAfter effects bufferedScene
+  read-inside d h r =
+      ap (λ (x : After BufferedSession). x .image) (step-is Read d) ∙ ap (λ (w : Bench). w .image) (read-stays scene found kind h
+      (subst (λ (f : OpenFile). every (λ k. eqb k (heldOf s i .held)) (readIn (entryAt (s .table) i) f (extentWith (entryAt (s .table) i) (heldOf s i) image)) ≡ true) (held-file s i) r))
+
+  allowed : (q : Request) → bufferedStep image s i q given buffer .answer ≡ Done → Allows q (factsOf (bufferedLegal image s) (openFiles (bare s .files)) (length buffer) q scene)
+  unfolding bufferedAnswer
+  allowed q d = done-allows q _ (is-done q d)
+
+  -- an order puts back first, unless it is a skip; a close then writes in the directory alone
+  stamp-elsewhere : bufferedLegal image s ≡ true → isFree (entryAt (s .table) i) ≡ false → (x xs : List ℕ) → length xs ≡ 4 → extent (entryAt (s .table) i) (lay x (entrySize * i + 16) xs) ≡ extent (entryAt (s .table) i) x
+  unfolding extent bare
+  stamp-elsewhere l u x xs n =
+      let k : ¬ (entryAt (s .table) i .kind ≡ 0) = eqb-false (entryAt (s .table) i .kind) 0 u in
+      part-lay-apart x (entrySize * i + 16) xs _ _
+      (omega (arith, lies (sectorsOf image) (s .table) (good-table image (bare s) (bare-legal image s l)) i k .starts, used-inside (s .table) i k, table-length s types))
+
+  after-order : (o : Order) → Live (factsOf (bufferedLegal image s) (openFiles (bare s .files)) (length buffer) (Position o) scene)
+      → extent (entryAt (s .table) i) (bufferedAfter Done image s (Position o) scene (heldOf s i) buffer .image) ≡ extent (entryAt (s .table) i) (putFirst o (entryAt (s .table) i) found)
+  unfolding bufferedAfter effects bufferedAll bufferedDo plainDo putFirst bufferedScene factsOf stampBytes word
+  after-order WriteMark l = refl
+  after-order RewindOnline l = refl
+  after-order RewindOffline l = stamp-elsewhere (l .legal) (l .used) (puttingBack (entryAt (s .table) i) found .image) _ refl
+  after-order RecordForward l = refl
+  after-order RecordBack l = refl
+  after-order FileForward l = refl
+  after-order FileBack l = refl
+
+  order-puts : (o : Order) → bufferedStep image s i (Position o) given buffer .answer ≡ Done
+      → extent (entryAt (s .table) i) (bufferedStep image s i (Position o) given buffer .image) ≡ extent (entryAt (s .table) i) (putFirst o (entryAt (s .table) i) found)
+  order-puts o d = ap (λ (x : After BufferedSession). extent (entryAt (s .table) i) (x .image)) (step-is (Position o) d) ∙ after-order o (done-live (Position o) _ (allowed (Position o) d))
+
   -- the file stays open, and is found in the session that is left
   left-held : (q : Request) → Live (factsOf (bufferedLegal image s) (openFiles (bare s .files)) (length buffer) q scene) → fileDone q scene .used ≡ true → fileDone q scene .entry ≡ fileOf (bare s .files) i .entry
       → (k : ℕ) → bufferedStep image s i q given buffer .answer ≡ Done → Holds (bufferedAll scene (effects q scene) found .file) k → Holds (heldOf (bufferedStep image s i q given buffer .session) i) k
@@ -239,17 +311,15 @@ module _ (image : List ℕ) (s : BufferedSession) (i : ℕ) (given buffer : List
           ∙ kept-used f after u)) h
       go (isShut z) = both-ways (fileOf (bare s .files) i .used) (l .opened) (ap (λ (x : OpenFile). x .used) (z .file))
 
-  allowed : (q : Request) → bufferedStep image s i q given buffer .answer ≡ Done → Allows q (factsOf (bufferedLegal image s) (openFiles (bare s .files)) (length buffer) q scene)
-  unfolding bufferedAnswer
-  allowed q d = done-allows q _ (is-done q d)
-
   buffers-well : Buffers image s i given buffer (entryAt (s .table) i) (heldOf s i)
   unfolding fileDone effects bufferedScene
   buffers-well = record {
     inside = write-inside;
-    readHolds = λ d. left-held Read (allowed Read d .advances .running .live) refl refl _ d (subst (λ (f : OpenFile). Holds (bufferedAll scene (effects Read scene) found .file) (liesIn (entryAt (s .table) i) f (extentWith (entryAt (s .table) i) (heldOf s i) image))) (sym (held-file s i)) (read-holds scene found kind));
-    writeHolds = λ d. left-held Write (allowed Write d .marks .running .live) refl refl _ d (subst (λ (f : OpenFile). Holds (bufferedAll scene (effects Write scene) found .file) (goesIn (entryAt (s .table) i) f given)) (sym (held-file s i)) (write-holds scene found kind));
+    readInside = read-inside;
+    ordered = order-puts;
+    readHolds = λ d. left-held Read (done-live Read _ (allowed Read d)) refl refl _ d (subst (λ (f : OpenFile). Holds (bufferedAll scene (effects Read scene) found .file) (liesIn (entryAt (s .table) i) f (extentWith (entryAt (s .table) i) (heldOf s i) image))) (sym (held-file s i)) (read-holds scene found kind));
+    writeHolds = λ d. left-held Write (done-live Write _ (allowed Write d)) refl refl _ d (subst (λ (f : OpenFile). Holds (bufferedAll scene (effects Write scene) found .file) (goesIn (entryAt (s .table) i) f given)) (sym (held-file s i)) (write-holds scene found kind));
   }
 
 pub buffering : Buffering
-buffering = record { each = λ image s i given buffer t kind. buffers-well image s i given buffer kind }
+buffering = record { each = buffers-well }

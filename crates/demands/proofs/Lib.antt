@@ -2,8 +2,10 @@ pub mod Orderly
 pub mod Illegal
 pub mod Settled
 pub mod Buffering
+pub mod Passing
 pub mod Plain
 pub mod Untouched
+pub mod Agree
 pub mod Answers
 pub mod ReadsBack
 pub mod Counts

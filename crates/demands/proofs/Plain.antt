@@ -1,23 +1,23 @@
 -- The plain engine serves the tapes and rows of the mounted image, request by request; every session that it hands out is legal; and where nothing
 -- is open, mounting its image afresh gives the same tapes and rows.
 use mathlib.Core.Path.{_≡_, refl, sym, ap, _∙_}
-use mathlib.Core.Bool.{true, false}
+use mathlib.Core.Bool.{true}
 use mathlib.Core.List.{List, [], _∷_, map}
 use Prim.Native.Nat.{ℕ, _≤_}
 use lib.ListN.{length, length-map}
 use Rattle.geometry.specs.Lists.{numbersFrom}
-use Rattle.geometry.specs.Sizes.{entries, mostOpen, sectorsOf, lawfulLength}
-use Rattle.geometry.proofs.Tests.{either}
+use Rattle.geometry.specs.Sizes.{entries, mostOpen}
 use Rattle.directory.specs.Entries.{entryAt}
 use Rattle.requests.specs.Numbers.{numberOf}
-use Rattle.sessions.specs.Session.{fresh, unheld, spotOf, legal, typed}
+use Rattle.sessions.specs.Session.{fresh, unheld, spotOf, typed}
 use Rattle.sessions.proofs.Unheld.{unheld-legal}
 use Rattle.mounting.specs.Mounting.{mounts, plainMount}
 use Rattle.tapes.specs.Tape.{Tape}
 use Rattle.tapes.specs.Model.{tape, Model, Asked, Report, modelAt, modelsOf, modelSpot, modelShown, modelAnswer, modelStep, modelReport, modelReports, modelRun, ifDone, nothingOpen}
+use Rattle.mounting.proofs.Mounted.{mounted-legal}
 use Rattle.serving.proofs.Keeping.{legal-step}
 use Rattle.serving.proofs.Lifting.{Stands}
-use Rattle.serving.proofs.Mounted.{start-legal, empty-good, mounted-session, mounted-stands, mounted-view, afresh-view, afresh-mounts}
+use Rattle.serving.proofs.Mounted.{mounted-session, mounted-stands, mounted-view, afresh-view, afresh-mounts}
 use Rattle.serving.proofs.Step.{asked, tape-counts, answer-step, buffer-step, look-step, view-step, stands-step}
 use Rattle.serving.proofs.View.{view-at, showsAt, view, spot-view}
 use Rattle.settling.proofs.Kept.{table-length, files-length}
@@ -161,17 +161,11 @@ plain-faithful = record {
 
 pub plain-passing : Passing plainEngine
 plain-passing = record {
-  mounting = λ image ok. unheld-legal image (plainMount image .session) ∙ start image ok;
+  mounting = λ image ok. unheld-legal image (plainMount image .session) ∙ mounted-legal image ok;
   requests = λ image s i q given buffer t ok.
       unheld-legal _ _ ∙ legal-step image s (sym (unheld-legal image s) ∙ ok) (typed-table s t) (typed-files s t) i q given buffer;
 }
   where
-    start : (image : List ℕ) → lawfulLength image ≡ true → legal image (plainMount image .session) ≡ true
-    start image ok = unfold plainMount in
-        either (mounts image)
-        (λ (m : mounts image ≡ true). rw (m, plainMount) (mounted-stands image m .ok))
-        (λ (m : mounts image ≡ false). rw (m, plainMount) (start-legal image _ ok (empty-good (sectorsOf image))))
-
     typed-table : (s : Session) → typed (unheld s) ≡ true → length (s .table) ≡ entries
     typed-table s t = unfold unheld in table-length (unheld s) t
 

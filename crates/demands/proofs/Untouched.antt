@@ -18,7 +18,7 @@ use Rattle.directory.specs.Stamp.{restamped}
 use Rattle.sessions.specs.Session.{fileOf}
 use Rattle.mounting.specs.Mounting.{mounts, startWith}
 use Rattle.steps.proofs.Frame.{Elsewhere}
-use Rattle.tapes.specs.Model.{Model, Asked, modelAt, isOpenModel, modelStep, opensNow, opened}
+use Rattle.tapes.specs.Model.{Model, Asked, modelsOf, modelAt, isOpenModel, modelStep, opensNow, opened}
 use Rattle.tapes.proofs.Opened.{open-after}
 use Rattle.serving.proofs.Lifting.{Stands, sceneOf}
 use Rattle.serving.proofs.Mounted.{mounted-session, nothing-open}
@@ -43,7 +43,7 @@ apart j at n e = either (leb at j)
     (λ (h : leb at j ≡ false). let k : j < at = leb-false at j h in omega arith)
 
 module _ (table : List Entry) (j : ℕ) where
-  far : (image : List ℕ) (s : Session) (i : ℕ) (given : List ℕ) → restamped (entryAt (s .table) i) 0 0 ≡ restamped (entryAt table i) 0 0 → belongs table j i ≡ false
+  pub far : (image : List ℕ) (s : Session) (i : ℕ) (given : List ℕ) → restamped (entryAt (s .table) i) 0 0 ≡ restamped (entryAt table i) 0 0 → belongs table j i ≡ false
       → Elsewhere (sceneOf image s i given) j
   unfolding belongs
   far image s i given same none =
@@ -58,10 +58,10 @@ module _ (table : List Entry) (j : ℕ) where
   -- ---- a run
 
   -- what the run keeps: every entry lies where it lay, and the byte belongs to no file that is open
-  record Spared (w : Standing Session) : Type 0 where
-    stands : Stands (w .image) (w .session)
-    same : (k : ℕ) → restamped (entryAt (w .session .table) k) 0 0 ≡ restamped (entryAt table k) 0 0
-    none : (k : ℕ) → isOpenModel (modelAt (view (w .image) (w .session)) k) ≡ true → belongs table j k ≡ false
+  pub record Spared (w : Standing Session) : Type 0 where
+    pub stands : Stands (w .image) (w .session)
+    pub same : (k : ℕ) → restamped (entryAt (w .session .table) k) 0 0 ≡ restamped (entryAt table k) 0 0
+    pub none : (k : ℕ) → isOpenModel (modelAt (view (w .image) (w .session)) k) ≡ true → belongs table j k ≡ false
 
   module _ (w : Standing Session) (p : Spared w) (a : Asked) (now : opensNow (view (w .image) (w .session)) a ≡ true → belongs table j (a .entry) ≡ false) where
     abbrev w′ : Standing Session
@@ -87,9 +87,9 @@ module _ (table : List Entry) (j : ℕ) where
         go k (inr o) = rw (o .0) (now (o .1))
 
   spared : (asked : List Asked) (w : Standing Session) → Spared w → every (λ i. not (belongs table j i)) (opened (view (w .image) (w .session)) asked) ≡ true
-      → getD (run plainEngine w asked .image) j 0 ≡ getD (w .image) j 0
+      → (getD (run plainEngine w asked .image) j 0 ≡ getD (w .image) j 0) × Spared (run plainEngine w asked)
   unfolding run opened every
-  spared [] w p h = refl
+  spared [] w p h = (refl, p)
   spared (a ∷ rest) w p h = go (opensNow ms a) refl h (spared rest (stepOf plainEngine w a))
     where
       ms : List Model
@@ -98,14 +98,16 @@ module _ (table : List Entry) (j : ℕ) where
       go : (b : Bool) → opensNow (view (w .image) (w .session)) a ≡ b
           → every (λ i. not (belongs table j i)) (elim b [ true ↦ a .entry ∷ opened (modelStep (view (w .image) (w .session)) a) rest | false ↦ opened (modelStep (view (w .image) (w .session)) a) rest ]) ≡ true
           → (Spared (stepOf plainEngine w a) → every (λ i. not (belongs table j i)) (opened (view (stepOf plainEngine w a .image) (stepOf plainEngine w a .session)) rest) ≡ true
-          → getD (run plainEngine (stepOf plainEngine w a) rest .image) j 0 ≡ getD (stepOf plainEngine w a .image) j 0)
-          → getD (run plainEngine (stepOf plainEngine w a) rest .image) j 0 ≡ getD (w .image) j 0
+          → (getD (run plainEngine (stepOf plainEngine w a) rest .image) j 0 ≡ getD (stepOf plainEngine w a .image) j 0) × Spared (run plainEngine (stepOf plainEngine w a) rest))
+          → (getD (run plainEngine (stepOf plainEngine w a) rest .image) j 0 ≡ getD (w .image) j 0) × Spared (run plainEngine (stepOf plainEngine w a) rest)
       go true e k more =
           let now : opensNow (view (w .image) (w .session)) a ≡ true → belongs table j (a .entry) ≡ false = λ o. not-true _ (and-left (not (belongs table j (a .entry))) _ k) in
-          more (spared-then w p a now) (rw (view-then w (p .stands) a) (and-right (not (belongs table j (a .entry))) _ k)) ∙ byte-then w p a now
+          let m = more (spared-then w p a now) (rw (view-then w (p .stands) a) (and-right (not (belongs table j (a .entry))) _ k)) in
+          (m .0 ∙ byte-then w p a now, m .1)
       go false e k more =
           let now : opensNow (view (w .image) (w .session)) a ≡ true → belongs table j (a .entry) ≡ false = λ o. both-ways (opensNow (view (w .image) (w .session)) a) o e in
-          more (spared-then w p a now) (rw (view-then w (p .stands) a) k) ∙ byte-then w p a now
+          let m = more (spared-then w p a now) (rw (view-then w (p .stands) a) k) in
+          (m .0 ∙ byte-then w p a now, m .1)
 
 module _ (image : List ℕ) (ok : mounts image ≡ true) (j : ℕ) where
   abbrev begun : Standing Session
@@ -121,6 +123,11 @@ module _ (image : List ℕ) (ok : mounts image ≡ true) (j : ℕ) where
         (ap (λ (s : Session). fileOf (s .files) k .used) (mounted-session image ok) ∙ ap (λ (f : OpenFile). f .used) (nothing-open (tableOf image) k));
   }
 
-pub plain-untouched : (image : List ℕ) → mounts image ≡ true → (asked : List Asked) → Untouched plainEngine image asked
+-- what the run from a mounting keeps
+pub mounted-spared : (image : List ℕ) → mounts image ≡ true → (asked : List Asked) (j : ℕ) → every (λ i. not (belongs (tableOf image) j i)) (opened (modelsOf image) asked) ≡ true
+    → (getD (run plainEngine (mounted plainEngine image) asked .image) j 0 ≡ getD image j 0) × Spared (tableOf image) j (run plainEngine (mounted plainEngine image) asked)
 unfolding mounted
-plain-untouched image ok asked j h = spared (tableOf image) j asked (mounted plainEngine image) (start image ok j) (rw (mount-view image ok) h)
+mounted-spared image ok asked j h = spared (tableOf image) j asked (mounted plainEngine image) (start image ok j) (rw (mount-view image ok) h)
+
+pub plain-untouched : (image : List ℕ) → mounts image ≡ true → (asked : List Asked) → Untouched plainEngine image asked
+plain-untouched image ok asked j h = mounted-spared image ok asked j h .0

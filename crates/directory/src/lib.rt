@@ -16,7 +16,7 @@ ghost use Rattle.geometry.specs.Lists.{every};
 ghost use Rattle.geometry.specs.Lists as Lists;
 ghost use Rattle.geometry.specs.Sizes.{blank};
 ghost use Rattle.directory.specs.Entries.{entryFrom, entryBytes, oneWord, freeEntry, tableOf, entryAt, isMarked, isProtected};
-ghost use Rattle.directory.specs.Rules.{capital, digit, isName, nameGood, namesDiffer, extentInside, extentsApart, longest, lengthGood, countGood, randomBare, tableGood};
+ghost use Rattle.directory.specs.Rules.{capital, digit, isName, nameGood, extentInside, longest, lengthGood, countGood, randomBare, tableGood};
 ghost use Rattle.directory.specs.Grouped.{entryGood, twoGood};
 ghost use Rattle.directory.specs.Search.{matches};
 ghost use Rattle.directory.specs.Search as Search;
@@ -72,36 +72,6 @@ pub fn entry_from(b: &[u8]) -> Entry
     }
 }
 
-// An entry of 20 zero bytes.
-pub fn free_entry() -> Entry
-    ensures { λ r. ⌜ r ≡ freeEntry ⌝ }
-{
-    Entry {
-        name: [0; 8],
-        kind: 0,
-        length: 0,
-        first: 0,
-        sectors: 0,
-        count: 0,
-        flags: 0,
-    }
-}
-
-// A table with no used entry.
-pub fn empty_table() -> [Entry; 18]
-    ensures { λ r. ⌜ r ≡ replicate 18 freeEntry ⌝ }
-{
-    let e = free_entry();
-    [e; 18]
-}
-
-// The entry of that number in a table; a free one where there is none.
-pub fn entry_of(t: [Entry; 18], i: usize) -> Entry
-    ensures { λ r. ⌜ r ≡ entryAt t i ⌝ }
-{
-    if i < 18 { t[i] } else { free_entry() }
-}
-
 // A name and six words, as 20 bytes.
 fn twenty_bytes(
     name: [u8; 8],
@@ -153,6 +123,42 @@ pub fn put_entry(out: &mut [u8], at: usize, e: Entry)
 {
     let b = entry_bytes(e);
     lay(out, at, &b);
+}
+
+// ---- the table
+
+// An entry of 20 zero bytes.
+pub fn free_entry() -> Entry
+    ensures { λ r. ⌜ r ≡ freeEntry ⌝ }
+{
+    Entry {
+        name: [0; 8],
+        kind: 0,
+        length: 0,
+        first: 0,
+        sectors: 0,
+        count: 0,
+        flags: 0,
+    }
+}
+
+// A table with no used entry.
+pub fn empty_table() -> [Entry; 18]
+    ensures { λ r. ⌜ r ≡ replicate 18 freeEntry ⌝ }
+{
+    let e = free_entry();
+    [e; 18]
+}
+
+// The entry of that number in a table; a free one where there is none.
+pub fn entry_of(t: [Entry; 18], i: usize) -> Entry
+    ensures { λ r. ⌜ r ≡ entryAt t i ⌝ }
+{
+    if i < Geometry::ENTRIES {
+        t[i]
+    } else {
+        free_entry()
+    }
 }
 
 // Entry i of an image's directory; a free one where there is none.
@@ -367,14 +373,14 @@ pub fn is_good(t: [Entry; 18], n: u32) -> bool
     ensures { λ r. ⌜ r ≡ tableGood n t ⌝ }
 {
     let mut i: usize = 0;
-    while i < 18 {
+    while i < Geometry::ENTRIES {
         let e = t[i];
         if !entry_good(e, n) {
             return false;
         }
         if e.kind != Geometry::FREE {
             let mut j = i + 1;
-            while j < 18 {
+            while j < Geometry::ENTRIES {
                 let f = t[j];
                 if !two_good(e, f) {
                     return false;
@@ -405,7 +411,7 @@ pub fn is_named(e: Entry, name: &[u8]) -> bool
 pub fn search(image: &[u8], name: &[u8]) -> Found
     ensures { λ r. ⌜ r ≡ Search.search (now (image .entry)) (now (name .entry)) ⌝ }
 {
-    let mut i: usize = 0;
+    let mut i = 0;
     while i < Geometry::ENTRIES {
         let e = entry_at(image, i);
         if is_named(e, name) {

@@ -4,24 +4,23 @@ use mathlib.Core.Bool.{true, false, not}
 use mathlib.Core.List.{List, map}
 use Prim.Native.Nat.{ℕ, _*_}
 use native.Mathlib.Omega.{arith}
-use lib.ListN.{getD, replicate, length-map, List·getD-map}
+use lib.ListN.{getD, length-map, List·getD-map}
 use lib.Seq.{ext-getD}
 use borrow.Author.Tests.{eqb-true, eqb-false, ne-eqb, not-true}
-use Rattle.geometry.specs.Bytes.{word}
-use Rattle.geometry.specs.Lists.{all, every, pairwise, firstWith, howMany}
-use Rattle.geometry.specs.Sizes.{sector, entries, compressed, sectorsOf, free, lawfulLength}
-use Rattle.geometry.specs.Places.{capacity}
+use Rattle.geometry.specs.Lists.{firstWith}
+use Rattle.geometry.specs.Sizes.{sector, compressed, sectorsOf, free, lawfulLength}
 use Rattle.geometry.proofs.Bytes.{length-part}
 use Rattle.geometry.proofs.Places.{lawful-whole}
 use Rattle.geometry.proofs.Tests.{either, both-ways, and-left, and-right, and-both, every-any, every-from}
-use Rattle.directory.specs.Entries.{entryBytes, tableOf, entryAt, freeEntry, isFree, isKind}
-use Rattle.directory.specs.Rules.{kindKnown, freeIsZero, nameGood, namesDiffer, extentInside, extentsApart, flagsKnown, lengthGood, countGood, randomBare, tableRules, tableGood}
+use Rattle.directory.specs.Entries.{tableOf, entryAt, freeEntry, isFree, isKind}
+use Rattle.directory.specs.Rules.{tableGood}
 use Rattle.directory.proofs.Good.{Lies, lies}
 use Rattle.directory.proofs.Table.{length-table}
 use Rattle.packing.specs.Reading.{behind, behindFrom}
-use Rattle.sessions.specs.Session.{idle, isOf, fileOf, openFiles, extent, ofUsedEntry, ofOther, positionGood, beyondGood, placesGood, sessionRules, legal}
+use Rattle.sessions.specs.Session.{idle, isOf, fileOf, extent, legal}
 use Rattle.sessions.proofs.Legal.{lawful-length, good-table}
 use Rattle.sessions.proofs.Distinct.{file-idle}
+use Rattle.mounting.proofs.Mounted.{start-legal}
 use Rattle.mounting.specs.Mounting.{countDecodes, mounts, startWith, plainMount}
 use Rattle.steps.proofs.Inside.{lawful}
 use Rattle.tapes.specs.Tape.{tapeOf}
@@ -38,15 +37,6 @@ use Rattle.sessions.specs.declared.Session.{Session}
 pub nothing-open : (table : List Entry) (i : ℕ) → fileOf (startWith table .files) i ≡ idle
 unfolding fileOf firstWith isOf startWith
 nothing-open table i = refl
-
-pub start-legal : (image : List ℕ) (table : List Entry) → lawfulLength image ≡ true → tableGood (sectorsOf image) table ≡ true → legal image (startWith table) ≡ true
-unfolding startWith legal sessionRules all openFiles howMany every pairwise ofUsedEntry ofOther positionGood beyondGood placesGood
-start-legal image table l t = rw (l, t)
-
--- "a table with no used entry" keeps the rules
-pub empty-good : (N : ℕ) → tableGood N (replicate entries freeEntry) ≡ true
-unfolding tableGood tableRules all every pairwise kindKnown freeIsZero nameGood namesDiffer extentInside extentsApart flagsKnown lengthGood countGood randomBare entryBytes word capacity
-empty-good N = refl
 
 -- ---- an image's models are what a session shows that has the image's table and nothing open
 
@@ -129,7 +119,7 @@ module _ (image : List ℕ) (ok : mounts image ≡ true) where
 -- ---- mounting afresh
 
 module _ (image : List ℕ) (s : Session) (v : Stands image s) (none : nothingOpen (view image s) ≡ true) where
-  none-open : (i : ℕ) → fileOf (s .files) i .used ≡ false
+  pub none-open : (i : ℕ) → fileOf (s .files) i .used ≡ false
   unfolding nothingOpen isOpenModel
   none-open i =
       sym (open-at image s (v .ok) i)

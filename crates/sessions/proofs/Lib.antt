@@ -4,3 +4,4 @@ pub mod Unheld
 pub mod Distinct
 pub mod Kept
 pub mod Counted
+pub mod Grouped
