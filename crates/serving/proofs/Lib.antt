@@ -10,3 +10,5 @@ pub mod Granules
 pub mod Keeping
 pub mod View
 pub mod Lifting
+pub mod Step
+pub mod Mounted

@@ -1,33 +1,32 @@
 -- From one file to a whole session. What holds of every file from a mounting on holds behind every request: the file that is asked stays what its
 -- tape or row is, by what is proved of it by itself; every other keeps its entry, its state and its extent, since extents share no sector.
 use mathlib.Core.Path.{_≡_, refl, sym, ap, _∙_, subst}
-use mathlib.Core.Logic.{_≢_, _⊎_, inl, inr, ⊎-elim}
-use mathlib.Core.Bool.{Bool, true, false}
-use mathlib.Core.List.{List, [], _∷_, map}
-use Prim.Native.Nat.{ℕ, _+_, _*_, _≤_, _<_}
+use mathlib.Core.Logic.{_≢_, _⊎_, ⊎-elim}
+use mathlib.Core.Bool.{true, false}
+use mathlib.Core.List.{List}
+use Prim.Native.Nat.{ℕ, _+_, _*_, _<_}
 use native.Mathlib.Omega.{arith}
 use native.Mathlib.Decide.{ℕ-discrete}
-use lib.Dec.{eqb}
 use lib.ListN.{length, getD, set, length-set}
-use lib.Seq.{getD-set-same, getD-set-other, ext-getD, set-getD}
+use lib.Seq.{getD-set-same, getD-set-other, ext-getD}
 use borrow.Author.Tests.{eqb-false}
 use Rattle.geometry.specs.Bytes.{lay}
 use Rattle.geometry.specs.Sizes.{entries, compressed, random, mostOpen, sectorsOf, free, lawfulLength}
 use Rattle.geometry.proofs.Places.{lawful-whole, lawful-some}
 use Rattle.geometry.proofs.Tests.{either, both-ways}
 use Rattle.directory.specs.Entries.{entryAt, tableOf, freeEntry, isFree, isKind}
-use Rattle.directory.specs.Stamp.{stampBytes, stamped, restamped}
+use Rattle.directory.specs.Stamp.{stampBytes, restamped}
 use Rattle.directory.proofs.Good.{Lies, lies, extents-apart}
 use Rattle.directory.proofs.Table.{length-table}
 use Rattle.directory.proofs.Stamped.{stamped-in, stamp-table}
-use Rattle.requests.specs.Judge.{judge, tests, firstOf}
-use Rattle.requests.proofs.Done.{Tells, judge-tells, done-allows}
-use Rattle.sessions.specs.Session.{idle, fileOf, slotOf, openFiles, extent, legal}
+use Rattle.requests.specs.Judge.{judge}
+use Rattle.requests.proofs.Done.{done-allows}
+use Rattle.sessions.specs.Session.{fileOf, slotOf, openFiles, extent, legal}
 use Rattle.sessions.proofs.Legal.{good-table, lawful-length, legal-length}
-use Rattle.steps.specs.Next.{Scene, factsOf, fileDone, fileMet, entryDone, counted}
+use Rattle.steps.specs.Next.{Scene, factsOf, fileMet, entryDone, counted}
 use Rattle.steps.specs.Effects.{effects, plainDo, plainAll}
 use Rattle.steps.specs.Verdict.{entryNext, fileNext}
-use Rattle.steps.proofs.Lawful.{Lawful, AllInside, ownAll}
+use Rattle.steps.proofs.Lawful.{Lawful, AllInside}
 use Rattle.steps.proofs.Inside.{lawful, inside}
 use Rattle.steps.proofs.Frame.{length-plain, other-plain, own-plain, Unstamped, table-plain, stamps-or}
 use Rattle.tapes.specs.Model.{Model, nothing, modelAt, modelNext}
@@ -36,21 +35,18 @@ use Rattle.serving.proofs.Stays.{same-next}
 use Rattle.serving.proofs.Packed.{packed-serves}
 use Rattle.serving.proofs.Fixed.{fixed}
 use Rattle.serving.proofs.Granules.{granules}
-use Rattle.serving.proofs.Keeping.{next-restamped, Goes, on, off, goes, Of, Answered, done, met, sessionNext, legal-next, in-entries, file-then, file-others}
+use Rattle.serving.proofs.Keeping.{Goes, on, off, goes, Of, Answered, done, sessionNext, legal-next, in-entries, file-then, file-others}
 use Rattle.serving.proofs.View.{showsAt, view, shows-free, length-view, view-at}
 use Rattle.directory.specs.declared.Entry.{Entry}
 use Rattle.sessions.specs.declared.OpenFile.{OpenFile}
 use Rattle.sessions.specs.declared.Session.{Session}
 use Rattle.requests.specs.declared.Answer.{Answer}
-use Rattle.requests.specs.declared.Answer.the-variants.{Done, Met, Refused}
+use Rattle.requests.specs.declared.Answer.the-variants.{Done, Met}
 use Rattle.requests.specs.declared.Edge.{Edge}
 use Rattle.requests.specs.declared.Edge.the-variants.{EndOfFile, BeginningOfTape}
-use Rattle.requests.specs.declared.Facts.{Facts}
-use Rattle.requests.specs.declared.Order.the-variants.{WriteMark, RewindOnline, RewindOffline, RecordForward, RecordBack, FileForward, FileBack}
-use Rattle.requests.specs.declared.Refusal.{Refusal}
-use Rattle.requests.specs.declared.Refusal.the-variants.{NotThere}
+use Rattle.requests.specs.declared.Order.the-variants.{RewindOffline}
 use Rattle.requests.specs.declared.Request.{Request}
-use Rattle.requests.specs.declared.Request.the-variants.{Open, Read, Write, GranuleRead, GranuleWrite, GranuleLook, Position}
+use Rattle.requests.specs.declared.Request.the-variants.{Position}
 
 -- ---- every kind
 

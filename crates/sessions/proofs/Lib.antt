@@ -4,3 +4,5 @@ pub mod Unheld
 pub mod Distinct
 pub mod Kept
 pub mod Counted
+pub mod Grouped
+pub mod Four

@@ -1,13 +1,12 @@
 -- What a request comes to, judged once for both engines: the answer, the next entry and the next state of the file, and the caller's buffer.
 -- Document 01, "The tape a file is" and "Answer numbers". Definitions only.
-use mathlib.Core.Bool.{Bool, true, false, _&&_, _||_}
+use mathlib.Core.Bool.{Bool, true, false, _||_}
 use mathlib.Core.List.{List}
-use Prim.Native.Nat.{ℕ, _*_}
-use lib.ListN.{length}
-use lib.Dec.{eqb}
+use Prim.Native.Nat.{ℕ}
 use Rattle.geometry.specs.Bytes.{lay}
-use Rattle.geometry.specs.Sizes.{sector, blocked, compressed}
+use Rattle.geometry.specs.Sizes.{blocked, compressed}
 use Rattle.directory.specs.Entries.{isKind}
+use Rattle.packing.specs.Reading.{overlaid}
 use Rattle.requests.specs.Judge.{judge}
 use Rattle.sessions.specs.Session.{extent}
 use Rattle.steps.specs.Next.{Scene, factsWith, fileDone, fileMet, entryDone, intoBuffer}
@@ -20,8 +19,8 @@ use Rattle.steps.specs.declared.Verdict.{Verdict}
 
 -- the bytes of a file's extent as the file has them: of a blocked or compressed one the held sector, if 360 bytes are lent for it, in place of the image's
 unfoldable pub seenBytes : Entry → List ℕ → ℕ → List ℕ → List ℕ
-seenBytes e image held over = elim ((isKind blocked e || isKind compressed e) && eqb (length over) sector) [
-  | true ↦ lay (extent e image) (sector * held) over
+seenBytes e image held over = elim (isKind blocked e || isKind compressed e) [
+  | true ↦ overlaid (extent e image) held over
   | false ↦ extent e image
 ]
 
