@@ -2,16 +2,20 @@
 -- `bytes` is the file's extent, of so many `sectors`; a place is one of them, from 0 on, and a byte 0 to 360.
 use mathlib.Core.Bool.{Bool, true, false, _&&_, _||_}
 use mathlib.Core.List.{List, [], _∷_}
-use Prim.Native.Nat.{ℕ, zero, suc, _+_, _-_}
-use lib.ListN.{getD}
+use Prim.Native.Nat.{ℕ, zero, suc, _+_, _-_, _*_}
+use lib.ListN.{length, getD}
 use lib.Dec.{eqb, leb, ltb}
-use Rattle.geometry.specs.Bytes.{part}
+use Rattle.geometry.specs.Bytes.{part, lay}
 use Rattle.geometry.specs.Sizes.{sector}
 use Rattle.geometry.specs.Places.{byteOf, origin}
 use Rattle.geometry.specs.declared.Place.{Place}
 use Rattle.coding.specs.Decode.{Decoded, good, bad, decode}
 use Rattle.packing.specs.declared.Led.{Led}
 use Rattle.packing.specs.declared.Led.the-variants.{To, Lost}
+
+-- the extent with a held sector, if 360 bytes are lent for it, in place of its own
+unfoldable pub overlaid : List ℕ → ℕ → List ℕ → List ℕ
+overlaid bytes held over = elim (eqb (length over) sector) [ true ↦ lay bytes (sector * held) over | false ↦ bytes ]
 
 -- the first byte of the next sector
 abbrev pub nextSector : Place → Place
