@@ -1,6 +1,6 @@
 -- How a request is judged with decoding only in its turn: what it is judged by at first, where its decoding leads, and the file's state by that place.
 -- proofs/Turns.antt shows that this comes to `verdictOf`. Definitions only.
-use mathlib.Core.Bool.{Bool, true, false, _&&_, not}
+use mathlib.Core.Bool.{Bool, true, false}
 use mathlib.Core.List.{List, []}
 use Prim.Native.Nat.{ℕ, _+_, _-_}
 use lib.Dec.{ltb}
@@ -12,7 +12,8 @@ use Rattle.packing.specs.Placing.{behindNew}
 use Rattle.packing.specs.Reading.{Got, got, lost, walkedTo, ledTo}
 use Rattle.mounting.specs.Mounting.{countedWalk}
 use Rattle.sessions.specs.Session.{idle}
-use Rattle.steps.specs.Next.{Scene, recordHere, fixedAt, moved, fileMet, counted}
+use Rattle.steps.specs.Next.{Scene, recordHere, fixedAt, moved, fileMet}
+use Rattle.steps.specs.Verdict.{entryNext}
 use Rattle.geometry.specs.declared.Place.{Place}
 use Rattle.directory.specs.declared.Entry.{Entry}
 use Rattle.packing.specs.declared.Led.{Led}
@@ -25,6 +26,7 @@ use Rattle.requests.specs.declared.Request.the-variants.{Open, Read, Write, Gra
 use Rattle.requests.specs.declared.Answer.{Answer}
 use Rattle.requests.specs.declared.Answer.the-variants.{Done, Met, Refused}
 use Rattle.sessions.specs.declared.OpenFile.{OpenFile}
+use Rattle.steps.specs.declared.Verdict.{Verdict}
 
 -- the facts but for the codes, which are supposed to be bad or not
 abbrev pub factsBut : Bool → Bool → ℕ → Entry → OpenFile → ℕ → ℕ → ℕ → Facts
@@ -69,9 +71,52 @@ laidFirst (lost p) old = old
 unfoldable pub hereInto : Entry → OpenFile → List ℕ → List ℕ → List ℕ
 hereInto e f bytes old = elim (ltb (f .position) (e .count)) [ true ↦ laidFirst (recordHere (sight e f bytes)) old | false ↦ old ]
 
--- the place behind a record written, whose code has so many bytes
-unfoldable pub writtenAt : ℕ → Entry → OpenFile → Place
-writtenAt code e f = elim (isKind compressed e) [ true ↦ behindNew (f .here) code | false ↦ f .here ]
+-- what a request decodes, where its turn has come
+unfoldable pub turnLed : Request → Entry → OpenFile → List ℕ → Led
+turnLed Open e f bytes = endLed e bytes
+turnLed Read e f bytes = hereLed e f bytes
+turnLed Write e f bytes = To origin
+turnLed (GranuleRead g) e f bytes = To origin
+turnLed (GranuleWrite g) e f bytes = To origin
+turnLed (GranuleLook g) e f bytes = To origin
+turnLed (Position o) e f bytes = hereLed e f bytes
+
+-- and what is then in the buffer
+unfoldable pub turnInto : Request → Entry → OpenFile → List ℕ → List ℕ → List ℕ
+turnInto Open e f bytes old = old
+turnInto Read e f bytes old = hereInto e f bytes old
+turnInto Write e f bytes old = old
+turnInto (GranuleRead g) e f bytes old = old
+turnInto (GranuleWrite g) e f bytes old = old
+turnInto (GranuleLook g) e f bytes old = old
+turnInto (Position o) e f bytes old = old
+
+unfoldable pub isAstray : Led → Bool
+isAstray (To p) = false
+isAstray (Lost p) = true
+
+unfoldable pub placeIn : Led → Place
+placeIn (To p) = p
+placeIn (Lost p) = p
+
+-- a request that decodes nothing, answered 0: a write's code has so many bytes, and its record ends behind it
+unfoldable pub carriedTo : ℕ → Request → Entry → OpenFile → Place
+carriedTo code Open e f = origin
+carriedTo code Read e f = origin
+carriedTo code Write e f = elim (isKind compressed e) [ true ↦ behindNew (f .here) code | false ↦ f .here ]
+carriedTo code (GranuleRead g) e f = origin
+carriedTo code (GranuleWrite g) e f = origin
+carriedTo code (GranuleLook g) e f = origin
+carriedTo code (Position o) e f = origin
+
+unfoldable pub carriedInto : Request → Entry → OpenFile → List ℕ → List ℕ → List ℕ
+carriedInto Open e f bytes old = old
+carriedInto Read e f bytes old = old
+carriedInto Write e f bytes old = old
+carriedInto (GranuleRead g) e f bytes old = lay old 0 (fixedAt (sight e f bytes) g)
+carriedInto (GranuleWrite g) e f bytes old = old
+carriedInto (GranuleLook g) e f bytes old = old
+carriedInto (Position o) e f bytes old = old
 
 -- ---- the next state of the file
 
@@ -93,3 +138,12 @@ doneFrom (GranuleRead g) i e f p = f
 doneFrom (GranuleWrite g) i e f p = f
 doneFrom (GranuleLook g) i e f p = f
 doneFrom (Position o) i e f p = orderFrom o e f p
+
+-- any answer
+unfoldable pub fileFrom : Answer → Request → ℕ → Entry → OpenFile → Place → OpenFile
+fileFrom Done q i e f p = doneFrom q i e f p
+fileFrom (Met x) q i e f p = fileMet x f
+fileFrom (Refused x) q i e f p = f
+
+abbrev pub verdictFrom : Answer → Request → ℕ → Entry → OpenFile → Place → Verdict
+verdictFrom a q i e f p = record { answer = a; entry = entryNext a q (sight e f []); file = fileFrom a q i e f p }

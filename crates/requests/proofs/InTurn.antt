@@ -3,12 +3,12 @@
 use mathlib.Core.Path.{_≡_, refl, sym, _∙_}
 use mathlib.Core.Bool.{Bool, true, false, not, false≢true}
 use mathlib.Core.List.{List, [], _∷_}
-use Prim.Native.Nat.{ℕ, _≤_, _<_}
+use Prim.Native.Nat.{_≤_, _<_}
 use lib.Dec.{eqb, leb, ltb}
-use borrow.Author.Tests.{ltb-false, leb-false, not-true, not-false}
+use borrow.Author.Tests.{le-ltb, lt-leb, ltb-false, leb-false, not-true, not-false}
 use Rattle.geometry.specs.Lists.{every}
 use Rattle.geometry.proofs.Tests.{and-left, and-right}
-use Rattle.geometry.specs.Sizes.{free, random, mostOpen}
+use Rattle.geometry.specs.Sizes.{free, mostOpen}
 use Rattle.requests.specs.Judge.{whether, orElse, Test, tests, firstOf, judge, isFull, notLegal, noEntry, notOpen, notSequential, isBeyond, badCode}
 use Rattle.requests.specs.Numbers.{numberOf}
 use Rattle.requests.proofs.Done.{Live, Running}
@@ -17,6 +17,7 @@ use Rattle.requests.specs.declared.Order.the-variants.{WriteMark, Rewind
 use Rattle.requests.specs.declared.Request.{Request}
 use Rattle.requests.specs.declared.Request.the-variants.{Open, Read, Write, GranuleRead, GranuleWrite, GranuleLook, Position}
 use Rattle.requests.specs.declared.Answer.{Answer}
+use Rattle.requests.specs.declared.Answer.the-variants.{Done}
 
 -- the same facts, but that a record that the request decodes is bad or not
 abbrev pub supposing : Bool → Facts → Facts
@@ -156,3 +157,10 @@ turn (Position RecordForward) f = advances f _ λ a e. a
 turn (Position RecordBack) f = none (tests (Position RecordBack)) (supposing true f) refl
 turn (Position FileForward) f = none (tests (Position FileForward)) (supposing true f) refl
 turn (Position FileBack) f = none (tests (Position FileBack)) (supposing true f) refl
+
+-- a read whose turn has come, of a record that is there and good, is done
+pub reads-on : (f : Facts) → ReadsThen f → f .position < f .count → judge Read (supposing false f) ≡ Done
+unfolding judge tests firstOf orElse whether
+reads-on f r h =
+    let l : Live f = r .advances .running .live in
+    rw (l .legal, l .used, l .opened, r .advances .running .sequential, r .advances .before, le-ltb (f .buffer) (f .length) (r .buffered), lt-leb (f .count) (f .position) h)
