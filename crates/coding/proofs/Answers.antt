@@ -50,18 +50,16 @@ says-on f xs old d ys s n k at result is len fits left rest =
     let front : take n d ≡ xs = rw (laid, take-at xs (drop n old) n len) in
     rw (none, append-nil, front) (says f _ result (xs ++ ys) is (says-before xs (decodeFrom 0 (length old - n) at (drop k s)) result ys (rw (lent, length-drop n old, tail k s) at rest)))
 
--- ---- decoding in a room of its own
+-- ---- measured first
 
--- a good record was left in the front of the room, and laid over the buffer
-pub decoded-good : (f : Decoded) (got : Coded) (e : ℕ) (old room front new : List ℕ) → Says f got front → got ≡ Coded.Good e → length front ≡ length old
-    → new ≡ lay old 0 (take (length old) (front ++ drop (length old) room)) → (Coded.Good e ≡ answer f) × (new ≡ given f old)
+-- a good record is in the buffer, whatever was there
+pub decoded-good : (f : Decoded) (e : ℕ) (old buffer : List ℕ) (result : Coded) → Coded.Good e ≡ answer f → Says f result buffer
+    → (result ≡ answer f) × (buffer ≡ given f old)
 unfolding given
-decoded-good f got e old room front new says is len laid =
-    let g = answer-good f e (sym (says .0) ∙ is) in
-    let x : front ≡ g .0 = rw (g .1) at (says .1) in
-    let all : lay old 0 front ≡ front = lay-front old front (length old) len (le-refl _) ∙ rw (drop-length, append-nil) in
-    (sym is ∙ says .0, laid ∙ rw (take-at front (drop (length old) room) (length old) len, all, g .1) x)
+decoded-good f e old buffer result is says =
+    let g = answer-good f e (sym is) in
+    (says .0, rw (g .1) (rw (g .1) at (says .1)))
 
-pub decoded-bad : (f : Decoded) (got : Coded) (k : ℕ) (old : List ℕ) → got ≡ answer f → got ≡ Coded.Bad k → (Coded.Bad k ≡ answer f) × (old ≡ given f old)
+pub decoded-bad : (f : Decoded) (k : ℕ) (old : List ℕ) → Coded.Bad k ≡ answer f → (Coded.Bad k ≡ answer f) × (old ≡ given f old)
 unfolding given
-decoded-bad f got k old h is = (sym is ∙ h, rw (answer-bad f k (sym h ∙ is)))
+decoded-bad f k old is = (is, rw (answer-bad f k (sym is)))

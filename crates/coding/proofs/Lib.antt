@@ -1,6 +1,7 @@
 pub mod Parts
 pub mod Reader
 pub mod Answers
+pub mod Measured
 pub mod Known
 pub mod Runs
 pub mod Round

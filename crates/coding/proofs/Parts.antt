@@ -1,22 +1,18 @@
 -- Parts of lists, as loops and lent parts leave them: each is a law of the library, put as the code asks for it.
-use mathlib.Core.Path.{_≡_, sym, ap, _∙_}
+use mathlib.Core.Path.{_≡_, _∙_}
 use mathlib.Core.List.{List, [], _∷_, _++_}
 use Prim.Native.Nat.{ℕ, suc, _+_, _-_, _≤_, _<_}
 use native.Mathlib.Nat.{le-refl, add-zero, zero-add, add-suc, suc-add}
 use native.Mathlib.Numerals.{add-one}
 use native.Mathlib.Omega.{arith}
 use lib.ListN.{length, take, drop, getD, set, length-drop}
-use lib.Seq.{sets, drop-cons, take-all, take-at}
+use lib.Seq.{sets, drop-cons, take-all}
 use Rattle.geometry.specs.Bytes.{lay}
 use Rattle.geometry.proofs.Bytes.{lay-fits}
 
 -- the part from a on, as `&s[a..]` gives it
 pub tail : (a : ℕ) (s : List ℕ) → take (length s - a) (drop a s) ≡ drop a s
 tail a s = take-all (length s - a) (drop a s) (simp length-drop (le-refl _))
-
--- the length of the front part, as `&s[..n]` asks for it
-pub length-front-part : (front rest : List ℕ) (n : ℕ) → length front ≡ n → n ≡ length (take n (front ++ rest))
-length-front-part front rest n len = sym (ap length (take-at front rest n len) ∙ len)
 
 -- n bytes laid at the front
 pub lay-front : (old xs : List ℕ) (n : ℕ) → length xs ≡ n → n ≤ length old → lay old 0 xs ≡ xs ++ drop n old

@@ -8,7 +8,7 @@ use lib.ListN.{length, take, drop, getD, replicate}
 use borrow.Author.Tests.{lt-ltb, le-ltb, le-leb, lt-leb, ne-eqb}
 use Rattle.geometry.specs.Sizes.{blank}
 use Rattle.coding.specs.declared.Coded.{Coded}
-use Rattle.coding.specs.Decode.{Decoded, decode, reading, answer, Control, stop, goOn, characters, blanks, control, good, bad, before, obey, decodeFrom, run}
+use Rattle.coding.specs.Decode.{Decoded, answer, Control, stop, goOn, characters, blanks, control, good, bad, before, obey, decodeFrom, run}
 
 -- bytes that are passed over
 pub skip : (k room at : ℕ) (s : List ℕ) → decodeFrom k room at s ≡ decodeFrom 0 room at (drop k s)
@@ -90,11 +90,3 @@ pub answer-bad : (f : Decoded) (k : ℕ) → answer f ≡ Coded.Bad k → f ≡ 
 unfolding answer
 answer-bad (good x e) k h = let z : _≡_ {A = ℕ} 0 1 = cc in absurd (omega arith)
 answer-bad (bad j) k h = ap bad (cc)
-
-pub reading-decode : (R : ℕ) (s : List ℕ) → R ≤ 132 → reading R s ≡ decode R s
-unfolding reading
-reading-decode R s h = rw (le-leb R 132 h, reading)
-
-pub reading-long : (R : ℕ) (s : List ℕ) → 132 < R → reading R s ≡ bad 0
-unfolding reading
-reading-long R s h = rw (lt-leb R 132 h, reading)

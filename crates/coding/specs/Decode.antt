@@ -58,10 +58,6 @@ decode R s = decodeFrom 0 R 0 s
 unfoldable pub run : (n room at : ℕ) → List ℕ → Decoded
 run n room at s = obey (characters n) room at s (λ k r a. decodeFrom k r a s)
 
--- "R is .. 2 to 132 for kind 3": what the decoder reads as a record of R characters; over 132 all is bad from its first byte on
-unfoldable pub reading : ℕ → List ℕ → Decoded
-reading R s = elim (leb R 132) [ true ↦ decode R s | false ↦ bad 0 ]
-
 -- what the decoder answers
 unfoldable pub answer : Decoded → Coded
 answer (good xs e) = Good e

@@ -9,7 +9,7 @@ ghost use mathlib.Core.List.{_∷_};
 ghost use Prim.Native.Nat.{_+_, _≤_, _<_, _^_};
 ghost use lib.ListN.{length, drop, getD};
 ghost use lib.Seq.{sets};
-ghost use Rattle.coding.specs.Decode.{decodeFrom, run, reading, answer, given};
+ghost use Rattle.coding.specs.Decode.{decodeFrom, run, answer, given};
 ghost use Rattle.coding.specs.Decode as Decode;
 ghost use Rattle.coding.specs.Encode.{inGap, runCode, runsCode};
 ghost use Rattle.coding.specs.Encode as Encode;
@@ -67,34 +67,39 @@ fn blanks(s: &[u8], at: usize, out: &mut [u8]) -> Coded
     blanks(&s[1..], at + 1, &mut out[m..])
 }
 
-// Decodes the record that s begins with in room, and lays a good one over out. A bad code leaves out as it was.
-fn decode_in(s: &[u8], room: &mut [u8], out: &mut [u8]) -> Coded
-    requires { ⌜ length (now out) ≤ length (now room) ⌝ }
+// What decoding the record of that length that s begins with answers. No character is moved.
+pub fn measure(s: &[u8], length: usize) -> Coded
+    ensures { λ r. ⌜ r ≡ answer (Decode.decode length (now (s .entry))) ⌝ }
+{
+    let mut at = 0;
+    let mut room = length;
+    while at < s.len() {
+        let c = s[at] as usize;
+        if c == 0 {
+            return Coded::Good(at + 1);
+        }
+        // It gives n characters, k of which stand behind it.
+        let n = c % 128;
+        let k = if c < 128 { n } else { 0 };
+        if (n == 0) | (room < n) | (s.len() - at <= k) {
+            return Coded::Bad(at);
+        }
+        room -= n;
+        at += 1 + k;
+    }
+    Coded::Bad(at)
+}
+
+// Decodes the record that s begins with into out, whose length is the record's. A bad code leaves out as it was.
+pub fn decode(s: &[u8], out: &mut [u8]) -> Coded
     ensures { λ r. ⌜ (r ≡ answer (Decode.decode (length (now (out .entry))) (now (s .entry))))
         × (now (out .exit) ≡ given (Decode.decode (length (now (out .entry))) (now (s .entry))) (now (out .entry))) ⌝ }
 {
     let r = out.len();
-    let got = blanks(s, 0, &mut room[..r]);
-    match got {
-        Coded::Good(e) => {
-            lay(out, 0, &room[..r]);
-            Coded::Good(e)
-        }
+    match measure(s, r) {
+        Coded::Good(_) => blanks(s, 0, out),
         Coded::Bad(k) => Coded::Bad(k),
     }
-}
-
-// Decodes the record that s begins with into out, whose length is the record's; s ends where the sector ends. A bad code leaves out as it was,
-// and a length over 132 is answered as one.
-pub fn decode(s: &[u8], out: &mut [u8]) -> Coded
-    ensures { λ r. ⌜ (r ≡ answer (reading (length (now (out .entry))) (now (s .entry))))
-        × (now (out .exit) ≡ given (reading (length (now (out .entry))) (now (s .entry))) (now (out .entry))) ⌝ }
-{
-    if 132 < out.len() {
-        return Coded::Bad(0);
-    }
-    let mut room = [0u8; 132];
-    decode_in(s, &mut room, out)
 }
 
 // The character before the place j of x; 0 where there is none.

@@ -1,4 +1,6 @@
+pub mod Overlaid
 pub mod One
+pub mod Starts
 pub mod Walks
 pub mod Placed
 pub mod Table
