@@ -2,12 +2,11 @@
 use mathlib.Core.Path.{_≡_, refl, sym, _∙_}
 use mathlib.Core.Bool.{Bool, true, false, _&&_, _||_, not, and-true, and-false, or-true, true≢false}
 use mathlib.Core.List.{List, [], _∷_}
-use Prim.Native.Nat.{ℕ, _+_, _≤_, _<_}
-use lib.ListN.{length, drop, getD, drop-of-length-le}
+use Prim.Native.Nat.{ℕ, _+_}
 use lib.Dec.{leb}
 use borrow.Author.Tests.{eq-eqb}
 use Rattle.geometry.specs.Lists.{all, every, pairwise, same}
-use Rattle.geometry.proofs.Tests.{or-either, every-and, every-left, pairwise-and, pairwise-left}
+use Rattle.geometry.proofs.Tests.{or-either, every-and, pairwise-and}
 use Rattle.directory.specs.Entries.{isFree}
 use Rattle.directory.specs.Rules.{kindKnown, freeIsZero, nameGood, namesDiffer, extentInside, extentsApart, flagsKnown, lengthGood, countGood, randomBare, tableRules, tableGood}
 use Rattle.directory.specs.Grouped.{entryGood, twoGood}
@@ -45,50 +44,6 @@ module _ (N : ℕ) (table : List Entry) where
   grouped =
       rw (of-one, of-two)
       (order (every kindKnown table) (every freeIsZero table) (every nameGood table) (pairwise namesDiffer table) (every (extentInside N) table) (pairwise extentsApart table) (every flagsKnown table) (every lengthGood table) (every countGood table) (every randomBare table))
-
--- ---- a table tested from its front: what is left of it decides
-
-module _ {A : Type 0} (p : A → Bool) (xs : List A) (i : ℕ) (d : A) (h : i < length xs) where
-  pub every-on : p (getD xs i d) ≡ true → every p (drop i xs) ≡ every p (drop (i + 1) xs)
-  every-on e = every-left p xs i d h ∙ rw e
-
-  pub every-off : p (getD xs i d) ≡ false → every p (drop i xs) ≡ false
-  every-off e = every-left p xs i d h ∙ rw e
-
-pub every-end : {A : Type 0} (p : A → Bool) (xs : List A) (i : ℕ) → length xs ≤ i → every p (drop i xs) ≡ true
-unfolding every
-every-end p xs i h = rw (drop-of-length-le xs h)
-
-module _ (N : ℕ) (table : List Entry) where
-  -- the rules, of what is left from entry i on
-  pub Left : ℕ → Bool
-  Left i = every (entryGood N) (drop i table) && pairwise twoGood (drop i table)
-
-  pub left-all : tableGood N table ≡ Left 0
-  unfolding Left
-  left-all = grouped N table
-
-  pub left-none : (i : ℕ) → length table ≤ i → Left i ≡ true
-  unfolding Left every pairwise
-  left-none i h = rw (drop-of-length-le table h)
-
-  module _ (i : ℕ) (d : Entry) (h : i < length table) where
-    abbrev e : Entry
-    e = getD table i d
-
-    front : Left i ≡ ((entryGood N e && every (entryGood N) (drop (i + 1) table)) && (every (twoGood e) (drop (i + 1) table) && pairwise twoGood (drop (i + 1) table)))
-    unfolding Left
-    front = rw (every-left (entryGood N) table i d h, pairwise-left twoGood table i d h)
-
-    pub left-on : entryGood N e ≡ true → every (twoGood e) (drop (i + 1) table) ≡ true → Left i ≡ Left (i + 1)
-    unfolding Left
-    left-on a b = front ∙ rw (a, b)
-
-    pub left-one : entryGood N e ≡ false → Left i ≡ false
-    left-one a = front ∙ rw a
-
-    pub left-two : every (twoGood e) (drop (i + 1) table) ≡ false → Left i ≡ false
-    left-two b = front ∙ rw (b, and-false (entryGood N e && every (entryGood N) (drop (i + 1) table)))
 
 -- neither of two tests holds
 or-left : (a b : Bool) → (a || b) ≡ false → a ≡ false

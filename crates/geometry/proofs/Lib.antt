@@ -2,3 +2,4 @@ pub mod Bytes
 pub mod Tests
 pub mod Places
 pub mod Numbered
+pub mod Left

@@ -3,3 +3,4 @@ pub mod Legal
 pub mod Distinct
 pub mod Kept
 pub mod Counted
+pub mod Grouped

@@ -7,8 +7,9 @@ use lib.ListN.{length, drop}
 use borrow.Author.Tests.{not-true, not-false}
 use Rattle.geometry.specs.Lists.{every}
 use Rattle.directory.specs.Rules.{tableGood}
-use Rattle.directory.specs.Grouped.{twoGood}
-use Rattle.directory.proofs.Grouped.{every-on, every-off, every-end, Left, left-all, left-none, left-on, left-one, left-two, free-apart}
+use Rattle.directory.specs.Grouped.{entryGood, twoGood}
+use Rattle.geometry.proofs.Left.{every-on, every-off, every-end, Left, left-none, left-on, left-one, left-two}
+use Rattle.directory.proofs.Grouped.{grouped, free-apart}
 use borrow.Author.Needs.{needs}
 use Rattle.directory.proofs.is_good.Statement.{statement}
 use Rattle.directory.proofs.is_good.Tie as tie
@@ -20,13 +21,14 @@ abbrev μ-loop2 : tie.MeasureT-loop2
 μ-loop2 n t i e j₀ j = 18 - j
 
 abbrev Inv-loop : tie.InvT-loop
-Inv-loop n t i₀ i = (tableGood n t ≡ Left n t i) × (i ≤ 18)
+Inv-loop n t i₀ i = (tableGood n t ≡ Left (entryGood n) twoGood t i) × (i ≤ 18)
 
 abbrev μ-loop : tie.MeasureT-loop
 μ-loop n t i₀ i = 18 - i
 
 loop-holds : tie.Need-loop-holds Inv-loop2 μ-loop2 Inv-loop μ-loop
-loop-holds c = (left-all (c .args .n) (c .args .t1), omega arith)
+unfolding Left
+loop-holds c = (grouped (c .args .n) (c .args .t1), omega arith)
 
 mul-e : tie.Need-mul-e Inv-loop2 μ-loop2 Inv-loop μ-loop
 mul-e c = search needs
@@ -42,7 +44,7 @@ returns c =
     let l = c .before .before .before .before in
     let t = l .before .args .t1 in
     let s : length t ≡ 18 = search needs in
-    sym (l .loop .inv .0 ∙ left-one (l .before .args .n) t (l .loop .i) _ (omega arith) (sym (c .before .entry-good .ensures) ∙ not-true _ (c .if1 .taken)))
+    sym (l .loop .inv .0 ∙ left-one (entryGood (l .before .args .n)) twoGood t (l .loop .i) _ (omega arith) (sym (c .before .entry-good .ensures) ∙ not-true _ (c .if1 .taken)))
 
 add-j : tie.Need-add-j Inv-loop2 μ-loop2 Inv-loop μ-loop
 add-j c = search needs
@@ -65,7 +67,7 @@ returns-2 c =
     let l = k .before .before .before .before .before .before .before in
     let t = l .before .args .t1 in
     let s : length t ≡ 18 = search needs in
-    sym (l .loop .inv .0 ∙ left-two (l .before .args .n) t (l .loop .i) _ (omega arith) (k .loop2 .inv .0 ∙ every-off _ t (k .loop2 .j) _ (omega arith) (sym (c .before .two-good .ensures) ∙ not-true _ (c .if3 .taken))))
+    sym (l .loop .inv .0 ∙ left-two (entryGood (l .before .args .n)) twoGood t (l .loop .i) _ (omega arith) (k .loop2 .inv .0 ∙ every-off _ t (k .loop2 .j) _ (omega arith) (sym (c .before .two-good .ensures) ∙ not-true _ (c .if3 .taken))))
 
 add-j-2 : tie.Need-add-j-2 Inv-loop2 μ-loop2 Inv-loop μ-loop
 add-j-2 c = search needs
@@ -94,13 +96,13 @@ loop-again c =
     let s : length t ≡ 18 = search needs in
     let h : l .loop .i < length t = omega arith in
     let ok = sym (c .before .before .before .entry-good .ensures) ∙ not-false _ (c .before .before .if1 .left) in
-    (l .loop .inv .0 ∙ left-on (l .before .args .n) t (l .loop .i) _ h ok (⊎-elim (λ w. w .1 .inv .0 ∙ every-end _ t (w .1 .j) (omega arith)) (λ w. free-apart _ (w .left) _) (c .if2 .came)), omega arith)
+    (l .loop .inv .0 ∙ left-on (entryGood (l .before .args .n)) twoGood t (l .loop .i) _ h ok (⊎-elim (λ w. w .1 .inv .0 ∙ every-end _ t (w .1 .j) (omega arith)) (λ w. free-apart _ (w .left) _) (c .if2 .came)), omega arith)
 
 returns-3 : tie.Need-returns-3 Inv-loop2 μ-loop2 Inv-loop μ-loop
 returns-3 c =
     let t = c .before .before .args .t1 in
     let s : length t ≡ 18 = search needs in
-    sym (c .before .loop .inv .0 ∙ left-none (c .before .before .args .n) t (c .before .loop .i) (omega arith))
+    sym (c .before .loop .inv .0 ∙ left-none (entryGood (c .before .before .args .n)) twoGood t (c .before .loop .i) (omega arith))
 
 pub is-good-spec : {M : Type 1} → statement M
 is-good-spec =
