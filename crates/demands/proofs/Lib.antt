@@ -1,2 +1,12 @@
 pub mod Orderly
 pub mod Illegal
+pub mod Settled
+pub mod Buffering
+pub mod Passing
+pub mod Plain
+pub mod Untouched
+pub mod Agree
+pub mod Answers
+pub mod ReadsBack
+pub mod Counts
+pub mod Impostors

@@ -1,29 +1,28 @@
 -- Demand 1 of both engines. What an answer makes of image, session and buffer is read off the step's three cases; the bytes that go into the
 -- caller's buffer are one record or granule, which has at most R bytes. A plain session holds nothing, so it answers as the buffered one does.
 use mathlib.Core.Path.{_≡_, refl, sym, ap, _∙_}
-use mathlib.Core.Bool.{Bool, true, false, _&&_, _||_, not, and-true}
-use mathlib.Core.List.{List, [], _∷_, _++_, map}
+use mathlib.Core.Bool.{Bool, true, false}
+use mathlib.Core.List.{List, [], _∷_, map}
 use Prim.Native.Nat.{ℕ, zero, suc, _+_, _-_, _≤_}
-use native.Mathlib.Nat.{not-suc-le-zero}
 use native.Mathlib.Omega.{arith}
-use lib.Dec.{leb, ltb}
-use lib.ListN.{length, drop, getD, set, length-append, length-take, length-drop, List·getD-map}
-use borrow.Author.Tests.{leb-true}
+use lib.Dec.{ltb}
+use lib.Seq.{getD-drop}
+use lib.ListN.{length, length-drop, drop, getD, set, List·getD-map}
 use Rattle.geometry.specs.Bytes.{part, lay}
-use Rattle.geometry.specs.Lists.{every}
 use Rattle.geometry.specs.Places.{placeOf, byteOf}
 use Rattle.geometry.specs.Sizes.{sector, compressed}
+use Rattle.geometry.proofs.Bytes.{same-bytes, length-part-min, length-lay, getD-lay-behind}
 use Rattle.coding.specs.Decode.{Decoded, good, bad, decode}
 use Rattle.coding.proofs.Known.{decode-good}
 use Rattle.directory.specs.Entries.{entryAt, isKind}
 use Rattle.packing.specs.Reading.{got, lost, gotFrom, startOf, readAt, readBehind, extentEnd}
-use Rattle.sessions.specs.Session.{idle, fresh, bare, unheld, fileOf, slotOf, extentWith, heldGood, bufferedLegal}
+use Rattle.sessions.specs.Session.{idle, fresh, bare, unheld, fileOf, slotOf, extentWith}
+use Rattle.sessions.proofs.Unheld.{bare-unheld, unheld-legal}
 use Rattle.steps.specs.Next.{Scene, fixedAt, recordHere, bytesGot, fileMet, intoBuffer}
 use Rattle.steps.specs.Step.{After, plainScene, plainAnswer, plainAfter, plainStep, heldOf, bufferedScene, bufferedAnswer, kept, bufferedAfter, bufferedStep}
 use Rattle.demands.specs.Engine.{Engine, plainEngine, bufferedEngine}
 use Rattle.demands.specs.Demand1.{sessionMet, mayChange, Proper, Orderly}
 use Rattle.geometry.specs.declared.Place.{Place}
-use Rattle.directory.specs.declared.Entry.{Entry}
 use Rattle.requests.specs.declared.Answer.{Answer}
 use Rattle.requests.specs.declared.Answer.the-variants.{Done, Met, Refused}
 use Rattle.requests.specs.declared.Edge.{Edge}
@@ -38,13 +37,9 @@ use Rattle.sessions.specs.declared.Session.{Session}
 
 -- ---- what goes into the buffer has at most R bytes
 
-short-part : (xs : List ℕ) (at n : ℕ) → length (part xs at n) ≤ n
-unfolding part
-short-part xs at n = omega (arith, length-take n (drop at xs))
-
 short-fixed : (c : Scene) (k : ℕ) → length (fixedAt c k) ≤ c .entry .length
 unfolding fixedAt
-short-fixed c k = short-part (c .bytes) (byteOf (placeOf (c .entry .kind) (c .entry .length) k)) (c .entry .length)
+short-fixed c k = omega (arith, length-part-min (c .bytes) (byteOf (placeOf (c .entry .kind) (c .entry .length) k)) (c .entry .length))
 
 short-got : (q : Place) (R : ℕ) (s : List ℕ) (d : Decoded) → decode R s ≡ d → length (bytesGot (gotFrom q d)) ≤ R
 unfolding gotFrom bytesGot
@@ -87,37 +82,10 @@ short-into (Position o) c = omega arith
 
 -- ---- bytes laid at the front of a buffer
 
-drop-nil : (n : ℕ) → _≡_ {A = List ℕ} (drop n []) []
-drop-nil zero = refl
-drop-nil (suc n) = refl
-
-behind-front : (xs buffer : List ℕ) (n : ℕ) → length xs ≤ n → drop n (xs ++ drop (length xs) buffer) ≡ drop n buffer
-behind-front [] buffer n h = refl
-behind-front (x ∷ xs) buffer zero h = absurd (not-suc-le-zero h)
-behind-front (x ∷ xs) [] (suc n) h = ap (λ (z : List ℕ). drop n (xs ++ z)) (sym (drop-nil (length xs))) ∙ behind-front xs [] n (omega arith) ∙ drop-nil n
-behind-front (x ∷ xs) (b ∷ buffer) (suc n) h = behind-front xs buffer n (omega arith)
-
-module _ (buffer xs : List ℕ) where
-  lay-rest : (n : ℕ) → length xs ≤ n → drop n (lay buffer 0 xs) ≡ drop n buffer
-  unfolding lay
-  lay-rest n h = go (leb (0 + length xs) (length buffer))
-    where
-      z : 0 + length xs ≡ length xs
-      z = omega arith
-
-      go : (b : Bool) → drop n (elim b [ true ↦ xs ++ drop (0 + length xs) buffer | false ↦ buffer ]) ≡ drop n buffer
-      go true = rw z (behind-front xs buffer n h)
-      go false = refl
-
-  lay-size : length (lay buffer 0 xs) ≡ length buffer
-  unfolding lay
-  lay-size = go (leb (0 + length xs) (length buffer)) refl
-    where
-      go : (b : Bool) → leb (0 + length xs) (length buffer) ≡ b → length {A = ℕ} (elim b [ true ↦ xs ++ drop (0 + length xs) buffer | false ↦ buffer ]) ≡ length buffer
-      go true e =
-          let h : 0 + length xs ≤ length buffer = leb-true (0 + length xs) (length buffer) e in
-          omega (arith, length-append xs (drop (0 + length xs) buffer), length-drop (0 + length xs) buffer)
-      go false e = refl
+lay-rest : (buffer xs : List ℕ) (n : ℕ) → length xs ≤ n → drop n (lay buffer 0 xs) ≡ drop n buffer
+lay-rest buffer xs n h =
+    same-bytes _ _ (rw (length-drop n (lay buffer 0 xs), length-drop n buffer, length-lay buffer 0 xs)) λ i l.
+    getD-drop n (lay buffer 0 xs) i 0 ∙ getD-lay-behind buffer 0 xs (n + i) 0 (omega arith) ∙ sym (getD-drop n buffer i 0)
 
 -- ---- what an engine makes of each answer
 
@@ -136,7 +104,7 @@ module _ (E : Engine) (image : List ℕ) (s : E .Session) (i : ℕ) (q : Request
     refused = λ x f. absurd (let g : after Done .answer ≡ Done = k .says Done in let z : _≡_ {A = ℕ} 0 1 = cc in omega arith);
     met = λ x f. absurd (let g : after Done .answer ≡ Done = k .says Done in let z : _≡_ {A = ℕ} 0 1 = cc in omega arith);
     bufferRest = λ n f. rw (k .done) (lay-rest buffer (intoBuffer q c) n (rw (f, ← (k .itsEntry)) (short-into q c)));
-    bufferSize = rw (k .done) (lay-size buffer (intoBuffer q c));
+    bufferSize = rw (k .done) (length-lay buffer 0 (intoBuffer q c));
   }
   proper after c k (Met y) e = record {
     ordered = k .says (Met y) ∙ e;
@@ -174,14 +142,6 @@ buffered-orderly = record {
 
 -- ---- the plain engine: a plain session holds nothing
 
-map-bare : (fs : List OpenFile) → map (λ (b : BufferedFile). b .file) (map fresh fs) ≡ fs
-map-bare [] = refl
-map-bare (f ∷ fs) = ap (λ (r : List OpenFile). f ∷ r) (map-bare fs)
-
-pub bare-unheld : (s : Session) → bare (unheld s) ≡ s
-unfolding bare unheld
-bare-unheld s = ap (λ (fs : List OpenFile). record { table = s .table; files = fs }) (map-bare (s .files))
-
 map-set : (fs : List OpenFile) (k : ℕ) (f : OpenFile) → map fresh (set fs k f) ≡ set (map fresh fs) k (fresh f)
 map-set [] k f = refl
 map-set (g ∷ fs) zero f = refl
@@ -191,23 +151,6 @@ set-unheld : (s : Session) (k : ℕ) (f : OpenFile)
     → unheld (record { table = s .table; files = set (s .files) k f }) ≡ record { table = unheld s .table; files = set (unheld s .files) k (fresh f) }
 unfolding unheld
 set-unheld s k f = ap (λ (r : List BufferedFile). record { table = s .table; files = r }) (map-set (s .files) k f)
-
-fresh-good : (table : List Entry) (f : OpenFile) → heldGood table (fresh f) ≡ true
-unfolding heldGood
-fresh-good table f = go (f .used) _
-  where
-    go : (u y : Bool) → (not (u && false) || y) ≡ true
-    go true y = refl
-    go false y = refl
-
-all-good : (table : List Entry) (fs : List OpenFile) → every (heldGood table) (map fresh fs) ≡ true
-unfolding every
-all-good table [] = refl
-all-good table (f ∷ fs) = rw (fresh-good table f) (all-good table fs)
-
-pub unheld-good : (s : Session) → every (heldGood (unheld s .table)) (unheld s .files) ≡ true
-unfolding unheld
-unheld-good s = all-good (s .table) (s .files)
 
 unheld-table : (s : Session) → unheld s .table ≡ s .table
 unfolding unheld
@@ -232,10 +175,10 @@ kept-fresh BeginningOfTape f g = refl
 
 same-answer : (image : List ℕ) (s : Session) (i : ℕ) (q : Request) (given : List ℕ) (n : ℕ)
     → plainAnswer image s i q given n ≡ bufferedAnswer image (unheld s) i q given n
-unfolding plainAnswer bufferedAnswer plainScene bufferedScene bufferedLegal extentWith
+unfolding plainAnswer bufferedAnswer plainScene bufferedScene extentWith
 same-answer image s i q given n =
     let h = fresh-held s i in
-    rw (bare-unheld s, h .1, unheld-good s, and-true, unheld-table s)
+    rw (unheld-legal image s, bare-unheld s, h .1, unheld-table s)
 
 met-unheld : (x : Edge) (s : Session) (i : ℕ)
     → unheld (record { table = s .table; files = set (s .files) (slotOf (s .files) i) (fileMet x (fileOf (s .files) i)) }) ≡ sessionMet x (unheld s) i

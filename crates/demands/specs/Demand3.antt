@@ -12,9 +12,9 @@ use Rattle.geometry.specs.Sizes.{sector, entrySize, blocked, compressed}
 use Rattle.geometry.specs.Places.{placeOf}
 use Rattle.coding.specs.Encode.{codeOf}
 use Rattle.directory.specs.Entries.{tableOf, entryAt, isKind}
-use Rattle.packing.specs.Reading.{startOf}
+use Rattle.packing.specs.Reading.{startOf, goesOn}
 use Rattle.packing.specs.Placing.{goesTo, changes}
-use Rattle.sessions.specs.Session.{extentWith, typed}
+use Rattle.sessions.specs.Session.{extent, extentWith, typed}
 use Rattle.mounting.specs.Mounting.{mounts}
 use Rattle.steps.specs.Next.{Scene}
 use Rattle.steps.specs.Effects.{Effect, stamp, effects, Bench, bufferedDo, puttingBack}
@@ -26,6 +26,8 @@ use Rattle.directory.specs.declared.Entry.{Entry}
 use Rattle.sessions.specs.declared.OpenFile.{OpenFile}
 use Rattle.sessions.specs.declared.BufferedFile.{BufferedFile}
 use Rattle.sessions.specs.declared.BufferedSession.{BufferedSession}
+use Rattle.requests.specs.declared.Order.{Order}
+use Rattle.requests.specs.declared.Order.the-variants.{WriteMark, RewindOnline, RewindOffline, RecordForward, RecordBack, FileForward, FileBack}
 use Rattle.requests.specs.declared.Request.{Request}
 use Rattle.requests.specs.declared.Request.the-variants.{Open, Read, Write, GranuleRead, GranuleWrite, GranuleLook, Position}
 use Rattle.requests.specs.declared.Answer.the-variants.{Done}
@@ -67,6 +69,17 @@ changed e f given = elim (isKind compressed e) [
   | false ↦ placeOf (e .kind) (e .length) (f .position) .sector ∷ []
 ]
 
+-- the sectors that a read must read: its record's, and before it one whose 128 says go on
+unfoldable pub readIn : Entry → OpenFile → List ℕ → List ℕ
+readIn e f bytes = elim (isKind compressed e) [
+  | true ↦
+      elim (goesOn bytes (f .here) && ltb (f .here .byte) sector) [
+        | true ↦ f .here .sector ∷ startOf bytes (f .here) .sector ∷ []
+        | false ↦ startOf bytes (f .here) .sector ∷ []
+      ]
+  | false ↦ placeOf (e .kind) (e .length) (f .position) .sector ∷ []
+]
+
 -- the sector that the record at the position lies in; the one that a new record goes to
 unfoldable pub liesIn : Entry → OpenFile → List ℕ → ℕ
 liesIn e f bytes = elim (isKind compressed e) [ true ↦ startOf bytes (f .here) .sector | false ↦ placeOf (e .kind) (e .length) (f .position) .sector ]
@@ -77,6 +90,16 @@ goesIn e f given = elim (isKind compressed e) [
   | false ↦ placeOf (e .kind) (e .length) (f .position) .sector
 ]
 
+-- "put back .. before any order but the record skips, and at close"
+unfoldable pub putFirst : Order → Entry → Bench → List ℕ
+putFirst WriteMark e w = puttingBack e w .image
+putFirst RewindOnline e w = puttingBack e w .image
+putFirst RewindOffline e w = puttingBack e w .image
+putFirst RecordForward e w = w .image
+putFirst RecordBack e w = w .image
+putFirst FileForward e w = puttingBack e w .image
+putFirst FileBack e w = puttingBack e w .image
+
 -- a file holds a sector
 abbrev pub Holds : BufferedFile → ℕ → Type 0
 Holds b k = (b .holds ≡ true) × (b .held ≡ k)
@@ -86,6 +109,12 @@ pub record Buffers (image : List ℕ) (s : BufferedSession) (i : ℕ) (given buf
   -- "a write wholly in the held sector leaves the image as it was"
   pub inside : bufferedStep image s i Write given buffer .answer ≡ Done → b .holds ≡ true → every (λ k. eqb k (b .held)) (changed e (b .file) given) ≡ true
       → bufferedStep image s i Write given buffer .image ≡ image
+  -- and a read: "it takes each sector that it must read or change, unless held already"
+  pub readInside : bufferedStep image s i Read given buffer .answer ≡ Done → b .holds ≡ true
+      → every (λ k. eqb k (b .held)) (readIn e (b .file) (extentWith e b image)) ≡ true → bufferedStep image s i Read given buffer .image ≡ image
+  -- an order
+  pub ordered : (o : Order) → bufferedStep image s i (Position o) given buffer .answer ≡ Done
+      → extent e (bufferedStep image s i (Position o) given buffer .image) ≡ extent e (putFirst o e (record { image = image; file = b }))
   -- "a read or write answered 0 .. ends holding the one its record lies in"
   pub readHolds : bufferedStep image s i Read given buffer .answer ≡ Done
       → Holds (heldOf (bufferedStep image s i Read given buffer .session) i) (liesIn e (b .file) (extentWith e b image))

@@ -1,4 +1,4 @@
--- The 20 bytes of an entry are zero exactly if its name and its words are.
+-- A free entry keeps every rule exactly if its 20 bytes are zero, which they are if its name and its words are.
 use mathlib.Core.Path.{_≡_, refl, sym, ap, _∙_}
 use mathlib.Core.Bool.{Bool, true, false, _&&_, and-assoc}
 use mathlib.Core.List.{List, [], _∷_, _++_}
@@ -9,7 +9,10 @@ use borrow.Author.Tests.{eq-eqb, ne-eqb, eqb-true, eqb-false}
 use Rattle.geometry.specs.Lists.{every}
 use Rattle.geometry.specs.Bytes.{word}
 use Rattle.directory.specs.declared.Entry.{Entry}
+use Rattle.geometry.proofs.Tests.{either, and-left, and-right}
 use Rattle.directory.specs.Entries.{entryBytes}
+use Rattle.directory.specs.Rules.{kindKnown, freeIsZero, nameGood, extentInside, flagsKnown, lengthGood, countGood, randomBare}
+use Rattle.directory.specs.Grouped.{entryGood}
 
 pub every-append : {A : Type 0} (p : A → Bool) (xs ys : List A) → every p (xs ++ ys) ≡ (every p xs && every p ys)
 unfolding every
@@ -40,3 +43,28 @@ zero-entry e =
 
     next : {b : Bool} (n : ℕ) (ys : List ℕ) → every zero-byte ys ≡ b → every zero-byte (word n ++ ys) ≡ (eqb n 0 && b)
     next n ys h = every-append zero-byte (word n) ys ∙ rw (zero-word n, h)
+
+-- the rules of one entry, for a free one and for a used one
+module _ (N : ℕ) (e : Entry) where
+  last-words : every zero-byte (entryBytes e) ≡ true → (eqb (e .count) 0 && eqb (e .flags) 0) ≡ true
+  last-words h =
+      and-right (eqb (e .sectors) 0) (eqb (e .count) 0 && eqb (e .flags) 0)
+      (and-right (eqb (e .first) 0) _
+      (and-right (eqb (e .length) 0) _
+      (and-right (eqb (e .kind) 0) _
+      (and-right (every zero-byte (e .name)) _ (sym (zero-entry e) ∙ h)))))
+
+  pub free-good : e .kind ≡ 0 → entryGood N e ≡ every (λ b. eqb b 0) (entryBytes e)
+  unfolding entryGood kindKnown freeIsZero nameGood extentInside flagsKnown lengthGood countGood randomBare
+  free-good k =
+      either (every zero-byte (entryBytes e))
+      (λ (h : every zero-byte (entryBytes e) ≡ true).
+      let c : e .count ≡ 0 = eqb-true (e .count) 0 (and-left (eqb (e .count) 0) (eqb (e .flags) 0) (last-words h)) in
+      let f : e .flags ≡ 0 = eqb-true (e .flags) 0 (and-right (eqb (e .count) 0) (eqb (e .flags) 0) (last-words h)) in
+      rw (h, k, c, f))
+      (λ (h : every zero-byte (entryBytes e) ≡ false). rw (h, k))
+
+  pub used-good : ¬ (e .kind ≡ 0) → entryGood N e
+      ≡ (kindKnown e && (nameGood e && (extentInside N e && (flagsKnown e && (lengthGood e && (countGood e && randomBare e))))))
+  unfolding entryGood freeIsZero
+  used-good k = rw (ne-eqb (e .kind) 0 k)

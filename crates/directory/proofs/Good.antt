@@ -1,21 +1,23 @@
 -- What a used entry of a good directory keeps, and what two of them keep: each rule, read at those entries.
-use mathlib.Core.Path.{_≡_, refl, ap}
+use mathlib.Core.Path.{_≡_, refl, sym, ap}
 use mathlib.Core.Bool.{Bool, true, false, _&&_, _||_, not}
 use mathlib.Core.List.{List}
-use Prim.Native.Nat.{ℕ, _+_, _%_, _≤_, _<_, min, max}
+use Prim.Native.Nat.{ℕ, zero, suc, _+_, _%_, _≤_, _<_}
 use native.Mathlib.Omega.{arith}
 use native.Mathlib.Decide.{decLt}
-use lib.ListN.{length, getD, List·getD-eq-default}
+use lib.ListN.{length, getD, replicate, List·getD-eq-default}
 use lib.Dec.{leb, eqb}
 use borrow.Author.Tests.{leb-true, eqb-true, eqb-false, ne-eqb, eq-eqb, not-true}
-use Rattle.geometry.specs.Lists.{every}
+use Rattle.geometry.specs.Bytes.{word}
+use Rattle.geometry.specs.Lists.{all, every, pairwise, same}
 use Rattle.geometry.specs.Sizes.{unblocked, blocked, random, mostRecords, mostSectors}
 use Rattle.geometry.specs.Places.{capacity}
 use Rattle.directory.specs.declared.Entry.{Entry}
-use Rattle.directory.specs.Entries.{isFree, isKind, isMarked, entryAt, freeEntry}
-use Rattle.directory.specs.Rules.{kindKnown, isName, nameGood, extentInside, extentsApart, flagsKnown, longest, lengthGood, countGood, randomBare, tableRules, tableGood}
+use Rattle.directory.specs.Entries.{entryBytes, isFree, isKind, isMarked, entryAt, freeEntry}
+use Rattle.directory.specs.Rules.{kindKnown, freeIsZero, isName, nameGood, namesDiffer, extentInside, extentsApart, flagsKnown, longest, lengthGood, countGood, randomBare, tableRules, tableGood}
+use Rattle.geometry.proofs.Bytes.{Apart}
 use Rattle.geometry.proofs.Places.{capacity-word}
-use Rattle.geometry.proofs.Tests.{and-left, and-right, all-getD, every-getD, pairwise-getD}
+use Rattle.geometry.proofs.Tests.{same-false, and-left, and-right, all-getD, every-getD, pairwise-getD}
 
 -- what a used entry keeps, in an image of N sectors
 pub record Lies (N : ℕ) (e : Entry) : Type 0 where
@@ -35,7 +37,7 @@ pub record Lies (N : ℕ) (e : Entry) : Type 0 where
   pub unmarked : e .kind ≡ random → isMarked e ≡ false
 
 -- kinds 1 and 2
-pub has-capacity : (e : Entry) → 1 ≤ e .kind → e .kind ≤ 2 → (isKind unblocked e || isKind blocked e) ≡ true
+has-capacity : (e : Entry) → 1 ≤ e .kind → e .kind ≤ 2 → (isKind unblocked e || isKind blocked e) ≡ true
 has-capacity e h l = go (isKind unblocked e) refl
   where
     go : (b : Bool) → isKind unblocked e ≡ b → (b || isKind blocked e) ≡ true
@@ -108,13 +110,17 @@ used-inside t i used = go (decLt i (length t))
     go (no h) = absurd (used (ap (λ (e : Entry). e .kind) (List·getD-eq-default t freeEntry (omega arith))))
 
 -- two used entries that share no sector
-no-shared : (a b : Entry) → ¬ (a .kind ≡ 0) → ¬ (b .kind ≡ 0) → extentsApart a b ≡ true → min (a .first + a .sectors) (b .first + b .sectors) ≤ max (a .first) (b .first)
+no-shared : (a b : Entry) → ¬ (a .kind ≡ 0) → ¬ (b .kind ≡ 0) → extentsApart a b ≡ true → Apart (a .first) (a .sectors) (b .first) (b .sectors)
 unfolding extentsApart
 no-shared a b u v e = go (leb (a .first + a .sectors) (b .first)) refl (rw (ne-eqb (a .kind) 0 u, ne-eqb (b .kind) 0 v) at e)
   where
-    go : (p : Bool) → leb (a .first + a .sectors) (b .first) ≡ p → (p || leb (b .first + b .sectors) (a .first)) ≡ true → min (a .first + a .sectors) (b .first + b .sectors) ≤ max (a .first) (b .first)
+    go : (p : Bool) → leb (a .first + a .sectors) (b .first) ≡ p → (p || leb (b .first + b .sectors) (a .first)) ≡ true → Apart (a .first) (a .sectors) (b .first) (b .sectors)
     go true h q = let l = leb-true (a .first + a .sectors) (b .first) h in omega arith
     go false h q = let l = leb-true (b .first + b .sectors) (a .first) q in omega arith
+
+not-same : (a b : Entry) → ¬ (a .kind ≡ 0) → ¬ (b .kind ≡ 0) → namesDiffer a b ≡ true → ¬ (a .name ≡ b .name)
+unfolding namesDiffer
+not-same a b u v e = same-false (a .name) (b .name) (not-true (same (a .name) (b .name)) (rw (ne-eqb (a .kind) 0 u, ne-eqb (b .kind) 0 v) at e))
 
 module _ (N : ℕ) (t : List Entry) (ok : tableGood N t ≡ true) where
   rule : (k : ℕ) → getD (tableRules N t) k true ≡ true
@@ -132,16 +138,42 @@ module _ (N : ℕ) (t : List Entry) (ok : tableGood N t ≡ true) where
 
   -- two of them share no sector
   pub extents-apart : (i j : ℕ) → ¬ (i ≡ j) → ¬ (entryAt t i .kind ≡ 0) → ¬ (entryAt t j .kind ≡ 0)
-      → min (entryAt t i .first + entryAt t i .sectors) (entryAt t j .first + entryAt t j .sectors) ≤ max (entryAt t i .first) (entryAt t j .first)
+      → Apart (entryAt t i .first) (entryAt t i .sectors) (entryAt t j .first) (entryAt t j .sectors)
   unfolding tableRules
   extents-apart i j d u v = go (decLt i j)
     where
       two : (a b : ℕ) → a < b → ¬ (entryAt t b .kind ≡ 0) → extentsApart (entryAt t a) (entryAt t b) ≡ true
       two a b l w = pairwise-getD extentsApart t a b freeEntry (rule 5) l (used-inside t b w)
 
-      go : Dec (i < j) → min (entryAt t i .first + entryAt t i .sectors) (entryAt t j .first + entryAt t j .sectors) ≤ max (entryAt t i .first) (entryAt t j .first)
+      go : Dec (i < j) → Apart (entryAt t i .first) (entryAt t i .sectors) (entryAt t j .first) (entryAt t j .sectors)
       go (yes l) = no-shared (entryAt t i) (entryAt t j) u v (two i j l v)
       go (no l) =
           let h : j < i = omega (arith, d) in
           let s = no-shared (entryAt t j) (entryAt t i) v u (two j i h u) in
           omega arith
+
+  -- and differ in their names
+  pub names-differ : (i j : ℕ) → ¬ (i ≡ j) → ¬ (entryAt t i .kind ≡ 0) → ¬ (entryAt t j .kind ≡ 0) → ¬ (entryAt t i .name ≡ entryAt t j .name)
+  unfolding tableRules
+  names-differ i j d u v = go (decLt i j)
+    where
+      two : (a b : ℕ) → a < b → ¬ (entryAt t a .kind ≡ 0) → ¬ (entryAt t b .kind ≡ 0) → ¬ (entryAt t a .name ≡ entryAt t b .name)
+      two a b l p q = not-same (entryAt t a) (entryAt t b) p q (pairwise-getD namesDiffer t a b freeEntry (rule 3) l (used-inside t b q))
+
+      go : Dec (i < j) → ¬ (entryAt t i .name ≡ entryAt t j .name)
+      go (yes l) = two i j l u v
+      go (no l) = λ e. two j i (omega (arith, d)) v u (sym e)
+
+-- ---- a table with no used entry
+
+pub empty-good : (N : ℕ) → tableGood N (replicate 18 freeEntry) ≡ true
+unfolding tableGood tableRules all every pairwise kindKnown freeIsZero entryBytes word nameGood namesDiffer extentInside extentsApart flagsKnown lengthGood countGood randomBare
+empty-good N = refl
+
+pub empty-free : (i : ℕ) → entryAt (replicate 18 freeEntry) i ≡ freeEntry
+empty-free i = at 18 i
+  where
+    at : (m k : ℕ) → getD (replicate m freeEntry) k freeEntry ≡ freeEntry
+    at zero k = refl
+    at (suc m) zero = refl
+    at (suc m) (suc k) = at m k

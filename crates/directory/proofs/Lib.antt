@@ -1,9 +1,9 @@
 pub mod Table
+pub mod Back
 pub mod Names
 pub mod Free
 pub mod Grouped
 pub mod Good
+pub mod Stamped
 pub mod Restamp
 pub mod Find
-pub mod Stamped
-pub mod Back

@@ -6,15 +6,17 @@ use geometry::same;
 use geometry::word_at;
 ghost use mathlib.Core.Path.{_≡_};
 ghost use mathlib.Core.List.{_++_};
-ghost use Prim.Native.Nat.{_+_, _*_, _%_};
+ghost use mathlib.Core.Bool.{true, false};
+ghost use Prim.Native.Nat.{_-_, _≤_, _<_};
 ghost use lib.Dec.{eqb};
-ghost use lib.ListN.{length, getD, drop, replicate};
+ghost use lib.ListN.{drop, replicate};
 ghost use Rattle.geometry.specs.Bytes.{padded, word};
 ghost use Rattle.geometry.specs.Bytes as Bytes;
 ghost use Rattle.geometry.specs.Lists.{every};
 ghost use Rattle.geometry.specs.Lists as Lists;
+ghost use Rattle.geometry.specs.Sizes.{blank};
 ghost use Rattle.directory.specs.Entries.{entryFrom, entryBytes, oneWord, freeEntry, tableOf, entryAt, isMarked, isProtected};
-ghost use Rattle.directory.specs.Rules.{capital, digit, isName, freeIsZero, nameGood, namesDiffer, extentInside, extentsApart, longest, lengthGood, countGood, randomBare, tableGood};
+ghost use Rattle.directory.specs.Rules.{capital, digit, isName, nameGood, extentInside, longest, lengthGood, countGood, randomBare, tableGood};
 ghost use Rattle.directory.specs.Grouped.{entryGood, twoGood};
 ghost use Rattle.directory.specs.Search.{matches};
 ghost use Rattle.directory.specs.Search as Search;
@@ -70,36 +72,6 @@ pub fn entry_from(b: &[u8]) -> Entry
     }
 }
 
-// An entry of 20 zero bytes.
-pub fn free_entry() -> Entry
-    ensures { λ r. ⌜ r ≡ freeEntry ⌝ }
-{
-    Entry {
-        name: [0; 8],
-        kind: 0,
-        length: 0,
-        first: 0,
-        sectors: 0,
-        count: 0,
-        flags: 0,
-    }
-}
-
-// A table with no used entry.
-pub fn empty_table() -> [Entry; 18]
-    ensures { λ r. ⌜ r ≡ replicate 18 freeEntry ⌝ }
-{
-    let e = free_entry();
-    [e; 18]
-}
-
-// The entry of that number in a table; a free one where there is none.
-pub fn entry_of(t: [Entry; 18], i: usize) -> Entry
-    ensures { λ r. ⌜ r ≡ entryAt t i ⌝ }
-{
-    if i < 18 { t[i] } else { free_entry() }
-}
-
 // A name and six words, as 20 bytes.
 fn twenty_bytes(
     name: [u8; 8],
@@ -151,6 +123,42 @@ pub fn put_entry(out: &mut [u8], at: usize, e: Entry)
 {
     let b = entry_bytes(e);
     lay(out, at, &b);
+}
+
+// ---- the table
+
+// An entry of 20 zero bytes.
+pub fn free_entry() -> Entry
+    ensures { λ r. ⌜ r ≡ freeEntry ⌝ }
+{
+    Entry {
+        name: [0; 8],
+        kind: 0,
+        length: 0,
+        first: 0,
+        sectors: 0,
+        count: 0,
+        flags: 0,
+    }
+}
+
+// A table with no used entry.
+pub fn empty_table() -> [Entry; 18]
+    ensures { λ r. ⌜ r ≡ replicate 18 freeEntry ⌝ }
+{
+    let e = free_entry();
+    [e; 18]
+}
+
+// The entry of that number in a table; a free one where there is none.
+pub fn entry_of(t: [Entry; 18], i: usize) -> Entry
+    ensures { λ r. ⌜ r ≡ entryAt t i ⌝ }
+{
+    if i < Geometry::ENTRIES {
+        t[i]
+    } else {
+        free_entry()
+    }
 }
 
 // Entry i of an image's directory; a free one where there is none.
@@ -208,20 +216,33 @@ fn is_digit(c: u8) -> bool
     (0xF0 <= c) & (c <= 0xF9)
 }
 
-// Whether x is a capital letter followed by capitals or digits, then only blanks: seen from the end.
+// Where a name's blanks begin, at byte 1 or behind it: only blanks stand from there on, and none before.
+fn name_end(x: [u8; 8]) -> usize
+    ensures { λ r. ⌜ (1 ≤ r) × (r ≤ 8) × (every (λ b. eqb b blank) (drop r x) ≡ true) × (1 < r → every (λ b. eqb b blank) (drop (r - 1) x) ≡ false) ⌝ }
+{
+    let mut k: usize = 8;
+    while 1 < k {
+        if x[k - 1] != Geometry::BLANK {
+            return k;
+        }
+        k -= 1;
+    }
+    k
+}
+
+// Whether x is a capital letter followed by capitals or digits, then only blanks.
 fn is_name(x: [u8; 8]) -> bool
     ensures { λ r. ⌜ r ≡ isName x ⌝ }
 {
-    let mut blanks = true;
-    let mut rest = true;
-    let mut k: usize = 8;
+    let mut k = name_end(x);
     while 1 < k {
         k -= 1;
         let c = x[k];
-        blanks = (c == Geometry::BLANK) & blanks;
-        rest = ((is_capital(c) | is_digit(c)) & rest) | blanks;
+        if !(is_capital(c) | is_digit(c)) {
+            return false;
+        }
     }
-    is_capital(x[0]) & rest
+    is_capital(x[0])
 }
 
 // Whether the eight bytes are zero.
@@ -246,17 +267,6 @@ fn is_zero(e: Entry) -> bool
         & ((e.kind == Geometry::FREE)
             & ((e.length == 0)
                 & ((e.first == 0) & ((e.sectors == 0) & ((e.count == 0) & (e.flags == 0))))))
-}
-
-// A free entry is 20 zero bytes.
-fn free_is_zero(e: Entry) -> bool
-    ensures { λ r. ⌜ r ≡ freeIsZero e ⌝ }
-{
-    if e.kind == Geometry::FREE {
-        is_zero(e)
-    } else {
-        true
-    }
 }
 
 // A used entry has a name.
@@ -322,11 +332,13 @@ fn random_bare(e: Entry) -> bool
 fn entry_good(e: Entry, n: u32) -> bool
     ensures { λ r. ⌜ r ≡ entryGood n e ⌝ }
 {
+    if e.kind == Geometry::FREE {
+        return is_zero(e);
+    }
     (e.kind <= Geometry::RANDOM)
-        & (free_is_zero(e)
-            & (name_good(e)
-                & (extent_inside(e, n)
-                    & ((e.flags <= 3) & (length_good(e) & (count_good(e) & random_bare(e)))))))
+        & (name_good(e)
+            & (extent_inside(e, n)
+                & ((e.flags <= 3) & (length_good(e) & (count_good(e) & random_bare(e))))))
 }
 
 // ---- the rules of two entries, and of the table
@@ -361,14 +373,14 @@ pub fn is_good(t: [Entry; 18], n: u32) -> bool
     ensures { λ r. ⌜ r ≡ tableGood n t ⌝ }
 {
     let mut i: usize = 0;
-    while i < 18 {
+    while i < Geometry::ENTRIES {
         let e = t[i];
         if !entry_good(e, n) {
             return false;
         }
         if e.kind != Geometry::FREE {
             let mut j = i + 1;
-            while j < 18 {
+            while j < Geometry::ENTRIES {
                 let f = t[j];
                 if !two_good(e, f) {
                     return false;
@@ -399,7 +411,7 @@ pub fn is_named(e: Entry, name: &[u8]) -> bool
 pub fn search(image: &[u8], name: &[u8]) -> Found
     ensures { λ r. ⌜ r ≡ Search.search (now (image .entry)) (now (name .entry)) ⌝ }
 {
-    let mut i: usize = 0;
+    let mut i = 0;
     while i < Geometry::ENTRIES {
         let e = entry_at(image, i);
         if is_named(e, name) {

@@ -2,32 +2,35 @@
 -- holds of either engine and of every legal session.
 use mathlib.Core.Path.{_≡_, refl, sym, ap, _∙_, subst}
 use mathlib.Core.Logic.{_≢_, _⊎_, inl, inr}
-use mathlib.Core.Bool.{Bool, true, false}
+use mathlib.Core.Bool.{true, false}
 use mathlib.Core.List.{List}
-use Prim.Native.Nat.{ℕ, _≤_, _<_}
+use Prim.Native.Nat.{ℕ, _<_}
 use native.Mathlib.Omega.{arith}
 use lib.ListN.{length, set}
-use lib.Dec.{eqb}
+use lib.Seq.{set-getD}
 use borrow.Author.Tests.{ne-eqb, eqb-false, eq-eqb}
 use Rattle.geometry.specs.Sizes.{entries, compressed, random, mostOpen, sectorsOf, free}
 use Rattle.geometry.proofs.Tests.{both-ways, many-room}
-use Rattle.directory.specs.Entries.{entryAt, isFree, isKind, isMarked}
+use Rattle.directory.specs.Entries.{entryAt, freeEntry, isFree}
 use Rattle.directory.specs.Rules.{tableGood}
 use Rattle.directory.specs.Stamp.{restamped}
 use Rattle.directory.proofs.Good.{used-inside}
 use Rattle.directory.proofs.Restamp.{Stampable, restamp-good}
-use Rattle.requests.proofs.Done.{Live, Allows, Meets, Tells}
-use Rattle.requests.proofs.Live.{Alive, done-live, done-place, met-live}
+use Rattle.requests.specs.Judge.{judge}
+use Rattle.requests.proofs.Done.{Allows, Meets, Tells, done-allows, met-meets}
+use Rattle.requests.proofs.Live.{Alive, done-live, done-real, done-place, met-live}
 use Rattle.sessions.specs.Session.{idle, fileOf, slotOf, openFiles, legal}
 use Rattle.sessions.proofs.Files.{Finds, opened, closed, finds}
-use Rattle.sessions.proofs.Legal.{good-table}
+use Rattle.sessions.proofs.Legal.{good-table, legal-length}
 use Rattle.sessions.proofs.Distinct.{Distinct, distinct, file-entry, file-new, file-shut, file-other}
-use Rattle.sessions.proofs.Kept.{Keeps, legal-set}
+use Rattle.sessions.proofs.Kept.{legal-set}
 use Rattle.steps.specs.Next.{Scene, factsOf, fileDone, fileMet, counted}
+use Rattle.steps.specs.Effects.{effects}
+use Rattle.steps.specs.Step.{plainScene, plainAnswer, plainAfter, plainStep}
 use Rattle.steps.proofs.Lawful.{Lawful}
+use Rattle.steps.proofs.Frame.{length-plain}
 use Rattle.steps.proofs.Inside.{lawful}
 use Rattle.steps.specs.Verdict.{entryNext, fileNext}
-
 use Rattle.serving.proofs.Stays.{same-next, lawful-next}
 use Rattle.serving.proofs.Places.{places-next}
 use Rattle.directory.specs.declared.Entry.{Entry}
@@ -194,3 +197,24 @@ module _ (image : List ℕ) (s : Session) (ok : legal image s ≡ true) (many : 
 
   pub file-others : (j : ℕ) → j ≢ i → fileOf (set (s .files) (slotOf (s .files) i) (fileNext a q c)) j ≡ fileOf (s .files) j
   file-others j ne = file-other (s .files) apart i (fileNext a q c) (goes-used q i (fileNext a q c) goes) j ne
+
+-- ---- a request in the plain engine
+
+pub legal-step : (image : List ℕ) (s : Session) → legal image s ≡ true → length (s .table) ≡ entries → length (s .files) ≡ mostOpen
+    → (i : ℕ) (q : Request) (given buffer : List ℕ) → legal (plainStep image s i q given buffer .image) (plainStep image s i q given buffer .session) ≡ true
+unfolding plainStep plainAnswer plainScene plainAfter entryNext fileNext factsOf
+legal-step image s ok many four i q given buffer = go (plainAnswer image s i q given (length buffer)) (rw ok)
+  where
+    its : Of s i (plainScene image s i given)
+    its = record { number = refl; entry = refl; file = refl }
+
+    go : (a : Answer) → judge q (factsOf true (openFiles (s .files)) (length buffer) q (plainScene image s i given)) ≡ a
+        → legal (plainAfter a image s q (plainScene image s i given) buffer .image) (plainAfter a image s q (plainScene image s i given) buffer .session) ≡ true
+    go Done e =
+        let t : Allows q (factsOf true (openFiles (s .files)) (length buffer) q (plainScene image s i given)) = done-allows q _ e in
+        legal-length _ image _ (length-plain (plainScene image s i given) (effects q (plainScene image s i given)) image)
+        ∙ legal-next image s ok many four i (plainScene image s i given) its (done-real q _ t .used) (length buffer) q Done (done t)
+    go (Met x) e =
+        let t : Meets (factsOf true (openFiles (s .files)) (length buffer) q (plainScene image s i given)) q x = met-meets q _ x e in
+        rw (set-getD (s .table) i freeEntry) at (legal-next image s ok many four i (plainScene image s i given) its (met-live _ q x t .used) (length buffer) q (Met x) (met x t))
+    go (Refused x) e = ok

@@ -1,12 +1,14 @@
 pub mod Solo
 pub mod Stays
 pub mod Taped
-pub mod Places
-pub mod Packed
-pub mod Keeping
 pub mod ByRule
 pub mod Written
 pub mod Fixed
+pub mod Places
+pub mod Packed
 pub mod Granules
+pub mod Keeping
 pub mod View
 pub mod Lifting
+pub mod Step
+pub mod Mounted

@@ -1,64 +1,58 @@
 -- From one file to a whole session. What holds of every file from a mounting on holds behind every request: the file that is asked stays what its
 -- tape or row is, by what is proved of it by itself; every other keeps its entry, its state and its extent, since extents share no sector.
 use mathlib.Core.Path.{_≡_, refl, sym, ap, _∙_, subst}
-use mathlib.Core.Logic.{_≢_, _⊎_, inl, inr, ⊎-elim}
-use mathlib.Core.Bool.{Bool, true, false}
-use mathlib.Core.List.{List, [], _∷_, map}
-use Prim.Native.Nat.{ℕ, _+_, _*_, _≤_, _<_}
+use mathlib.Core.Logic.{_≢_, _⊎_, ⊎-elim}
+use mathlib.Core.Bool.{true, false}
+use mathlib.Core.List.{List}
+use Prim.Native.Nat.{ℕ, _+_, _*_, _<_}
 use native.Mathlib.Omega.{arith}
 use native.Mathlib.Decide.{ℕ-discrete}
-use lib.Dec.{eqb}
 use lib.ListN.{length, getD, set, length-set}
-use lib.Seq.{getD-set-same, getD-set-other, ext-getD, set-getD}
+use lib.Seq.{getD-set-same, getD-set-other, ext-getD}
 use borrow.Author.Tests.{eqb-false}
 use Rattle.geometry.specs.Bytes.{lay}
 use Rattle.geometry.specs.Sizes.{entries, compressed, random, mostOpen, sectorsOf, free, lawfulLength}
+use Rattle.geometry.proofs.Places.{lawful-whole, lawful-some}
 use Rattle.geometry.proofs.Tests.{either, both-ways}
 use Rattle.directory.specs.Entries.{entryAt, tableOf, freeEntry, isFree, isKind}
-use Rattle.directory.specs.Stamp.{stampBytes, stamped, restamped}
+use Rattle.directory.specs.Stamp.{stampBytes, restamped}
 use Rattle.directory.proofs.Good.{Lies, lies, extents-apart}
 use Rattle.directory.proofs.Table.{length-table}
-use Rattle.requests.specs.Judge.{judge, tests, firstOf}
-use Rattle.requests.proofs.Done.{Tells, judge-tells, done-allows}
-use Rattle.sessions.specs.Session.{idle, fileOf, slotOf, openFiles, extent, legal}
+use Rattle.directory.proofs.Stamped.{stamped-in, stamp-table}
+use Rattle.requests.specs.Judge.{judge}
+use Rattle.requests.proofs.Done.{done-allows}
+use Rattle.sessions.specs.Session.{fileOf, slotOf, openFiles, extent, legal}
 use Rattle.sessions.proofs.Legal.{good-table, lawful-length, legal-length}
-use Rattle.steps.specs.Next.{Scene, factsOf, fileDone, fileMet, entryDone, counted}
+use Rattle.steps.specs.Next.{Scene, factsOf, fileMet, entryDone, counted}
 use Rattle.steps.specs.Effects.{effects, plainDo, plainAll}
-use Rattle.steps.proofs.Lawful.{Lawful, AllInside, ownAll}
+use Rattle.steps.specs.Verdict.{entryNext, fileNext}
+use Rattle.steps.proofs.Lawful.{Lawful, AllInside}
 use Rattle.steps.proofs.Inside.{lawful, inside}
 use Rattle.steps.proofs.Frame.{length-plain, other-plain, own-plain, Unstamped, table-plain, stamps-or}
 use Rattle.tapes.specs.Model.{Model, nothing, modelAt, modelNext}
-use Rattle.steps.specs.Verdict.{entryNext, fileNext}
 use Rattle.serving.proofs.Solo.{shows, Sound, Serves, Solo, soloAnswer, bytesNext}
 use Rattle.serving.proofs.Stays.{same-next}
-use Rattle.serving.proofs.Packed.{packed}
+use Rattle.serving.proofs.Packed.{packed-serves}
 use Rattle.serving.proofs.Fixed.{fixed}
 use Rattle.serving.proofs.Granules.{granules}
-use Rattle.serving.proofs.Keeping.{next-restamped, Goes, on, off, goes, Of, Answered, done, met, sessionNext, legal-next, in-entries, file-then, file-others}
+use Rattle.serving.proofs.Keeping.{Goes, on, off, goes, Of, Answered, done, sessionNext, legal-next, in-entries, file-then, file-others}
 use Rattle.serving.proofs.View.{showsAt, view, shows-free, length-view, view-at}
 use Rattle.directory.specs.declared.Entry.{Entry}
 use Rattle.sessions.specs.declared.OpenFile.{OpenFile}
 use Rattle.sessions.specs.declared.Session.{Session}
 use Rattle.requests.specs.declared.Answer.{Answer}
-use Rattle.requests.specs.declared.Answer.the-variants.{Done, Met, Refused}
+use Rattle.requests.specs.declared.Answer.the-variants.{Done, Met}
 use Rattle.requests.specs.declared.Edge.{Edge}
 use Rattle.requests.specs.declared.Edge.the-variants.{EndOfFile, BeginningOfTape}
-use Rattle.requests.specs.declared.Facts.{Facts}
-use Rattle.requests.specs.declared.Order.the-variants.{WriteMark, RewindOnline, RewindOffline, RecordForward, RecordBack, FileForward, FileBack}
-use Rattle.requests.specs.declared.Refusal.{Refusal}
-use Rattle.requests.specs.declared.Refusal.the-variants.{NotThere}
+use Rattle.requests.specs.declared.Order.the-variants.{RewindOffline}
 use Rattle.requests.specs.declared.Request.{Request}
-use Rattle.requests.specs.declared.Request.the-variants.{Open, Read, Write, GranuleRead, GranuleWrite, GranuleLook, Position}
-
-stamp-table : (image : List ℕ) (i count flags : ℕ) → i < entries → 360 ≤ length image → count < 65536 → flags < 65536
-    → tableOf (lay image (20 * i + 16) (stampBytes count flags)) ≡ set (tableOf image) i (restamped (entryAt (tableOf image) i) count flags)
-stamp-table image i count flags h l k g = ?
+use Rattle.requests.specs.declared.Request.the-variants.{Position}
 
 -- ---- every kind
 
 pub any-serves : Solo (λ e. isFree e ≡ false)
 any-serves files buffer q c used v =
-    either (isKind compressed (c .entry)) (λ (k : isKind compressed (c .entry) ≡ true). packed files buffer q c k v)
+    either (isKind compressed (c .entry)) (λ (k : isKind compressed (c .entry) ≡ true). packed-serves files buffer q c k v)
     λ (k : isKind compressed (c .entry) ≡ false). either (isKind random (c .entry)) (λ (r : isKind random (c .entry) ≡ true). granules files buffer q c r v)
     λ (r : isKind random (c .entry) ≡ false). fixed files buffer q c (k, r) v
 
@@ -109,7 +103,7 @@ module _ (image : List ℕ) (s : Session) (v : Stands image s) (i : ℕ) (used :
   n = openFiles (s .files)
 
   -- the image behind it
-  met-moves : (x : Edge) → Moves image image s i (Met x) q c
+  pub met-moves : (x : Edge) → Moves image image s i (Met x) q c
   unfolding fileNext bytesNext fileMet
   met-moves x = record {
     long = refl;
@@ -169,9 +163,10 @@ module _ (image : List ℕ) (s : Session) (v : Stands image s) (i : ℕ) (used :
         table : tableOf (lay image (20 * i + 16) (stampBytes (c .entry .count) (c .entry .flags))) ≡ set (tableOf image) i (restamped (entryAt (tableOf image) i) (c .entry .count) (c .entry .flags))
         table =
             let ok : lawfulLength image ≡ true = lawful-length image s (v .ok) in
-            stamp-table image i (c .entry .count) (c .entry .flags) few (omega (arith, lawful-sectors image ok, lawful-some image ok)) (omega (arith, w .words)) (omega (arith, w .flags))
+            rw (← (stamped-in image i (c .entry .count) (c .entry .flags) few))
+            (stamp-table image i (c .entry .count) (c .entry .flags) few (w .words) (omega (arith, lawful-whole image ok, lawful-some image ok)))
 
-    done-moves : Moves image image′ s i Done q c
+    pub done-moves : Moves image image′ s i Done q c
     unfolding bytesNext
     done-moves = record {
       long = length-plain c (effects q c) image;

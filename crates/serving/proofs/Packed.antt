@@ -251,7 +251,7 @@ module _ (c : Scene) (k : isKind compressed (c .entry) ≡ true) (s : Sound (c .
 
 -- ---- one compressed file by itself
 
-pub packed : Solo (λ (e : Entry). isKind compressed e ≡ true)
-packed files buffer q c k s =
+pub packed-serves : Solo (λ (e : Entry). isKind compressed e ≡ true)
+packed-serves files buffer q c k s =
     let t : Tells q (factsOf true files buffer q c) (soloAnswer files buffer q c) = judge-tells q (factsOf true files buffer q c) in
     tape-serves files buffer c (s .lawful) (not-random (c .entry) k) (taped c k s) q (soloAnswer files buffer q c) t (stays c k s files buffer q (soloAnswer files buffer q c) t)

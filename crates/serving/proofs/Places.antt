@@ -16,7 +16,6 @@ use Rattle.steps.specs.Next.{Scene, decoding, codeLength, factsOf, behindWritte
 use Rattle.steps.proofs.Lawful.{Lawful}
 use Rattle.steps.proofs.Compressed.{within-good, origin-within, here-written, code-is, read-within, end-within}
 use Rattle.steps.specs.Verdict.{fileNext}
-
 use Rattle.serving.proofs.Stays.{InPlace}
 use Rattle.requests.specs.declared.Order.the-variants.{WriteMark, RewindOnline, RewindOffline, RecordForward, RecordBack, FileForward, FileBack}
 use Rattle.requests.specs.declared.Request.{Request}

@@ -1,13 +1,12 @@
 -- What a whole session shows: for each of the 18 entries the tape or row of its entry, its open-file state and its extent.
-use mathlib.Core.Path.{_≡_, refl, sym, ap, _∙_}
+use mathlib.Core.Path.{_≡_, sym, ap, _∙_}
 use mathlib.Core.Bool.{Bool, true, false}
-use mathlib.Core.List.{List, [], _∷_, map}
-use Prim.Native.Nat.{ℕ, zero, suc, _+_, _≤_, _<_}
+use mathlib.Core.List.{List, map}
+use Prim.Native.Nat.{ℕ, _+_, _<_}
 use native.Mathlib.Omega.{arith}
 use native.Mathlib.Decide.{decLt}
 use lib.ListN.{length, getD, List·getD-eq-default}
-use borrow.Author.Tests.{eq-eqb}
-use Rattle.geometry.specs.Lists.{howMany, numbersFrom}
+use Rattle.geometry.specs.Lists.{numbersFrom}
 use Rattle.geometry.specs.Sizes.{entries, random}
 use Rattle.geometry.proofs.Tests.{either, both-ways}
 use Rattle.geometry.proofs.Numbered.{length-numbered, getD-numbered, many-map, many-alike}
@@ -18,7 +17,7 @@ use Rattle.sessions.proofs.Legal.{entry-inside, entry-used}
 use Rattle.sessions.proofs.Distinct.{distinct}
 use Rattle.sessions.proofs.Counted.{open-count}
 use Rattle.steps.proofs.Lawful.{Lawful}
-use Rattle.tapes.specs.Model.{Model, nothing, tape, row, modelAt, isOpenModel, openModels, modelSpot}
+use Rattle.tapes.specs.Model.{Model, nothing, tape, modelAt, isOpenModel, openModels, modelSpot}
 use Rattle.serving.proofs.Solo.{shows}
 use Rattle.directory.specs.declared.Entry.{Entry}
 use Rattle.sessions.specs.declared.OpenFile.{OpenFile}
@@ -91,11 +90,15 @@ module _ (image : List ℕ) (s : Session) where
             both-ways (isFree (entryAt (s .table) i)) e (rw (← f, n) at w)
         go (closed f k b) = ap (λ (g : OpenFile). g .used) f
 
+    pub open-at : (i : ℕ) → isOpenModel (showsAt image s i) ≡ fileOf (s .files) i .used
+    unfolding showsAt
+    open-at i = open-shows (entryAt (s .table) i) (fileOf (s .files) i) _ (free-shut i)
+
     pub open-view : openFiles (s .files) ≡ openModels (view image s)
-    unfolding view openModels showsAt
+    unfolding view openModels
     open-view =
         open-count entries (s .files) (distinct image s ok) (entry-inside image s ok)
-        ∙ many-alike _ _ 0 entries (λ i l k. sym (open-shows (entryAt (s .table) i) (fileOf (s .files) i) _ (free-shut i)))
+        ∙ many-alike _ _ 0 entries (λ i l k. sym (open-at i))
         ∙ sym (many-map isOpenModel (showsAt image s) (numbersFrom 0 entries))
 
     pub spot-view : (i : ℕ) → (isFree (entryAt (s .table) i) ≡ false → Lawful (entryAt (s .table) i) (fileOf (s .files) i)) → spotOf s i ≡ modelSpot (showsAt image s i)

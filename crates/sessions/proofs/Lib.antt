@@ -1,5 +1,6 @@
 pub mod Files
 pub mod Legal
+pub mod Unheld
 pub mod Distinct
 pub mod Kept
 pub mod Counted

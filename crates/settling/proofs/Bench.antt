@@ -22,12 +22,16 @@ use Rattle.sessions.specs.declared.BufferedFile.{BufferedFile}
 abbrev pub own : Entry → Bench → List ℕ
 own e w = back (w .image) (heldBy e (w .file))
 
+-- "a held sector lies in its file's extent"; only a blocked or compressed file holds one
+abbrev pub Within : Entry → BufferedFile → Type 0
+Within e b = b .holds ≡ true → (buffers e ≡ true) × (b .held < e .sectors)
+
 -- the extent lies in the image behind the directory, and the buffer is as legality says; an unchanged one equals its sector
 pub record Fits (e : Entry) (w : Bench) : Type 0 where
   pub starts : 1 ≤ e .first
   pub room : sector * (e .first + e .sectors) ≤ length (w .image)
   pub size : length (w .file .buffer) ≡ sector
-  pub within : w .file .holds ≡ true → (buffers e ≡ true) × (w .file .held < e .sectors)
+  pub within : Within e (w .file)
   pub unchanged : w .file .holds ≡ true → w .file .changed ≡ false → w .file .buffer ≡ part (w .image) (sectorAt e (w .file .held)) sector
 
 -- apart from the extent and from the directory
@@ -263,3 +267,52 @@ module _ (c : Scene) (inTable : c .number < entries) where
   unfolding plainAll
   back-plain-all hs o [] s image = refl
   back-plain-all hs o (x ∷ xs) s image = back-plain-all hs o xs (s .1) (plainDo c x image) ∙ ap (plainAll c xs) (back-plain hs o x (s .0) image)
+
+-- ---- whatever the image and the buffer have: what is held lies in the extent, and lengths stay
+
+back-file : (e : Entry) (w : Bench) → (puttingBack e w .file .holds ≡ w .file .holds) × (puttingBack e w .file .held ≡ w .file .held)
+unfolding puttingBack
+back-file e w = either (w .file .holds && w .file .changed)
+    (λ (t : (w .file .holds && w .file .changed) ≡ true). rw (t, puttingBack) (sym (and-left (w .file .holds) (w .file .changed) t), refl))
+    (λ (t : (w .file .holds && w .file .changed) ≡ false). rw (t, puttingBack) (refl, refl))
+
+length-putting : (e : Entry) (w : Bench) → length (puttingBack e w .image) ≡ length (w .image)
+unfolding puttingBack
+length-putting e w = either (w .file .holds && w .file .changed)
+    (λ (t : (w .file .holds && w .file .changed) ≡ true). rw (t, puttingBack) (length-lay (w .image) _ _))
+    (λ (t : (w .file .holds && w .file .changed) ≡ false). rw (t, puttingBack))
+
+length-taking : (e : Entry) (k : ℕ) (w : Bench) → length (taking e k w .image) ≡ length (w .image)
+unfolding taking loaded
+length-taking e k w = either (w .file .holds && eqb (w .file .held) k)
+    (λ (t : (w .file .holds && eqb (w .file .held) k) ≡ true). rw (t, taking))
+    (λ (t : (w .file .holds && eqb (w .file .held) k) ≡ false). rw (t, taking) (length-putting e w))
+
+module _ (c : Scene) where
+  within-do : (x : Effect) → Suits (c .entry) x → (w : Bench) → Within (c .entry) (w .file) → Within (c .entry) (bufferedDo c x w .file)
+  unfolding bufferedDo working
+  within-do (hold k) s w r h = (s .0, rw (takes-held (c .entry) k w .1) (s .1))
+  within-do (change x) s w r h = (s .0, rw (takes-held (c .entry) (x .place .sector) w .1) (s .1))
+  within-do (store k xs) s w r h = r h
+  within-do (stamp xs) s w r h = r h
+  within-do putBack s w r h =
+      let z = r (sym (back-file (c .entry) w .0) ∙ h) in
+      (z .0, rw (back-file (c .entry) w .1) (z .1))
+
+  pub within-all : (xs : List Effect) → AllSuit (c .entry) xs → (w : Bench) → Within (c .entry) (w .file) → Within (c .entry) (bufferedAll c xs w .file)
+  unfolding bufferedAll
+  within-all [] s w r = r
+  within-all (x ∷ xs) s w r = within-all xs (s .1) (bufferedDo c x w) (within-do x (s .0) w r)
+
+  length-do : (x : Effect) (w : Bench) → length (bufferedDo c x w .image) ≡ length (w .image)
+  unfolding bufferedDo working plainDo
+  length-do (hold k) w = length-taking (c .entry) k w
+  length-do (change x) w = length-taking (c .entry) (x .place .sector) w
+  length-do (store k xs) w = length-lay (w .image) _ xs
+  length-do (stamp xs) w = length-lay (w .image) _ xs
+  length-do putBack w = length-putting (c .entry) w
+
+  pub length-all : (xs : List Effect) (w : Bench) → length (bufferedAll c xs w .image) ≡ length (w .image)
+  unfolding bufferedAll
+  length-all [] w = refl
+  length-all (x ∷ xs) w = length-all xs (bufferedDo c x w) ∙ length-do x w

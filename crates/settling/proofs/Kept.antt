@@ -2,8 +2,8 @@
 -- legality says, and what the others hold lies elsewhere.
 use mathlib.Core.Path.{_≡_, refl, sym, ap, subst, _∙_}
 use mathlib.Core.Bool.{Bool, true, false, _&&_}
-use mathlib.Core.List.{List, map}
-use Prim.Native.Nat.{ℕ, _+_, _*_, _≤_, _<_}
+use mathlib.Core.List.{List, [], _∷_, map}
+use Prim.Native.Nat.{ℕ, zero, suc, _+_, _*_, _≤_, _<_}
 use native.Mathlib.Omega.{arith}
 use lib.ListN.{length, getD, set, length-set, List·getD-map}
 use lib.Dec.{eqb}
@@ -11,16 +11,18 @@ use borrow.Author.Tests.{eqb-true, eqb-false, eq-eqb}
 use Rattle.geometry.specs.Bytes.{part}
 use Rattle.geometry.specs.Lists.{every}
 use Rattle.geometry.specs.Sizes.{sector, entries, mostOpen, sectorsOf}
+use Rattle.geometry.proofs.Bytes.{Apart}
 use Rattle.geometry.proofs.Places.{lawful-whole}
 use Rattle.geometry.proofs.Tests.{either, both-ways, and-left, and-right, and-both, every-any, every-set, every-set-same}
-use Rattle.directory.specs.Entries.{entryAt, freeEntry, isFree}
+use Rattle.directory.specs.Entries.{tableOf, entryAt, freeEntry, isFree}
 use Rattle.directory.specs.Rules.{tableGood}
+use Rattle.directory.proofs.Table.{table-part}
 use Rattle.directory.proofs.Good.{Lies, lies, extents-apart}
 use Rattle.sessions.specs.Session.{idle, fresh, bare, legal, bufferedLegal, typed}
 use Rattle.sessions.proofs.Legal.{lawful-length, good-table, entry-inside, entry-used, bare-legal, held-inside}
 use Rattle.steps.specs.Effects.{sectorAt}
 use Rattle.steps.proofs.Inside.{buffers}
-use Rattle.settling.proofs.Settle.{Hold, empty, holdAt, heldBy, holdOf}
+use Rattle.settling.proofs.Settle.{Hold, empty, holdAt, heldBy, holdOf, settle, back-getD, back-part}
 use Rattle.settling.proofs.Bench.{Fits, Clear, held-off}
 use Rattle.directory.specs.declared.Entry.{Entry}
 use Rattle.sessions.specs.declared.BufferedFile.{BufferedFile}
@@ -49,6 +51,11 @@ chosen false x y h = both-ways false h refl
 pub not-chosen : {A : Type 0} (t : Bool) (x y : A) → t ≡ false → elim t [ true ↦ x | false ↦ y ] ≡ y
 not-chosen true x y h = both-ways true refl h
 not-chosen false x y h = refl
+
+pub map-set : {A B : Type 0} (f : A → B) (xs : List A) (k : ℕ) (y : A) → map f (set xs k y) ≡ set (map f xs) k (f y)
+map-set f [] k y = refl
+map-set f (x ∷ xs) zero y = refl
+map-set {B = B} f (x ∷ xs) (suc k) y = ap (λ (zs : List B). f x ∷ zs) (map-set f xs k y)
 
 -- ---- what `typed` says
 
@@ -158,3 +165,26 @@ module _ (image : List ℕ) (s : BufferedSession) (kept : Kept image s) where
     where
       good : tableGood N (s .table) ≡ true
       good = unfold bare in good-table image (bare s) is-legal
+
+  -- a byte outside the extents of open files is in no hold
+  pub settle-elsewhere : (a : ℕ)
+      → ((j : ℕ) → heldAt s j .file .used ≡ true → Apart a 1 (sector * entryAt (s .table) (heldAt s j .file .entry) .first) (sector * entryAt (s .table) (heldAt s j .file .entry) .sectors))
+      → getD (settle image s) a 0 ≡ getD image a 0
+  unfolding settle
+  settle-elsewhere a x = back-getD (holds s) image a λ j. either (heldAt s j .file .used)
+      (λ (u : heldAt s j .file .used ≡ true).
+      rw (hold-at s j ∙ hold-used (s .table) (heldAt s j) u)
+      (held-off (entryAt (s .table) (heldAt s j .file .entry)) (heldAt s j) a 1 (buffer-length s (kept .isTyped) j) (λ h. held-below j u h .1) (x j u)))
+      (λ (u : heldAt s j .file .used ≡ false). rw (hold-at s j ∙ hold-unused (s .table) (heldAt s j) u) (omega arith))
+
+  -- the directory is held by no file
+  pub settle-table : tableOf (settle image s) ≡ tableOf image
+  unfolding settle
+  settle-table =
+      sym (table-part (settle image s))
+      ∙ ap tableOf (back-part (holds s) image 0 sector λ j. either (heldAt s j .file .used)
+      (λ (u : heldAt s j .file .used ≡ true).
+      rw (hold-at s j ∙ hold-used (s .table) (heldAt s j) u)
+      (held-off (entryAt (s .table) (heldAt s j .file .entry)) (heldAt s j) 0 sector (buffer-length s (kept .isTyped) j) (λ h. held-below j u h .1) (omega (arith, entry-room (heldAt s j .file .entry) (used-entry j u .1) .0))))
+      (λ (u : heldAt s j .file .used ≡ false). rw (hold-at s j ∙ hold-unused (s .table) (heldAt s j) u) (omega arith)))
+      ∙ table-part image

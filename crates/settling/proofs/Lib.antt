@@ -3,5 +3,8 @@ pub mod Bench
 pub mod Kept
 pub mod Standing
 pub mod Scene
+pub mod Next
 pub mod Served
 pub mod Step
+pub mod Begin
+pub mod Look

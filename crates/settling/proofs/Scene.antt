@@ -1,8 +1,8 @@
 -- A request finds the same in both engines: a file's bytes as it has them, with its buffer, are those of the settled image.
 use mathlib.Core.Path.{_≡_, refl, sym, ap, ap₂, _∙_}
-use mathlib.Core.Bool.{Bool, true, false}
-use mathlib.Core.List.{List, _++_}
-use Prim.Native.Nat.{ℕ, _+_, _*_, _/_, _%_, _<_}
+use mathlib.Core.Bool.{true, false}
+use mathlib.Core.List.{List}
+use Prim.Native.Nat.{ℕ, _+_, _*_, _<_}
 use native.Mathlib.Omega.{arith}
 use lib.ListN.{length, getD, set}
 use lib.Dec.{eqb}
@@ -14,7 +14,7 @@ use Rattle.geometry.proofs.Bytes.{part-lay-within}
 use Rattle.geometry.proofs.Tests.{either, and-left, and-right, all-getD, every-any}
 use Rattle.directory.specs.Entries.{entryAt, entryBytes, freeEntry, isFree}
 use Rattle.directory.specs.Rules.{freeIsZero, tableGood, tableRules}
-use Rattle.directory.proofs.Free.{every-append}
+use Rattle.directory.proofs.Free.{zero-entry}
 use Rattle.sessions.specs.Session.{idle, bare, fileOf, extent, extentWith, legal}
 use Rattle.sessions.proofs.Legal.{bare-legal, files-differ, legal-length, good-table}
 use Rattle.steps.specs.Effects.{sectorAt, Bench}
@@ -58,28 +58,12 @@ extent-own e w f = either (w .file .holds)
     (λ (q : w .file .holds ≡ false). ap (extent e) (own-none e w q) ∙ sym (not-chosen (w .file .holds) _ _ q))
 
 -- a free entry, 20 zero bytes, has no sectors
-unfoldable zeros : List ℕ → Bool
-zeros xs = every (λ b. eqb b 0) xs
-
-zero-word : (n : ℕ) → zeros (word n) ≡ true → n ≡ 0
-unfolding zeros every word
-zero-word n h =
-    let p : n / 256 ≡ 0 = eqb-true (n / 256) 0 (and-left (eqb (n / 256) 0) _ h) in
-    let q : n % 256 ≡ 0 = eqb-true (n % 256) 0 (and-left (eqb (n % 256) 0) true (and-right (eqb (n / 256) 0) _ h)) in
-    omega arith
-
-front : (xs ys : List ℕ) → zeros (xs ++ ys) ≡ true → zeros xs ≡ true
-unfolding zeros
-front xs ys h = and-left (zeros xs) (zeros ys) (sym (every-append (λ b. eqb b 0) xs ys) ∙ h)
-
-behind : (xs ys : List ℕ) → zeros (xs ++ ys) ≡ true → zeros ys ≡ true
-unfolding zeros
-behind xs ys h = and-right (zeros xs) (zeros ys) (sym (every-append (λ b. eqb b 0) xs ys) ∙ h)
-
 free-nothing : (e : Entry) → freeIsZero e ≡ true → isFree e ≡ true → e .sectors ≡ 0
-unfolding freeIsZero entryBytes zeros
+unfolding freeIsZero
 free-nothing e z f =
-    zero-word (e .sectors) (front (word (e .sectors)) _ (behind (word (e .first)) _ (behind (word (e .length)) _ (behind (word (e .kind)) _ (behind (e .name) _ (rw f at z))))))
+    let h : every (λ b. eqb b 0) (entryBytes e) ≡ true = rw f at z in
+    let k = and-right (eqb (e .kind) 0) _ (and-right (every (λ b. eqb b 0) (e .name)) _ (sym (zero-entry e) ∙ h)) in
+    eqb-true (e .sectors) 0 (and-left (eqb (e .sectors) 0) _ (and-right (eqb (e .first) 0) _ (and-right (eqb (e .length) 0) _ k)))
 
 no-extent : (e : Entry) (a b : List ℕ) → e .sectors ≡ 0 → extent e a ≡ extent e b
 unfolding extent part
@@ -125,7 +109,7 @@ module _ (image : List ℕ) (s : BufferedSession) (kept : Kept image s) (i : ℕ
   pub open-clear : (k : ℕ) → Opened s i k → (j : ℕ) → ¬ (j ≡ k) → Clear e (holdAt (holds s) j)
   open-clear k o j n = clear image s kept i (open-used k o) j (alone k o j n)
 
-  same-bytes : extentWith e (heldOf s i) image ≡ extent e (settle image s)
+  pub same-bytes : extentWith e (heldOf s i) image ≡ extent e (settle image s)
   unfolding extentWith extent settle
   same-bytes = go (standing s i)
     where

@@ -1,78 +1,39 @@
 -- A request's effects, done by way of one file's buffer among the others': the session that is left stands for the image that the same
 -- effects leave straight, and keeps what is kept.
 use mathlib.Core.Path.{_≡_, refl, sym, ap, ap₂, subst, _∙_, fun-ext}
-use mathlib.Core.Bool.{Bool, true, false, _&&_, _||_, not, and-false}
-use mathlib.Core.List.{List, [], _∷_, map}
-use Prim.Native.Nat.{ℕ, zero, suc, _+_, _*_, _<_}
+use mathlib.Core.Bool.{true, false}
+use mathlib.Core.List.{List, map}
+use Prim.Native.Nat.{ℕ, _+_, _*_, _<_}
 use native.Mathlib.Omega.{arith}
 use native.Mathlib.Decide.{ℕ-discrete}
 use lib.ListN.{length, set, length-map}
 use lib.Seq.{getD-set-same, getD-set-other, set-set}
-use lib.Dec.{ltb}
-use borrow.Author.Tests.{lt-ltb}
-use Rattle.geometry.specs.Bytes.{part, lay}
+use Rattle.geometry.specs.Bytes.{part}
 use Rattle.geometry.specs.Lists.{every}
 use Rattle.geometry.specs.Sizes.{sector, entries}
 use Rattle.geometry.proofs.Bytes.{lay-nil}
-use Rattle.geometry.proofs.Tests.{either, both-ways, and-both, every-set}
+use Rattle.geometry.proofs.Tests.{either, both-ways, and-both}
 use Rattle.directory.specs.Entries.{entryAt}
 use Rattle.sessions.specs.Session.{idle, fresh, bare, fileOf, heldGood, legal, bufferedLegal}
 use Rattle.sessions.proofs.Legal.{all-held}
 use Rattle.steps.specs.Effects.{Effect, sectorAt, Bench, plainAll, bufferedAll}
 use Rattle.steps.specs.Next.{Scene}
 use Rattle.steps.specs.Step.{kept}
-use Rattle.steps.proofs.Inside.{buffers, AllSuit}
+use Rattle.steps.proofs.Inside.{AllSuit}
 use Rattle.settling.proofs.Settle.{Hold, empty, back, allBack, holdAt, heldBy, holdOf, Off, settle, back-first}
 use Rattle.settling.proofs.Bench.{own, Fits, Clear, Does, all-does, back-plain-all}
-use Rattle.settling.proofs.Kept.{Kept, InStep, chosen, not-chosen, heldAt, holds, hold-at, hold-used, hold-unused, buffer-length, typed-set}
+use Rattle.settling.proofs.Kept.{Kept, InStep, map-set, chosen, heldAt, holds, hold-at, hold-used, hold-unused, buffer-length, typed-set}
+use Rattle.settling.proofs.Next.{SameShape, shape-at, withBuffer, kept-used, kept-unused, new-shape, held-next}
 use Rattle.settling.proofs.Scene.{held-clear, settle-own, others-clear}
 use Rattle.directory.specs.declared.Entry.{Entry}
 use Rattle.sessions.specs.declared.BufferedFile.{BufferedFile}
 use Rattle.sessions.specs.declared.BufferedSession.{BufferedSession}
 use Rattle.sessions.specs.declared.OpenFile.{OpenFile}
 
--- ---- an entry with another count and other flags lies where it lay
-
-pub record SameShape (a b : Entry) : Type 0 where
-  pub name : a .name ≡ b .name
-  pub kind : a .kind ≡ b .kind
-  pub first : a .first ≡ b .first
-  pub sectors : a .sectors ≡ b .sectors
-
-pub same-shape : (a : Entry) → SameShape a a
-same-shape a = record { name = refl; kind = refl; first = refl; sectors = refl }
-
-shape-at : (table : List Entry) (i : ℕ) (a : Entry) → SameShape a (entryAt table i) → (j : ℕ) → SameShape (entryAt (set table i a) j) (entryAt table j)
-shape-at [] i a h j = same-shape (entryAt [] j)
-shape-at (x ∷ xs) zero a h zero = h
-shape-at (x ∷ xs) zero a h (suc j) = same-shape (entryAt xs j)
-shape-at (x ∷ xs) (suc i) a h zero = same-shape x
-shape-at (x ∷ xs) (suc i) a h (suc j) = shape-at xs i a h j
-
+-- what is held does not turn on count and flags, nor on the state
 held-shape : (a a′ : Entry) (b : BufferedFile) → a .first ≡ a′ .first → heldBy a b ≡ heldBy a′ b
 unfolding heldBy
 held-shape a a′ b q = rw q
-
-pub map-set : {A B : Type 0} (f : A → B) (xs : List A) (k : ℕ) (y : A) → map f (set xs k y) ≡ set (map f xs) k (f y)
-map-set f [] k y = refl
-map-set f (x ∷ xs) zero y = refl
-map-set {B = B} f (x ∷ xs) (suc k) y = ap (λ (zs : List B). f x ∷ zs) (map-set f xs k y)
-
--- ---- the file's next state, with the buffer that it then has
-
-abbrev withBuffer : OpenFile → BufferedFile → BufferedFile
-withBuffer f b = record { file = f; holds = b .holds; held = b .held; changed = b .changed; buffer = b .buffer }
-
-kept-used : (f : OpenFile) (b : BufferedFile) → f .used ≡ true → kept f b ≡ withBuffer f b
-unfolding kept
-kept-used f b u = chosen (f .used) (withBuffer f b) (fresh f) u
-
-kept-unused : (f : OpenFile) (b : BufferedFile) → f .used ≡ false → kept f b ≡ fresh f
-unfolding kept
-kept-unused f b u = not-chosen (f .used) (withBuffer f b) (fresh f) u
-
-pub kept-file : (f : OpenFile) (b : BufferedFile) → kept f b .file ≡ f
-kept-file f b = either (f .used) (λ (u : f .used ≡ true). ap (λ (x : BufferedFile). x .file) (kept-used f b u)) (λ (u : f .used ≡ false). ap (λ (x : BufferedFile). x .file) (kept-unused f b u))
 
 held-with : (e : Entry) (f : OpenFile) (b : BufferedFile) → heldBy e (withBuffer f b) ≡ heldBy e b
 unfolding heldBy
@@ -81,24 +42,6 @@ held-with e f b = refl
 held-there : (e : Entry) (b : BufferedFile) → b .holds ≡ true → heldBy e b ≡ record { at = sectorAt e (b .held); bytes = b .buffer }
 unfolding heldBy
 held-there e b h = chosen (b .holds) (record { at = sectorAt e (b .held); bytes = b .buffer }) empty h
-
--- a held sector in its file's extent
-held-good : (table : List Entry) (b : BufferedFile) (e : Entry) → SameShape (entryAt table (b .file .entry)) e → (b .holds ≡ true → (buffers e ≡ true) × (b .held < e .sectors)) → heldGood table b ≡ true
-unfolding heldGood
-held-good table b e h r = either (b .holds)
-    (λ (q : b .holds ≡ true).
-    let l : ltb (b .held) (e .sectors) ≡ true = lt-ltb (b .held) (e .sectors) (r q .1) in
-    let m : buffers e ≡ true = r q .0 in
-    rw (h .kind, h .sectors, l, m) (anyway (b .file .used && b .holds)))
-    (λ (q : b .holds ≡ false). rw (q, and-false (b .file .used)))
-  where
-    anyway : (t : Bool) → (not t || true) ≡ true
-    anyway true = refl
-    anyway false = refl
-
-not-used : (table : List Entry) (b : BufferedFile) → b .file .used ≡ false → heldGood table b ≡ true
-unfolding heldGood
-not-used table b u = rw u
 
 -- ---- one file among the others
 
@@ -185,26 +128,6 @@ module _ (image : List ℕ) (s : BufferedSession) (ok : Kept image s) (i : ℕ) 
 
       -- ---- what is kept
 
-      good-shape : (x : BufferedFile) → heldGood (next .table) x ≡ heldGood (s .table) x
-      unfolding heldGood
-      good-shape x =
-          let h : SameShape (entryAt (next .table) (x .file .entry)) (entryAt (s .table) (x .file .entry)) = shape-at (s .table) i a shape (x .file .entry) in
-          rw (h .kind, h .sectors)
-
-      -- the entry of the new state lies where it lay
-      new-shape : f .used ≡ true → SameShape (entryAt (next .table) (f .entry)) e
-      new-shape u = subst (λ (j : ℕ). SameShape (entryAt (next .table) (f .entry)) (entryAt (s .table) j)) (ofEntry u) (shape-at (s .table) i a shape (f .entry))
-
-      new-good : heldGood (next .table) (kept f (v .file)) ≡ true
-      new-good = either (f .used)
-          (λ (u : f .used ≡ true).
-          ap (heldGood (next .table)) (kept-used f (v .file) u)
-          ∙ held-good (next .table) (withBuffer f (v .file)) e (new-shape u) (λ h. done .fits .within h))
-          (λ (u : f .used ≡ false). ap (heldGood (next .table)) (kept-unused f (v .file) u) ∙ not-used (next .table) (fresh f) u)
-
-      all-good : every (heldGood (next .table)) (next .files) ≡ true
-      all-good = every-set (heldGood (next .table)) (s .files) k (kept f (v .file)) (ap (λ (p : BufferedFile → Bool). every p (s .files)) (fun-ext good-shape) ∙ all-held image s (ok .isLegal)) new-good
-
       new-size : length (kept f (v .file) .buffer) ≡ sector
       new-size = either (f .used) (λ (u : f .used ≡ true). ap (λ (x : BufferedFile). length (x .buffer)) (kept-used f (v .file) u) ∙ done .fits .size)
           (λ (u : f .used ≡ false). ap (λ (x : BufferedFile). length (x .buffer)) (kept-unused f (v .file) u))
@@ -213,7 +136,7 @@ module _ (image : List ℕ) (s : BufferedSession) (ok : Kept image s) (i : ℕ) 
       new-step : InStep (v .image) (next .table) (kept f (v .file))
       new-step = either (f .used)
           (λ (u : f .used ≡ true).
-          let q : entryAt (next .table) (f .entry) .first ≡ e .first = new-shape u .first in
+          let q : entryAt (next .table) (f .entry) .first ≡ e .first = new-shape s i k a shape f ofEntry (v .file) u .first in
           subst (InStep (v .image) (next .table)) (sym (kept-used f (v .file) u))
           (λ y h x. done .fits .unchanged h x ∙ ap (λ (n : ℕ). part (v .image) (sector * (n + v .file .held)) sector) (sym q)))
           (λ (u : f .used ≡ false). subst (InStep (v .image) (next .table)) (sym (kept-unused f (v .file) u)) (λ y h x. both-ways (f .used) y u))
@@ -236,6 +159,9 @@ module _ (image : List ℕ) (s : BufferedSession) (ok : Kept image s) (i : ℕ) 
           go : Dec (j ≡ k) → InStep (v .image) (next .table) (heldAt next j)
           go (yes q) = subst (InStep (v .image) (next .table)) (sym (ap (λ (m : ℕ). heldAt next m) q ∙ getD-set-same (s .files) k (kept f (v .file)) (fresh idle) (z .inside))) new-step
           go (no n) = subst (InStep (v .image) (next .table)) (sym (getD-set-other (s .files) k j (kept f (v .file)) (fresh idle) n)) (old-step j n)
+
+      all-good : every (heldGood (next .table)) (next .files) ≡ true
+      all-good = held-next s i k a shape f ofEntry (v .file) (λ h. done .fits .within h) (all-held image s (ok .isLegal))
 
       pub kept-next : legal (v .image) (bare next) ≡ true → Kept (v .image) next
       unfolding bufferedLegal

@@ -8,7 +8,7 @@ use native.Mathlib.Omega.{arith}
 use native.Mathlib.Nat.{suc-inj}
 use lib.ListN.{length, getD, set}
 use Rattle.geometry.specs.Bytes.{part, lay}
-use Rattle.geometry.proofs.Bytes.{Apart, length-lay, lay-nil, lay-lay-apart, part-lay-apart}
+use Rattle.geometry.proofs.Bytes.{Apart, length-lay, lay-nil, lay-lay-apart, part-lay-apart, getD-lay-out}
 use Rattle.directory.specs.Entries.{entryAt}
 use Rattle.steps.specs.Effects.{sectorAt}
 use Rattle.directory.specs.declared.Entry.{Entry}
@@ -83,6 +83,11 @@ pub back-part : (hs : List Hold) (image : List ℕ) (a n : ℕ) → ((j : ℕ) �
 unfolding allBack
 back-part [] image a n o = refl
 back-part (h ∷ hs) image a n o = back-part hs (back image h) a n (λ j. o (suc j)) ∙ part-lay-apart image (h .at) (h .bytes) a n (o 0)
+
+pub back-getD : (hs : List Hold) (image : List ℕ) (a : ℕ) → ((j : ℕ) → Off a 1 (holdAt hs j)) → getD (allBack hs image) a 0 ≡ getD image a 0
+unfolding allBack
+back-getD [] image a o = refl
+back-getD (h ∷ hs) image a o = back-getD hs (back image h) a (λ j. o (suc j)) ∙ getD-lay-out image (h .at) (h .bytes) a 0 (o 0)
 
 -- what holds of every hold but one, and of what takes that one's place
 pub set-holds : (P : Hold → Type 0) (hs : List Hold) (k : ℕ) (h : Hold) → P h → P empty → ((j : ℕ) → ¬ (j ≡ k) → P (holdAt hs j)) → (j : ℕ) → P (holdAt (set hs k h) j)

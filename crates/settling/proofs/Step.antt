@@ -13,11 +13,12 @@ use Rattle.geometry.proofs.Tests.{either, both-ways, many-room, first-holds}
 use Rattle.directory.specs.Entries.{entryAt, freeEntry, isFree}
 use Rattle.directory.proofs.Good.{used-inside}
 use Rattle.requests.specs.Judge.{judge}
-use Rattle.requests.proofs.Done.{Live, Opens, Allows, Meets, readsMark, skipsMark, backOver, backAtStart, fileBackToStart, done-allows, met-meets}
+use Rattle.requests.proofs.Done.{Live, Opens, Allows, Meets, done-allows, met-meets}
+use Rattle.requests.proofs.Live.{met-live}
 use Rattle.sessions.specs.Session.{idle, fresh, bare, fileOf, slotOf, openFiles, extentWith, legal}
 use Rattle.sessions.proofs.Legal.{bare-legal, legal-length}
 use Rattle.steps.specs.Effects.{Effect, stamp, putBack, Bench, effects, plainAll, bufferedDo, bufferedAll, puttingBack}
-use Rattle.steps.specs.Next.{Scene, factsOf, fileDone, fileMet, entryDone, counted}
+use Rattle.steps.specs.Next.{Scene, factsOf, fileDone, fileMet, entryDone}
 use Rattle.steps.specs.Step.{After, heldOf, kept, plainAfter, plainStep, bufferedScene, bufferedAnswer, bufferedAfter, bufferedStep}
 use Rattle.steps.proofs.Lawful.{Lawful}
 use Rattle.steps.proofs.Inside.{lawful, AllSuit, suit}
@@ -26,9 +27,11 @@ use Rattle.settling.proofs.Bench.{own, Fits, own-unchanged, own-none, a
 use Rattle.settling.proofs.Kept.{Kept, heldAt, bare-at, hold-unused, table-length, files-length, entry-room, clear}
 use Rattle.settling.proofs.Standing.{Opened, Shut, Standing, isOpen, isShut, standing, shut-others}
 use Rattle.settling.proofs.Scene.{length-settle, same-scene, same-answer, open-fits, open-hold, open-clear}
-use Rattle.settling.proofs.Served.{SameShape, same-shape, Slot, settle-next, kept-next, map-set, kept-file}
+use Rattle.settling.proofs.Next.{SameShape, same-shape, entry-shape, bare-next}
+use Rattle.settling.proofs.Served.{Slot, settle-next, kept-next}
 use Rattle.directory.specs.declared.Entry.{Entry}
 use Rattle.requests.specs.declared.Edge.{Edge}
+use Rattle.requests.specs.declared.Edge.the-variants.{EndOfFile, BeginningOfTape}
 use Rattle.requests.specs.declared.Facts.{Facts}
 use Rattle.requests.specs.declared.Order.the-variants.{WriteMark, RewindOnline, RewindOffline, RecordForward, RecordBack, FileForward, FileBack}
 use Rattle.requests.specs.declared.Request.{Request}
@@ -99,22 +102,6 @@ closing-unchanged : (c : Scene) (w : Bench) (xs : List ℕ) → bufferedAll c (p
 unfolding bufferedAll bufferedDo
 closing-unchanged c w xs = back-unchanged (c .entry) w
 
-entry-shape : (q : Request) (c : Scene) → SameShape (entryDone q c) (c .entry)
-unfolding entryDone counted
-entry-shape Open c = same-shape (c .entry)
-entry-shape Read c = same-shape (c .entry)
-entry-shape Write c = record { name = refl; kind = refl; first = refl; sectors = refl }
-entry-shape (GranuleRead g) c = same-shape (c .entry)
-entry-shape (GranuleWrite g) c = same-shape (c .entry)
-entry-shape (GranuleLook g) c = same-shape (c .entry)
-entry-shape (Position WriteMark) c = record { name = refl; kind = refl; first = refl; sectors = refl }
-entry-shape (Position RewindOnline) c = same-shape (c .entry)
-entry-shape (Position RewindOffline) c = same-shape (c .entry)
-entry-shape (Position RecordForward) c = same-shape (c .entry)
-entry-shape (Position RecordBack) c = same-shape (c .entry)
-entry-shape (Position FileForward) c = same-shape (c .entry)
-entry-shape (Position FileBack) c = same-shape (c .entry)
-
 -- ---- a request that is not refused
 
 module _ (image : List ℕ) (s : BufferedSession) (ok : Kept image s) (i : ℕ) (bytes given : List ℕ) (buffer : ℕ) where
@@ -128,7 +115,7 @@ module _ (image : List ℕ) (s : BufferedSession) (ok : Kept image s) (i : ℕ) 
   found = record { image = image; file = heldOf s i }
 
   -- a file that is open has a state, of this entry
-  live-slot : (q : Request) → Live (facts q) → Slot image s i (slotOf (bare s .files) i) (heldOf s i) × (fileOf (bare s .files) i .used ≡ true) × (fileOf (bare s .files) i .entry ≡ i)
+  pub live-slot : (q : Request) → Live (facts q) → Slot image s i (slotOf (bare s .files) i) (heldOf s i) × (fileOf (bare s .files) i .used ≡ true) × (fileOf (bare s .files) i .entry ≡ i)
   unfolding factsOf
   live-slot q l = go (standing s i)
     where
@@ -177,11 +164,8 @@ module _ (image : List ℕ) (s : BufferedSession) (ok : Kept image s) (i : ℕ) 
 
   ready-met : (q : Request) (x : Edge) → Meets (facts q) q x → Ready (fileMet x (fileOf (bare s .files) i)) []
   unfolding fileMet
-  ready-met q x (readsMark a) = stays-open Read _ _ (a .running .live) refl refl
-  ready-met q x (skipsMark a) = stays-open (Position RecordForward) _ _ (a .running .live) refl refl
-  ready-met q x (backOver a) = stays-open (Position RecordBack) _ _ (a .running .live) refl refl
-  ready-met q x (backAtStart a) = stays-open (Position RecordBack) _ _ (a .running .live) refl refl
-  ready-met q x (fileBackToStart a) = stays-open (Position FileBack) _ _ (a .running .live) refl refl
+  ready-met q EndOfFile m = stays-open q _ _ (met-live _ q EndOfFile m) refl refl
+  ready-met q BeginningOfTape m = stays-open q _ _ (met-live _ q BeginningOfTape m) refl refl
 
   -- what is left of the image and the session
   module _ (f : OpenFile) (xs : List Effect) (r : Ready f xs) (suits : AllSuit (entryAt (s .table) i) xs) (a : Entry) (shape : SameShape a (entryAt (s .table) i)) where
@@ -204,10 +188,7 @@ module _ (image : List ℕ) (s : BufferedSession) (ok : Kept image s) (i : ℕ) 
     left-kept = kept-next image s ok i number bytes given (slotOf (bare s .files) i) (heldOf s i) (r .slot) xs suits a shape f (r .ofEntry) nothing-left
 
     left-bare : bare next ≡ record { table = set (bare s .table) i a; files = set (bare s .files) (slotOf (bare s .files) i) f }
-    unfolding bare
-    left-bare =
-        ap (λ (fs : List OpenFile). record { table = set (s .table) i a; files = fs })
-        (map-set (λ b. b .file) (s .files) (slotOf (bare s .files) i) (kept f (left .file)) ∙ ap (set (bare s .files) (slotOf (bare s .files) i)) (kept-file f (left .file)))
+    left-bare = bare-next s i (slotOf (bare s .files) i) a f (left .file)
 
     -- legal as the plain engine's is
     left-stays : (image′ : List ℕ) (s′ : Session) → plainAll scene xs (settle image s) ≡ image′ → bare next ≡ s′ → legal image′ s′ ≡ true → Kept (left .image) next

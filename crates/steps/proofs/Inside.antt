@@ -240,7 +240,7 @@ module _ (files buffer : ℕ) (c : Scene) (l : Lawful (c .entry) (c .file)) wher
       go false false p q = (store-suits (c .file .position) (rw (p, q)) (w .short) (below q), record {})
 
 -- a random file has no buffer
-no-buffer : (e : Entry) → isKind random e ≡ true → buffers e ≡ false
+pub no-buffer : (e : Entry) → isKind random e ≡ true → buffers e ≡ false
 no-buffer e r =
     let q : e .kind ≡ random = eqb-true (e .kind) random r in
     rw (ne-eqb (e .kind) blocked (omega arith), ne-eqb (e .kind) compressed (omega arith))

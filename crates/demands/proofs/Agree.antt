@@ -1,0 +1,109 @@
+-- Demand 3's agreement: the buffered engine's run, settled, is the plain engine's, which serves the tapes and rows; what is held lies in the
+-- extents of open files, and where none is open nothing is held.
+use mathlib.Core.Path.{_≡_, refl, sym, ap, subst, _∙_}
+use mathlib.Core.Bool.{true}
+use mathlib.Core.List.{List, []}
+use Prim.Native.Nat.{ℕ, _*_}
+use lib.ListN.{getD}
+use Rattle.geometry.specs.Sizes.{sector}
+use Rattle.geometry.proofs.Bytes.{Apart}
+use Rattle.geometry.proofs.Tests.{both-ways}
+use Rattle.directory.specs.Entries.{tableOf, entryAt}
+use Rattle.sessions.specs.Session.{bare, isOf, fileOf}
+use Rattle.sessions.proofs.Files.{is-of, Finds, opened, closed, finds}
+use Rattle.mounting.specs.Mounting.{mounts, bufferedMount}
+use Rattle.mounting.proofs.Mounted.{mounts-length}
+use Rattle.tapes.specs.Model.{Asked, modelAt, isOpenModel}
+use Rattle.serving.proofs.Mounted.{none-open}
+use Rattle.serving.proofs.View.{view, view-at, open-at}
+use Rattle.settling.proofs.Kept.{Kept, heldAt, bare-at, settle-elsewhere, settle-table}
+use Rattle.settling.proofs.Step.{Agrees}
+use Rattle.demands.specs.Engine.{plainEngine, bufferedEngine, Standing, answered, stepOf, run, mounted}
+use Rattle.demands.specs.Demand2.{Faithful, CountsStored}
+use Rattle.demands.specs.Demand3.{Untouched, Agreeing, Agree}
+use Rattle.demands.proofs.Plain.{then-stands, then-view, afresh, plain-faithful}
+use Rattle.demands.proofs.Counts.{plain-counts}
+use Rattle.demands.proofs.Untouched.{far, Spared, mounted-spared, plain-untouched}
+use Rattle.demands.proofs.Settled.{settled, KeptAt, agrees, kept-step, mounted-run-kept, mounted-run, mounted-reports, idle-images}
+use Rattle.directory.specs.declared.Entry.{Entry}
+use Rattle.sessions.specs.declared.BufferedSession.{BufferedSession}
+use Rattle.sessions.specs.declared.Session.{Session}
+
+pub buffered-faithful : Faithful bufferedEngine
+unfolding bufferedMount
+buffered-faithful = record {
+  mounting = λ image. refl;
+  refusedMounting = λ image e. plain-faithful .refusedMounting image e;
+  serves = λ image ok asked. mounted-reports image (mounts-length image ok) asked ∙ plain-faithful .serves image ok asked;
+}
+
+module _ (image : List ℕ) (ok : mounts image ≡ true) (asked : List Asked) where
+  abbrev w : Standing BufferedSession
+  w = run bufferedEngine (mounted bufferedEngine image) asked
+
+  abbrev v : Standing Session
+  v = run plainEngine (mounted plainEngine image) asked
+
+  kept : Kept (w .image) (w .session)
+  kept = mounted-run-kept image (mounts-length image ok) asked
+
+  same : settled w ≡ v
+  same = mounted-run image (mounts-length image ok) asked
+
+  -- a state in use is found for its entry
+  in-use : (k : ℕ) → heldAt (w .session) k .file .used ≡ true → fileOf (v .session .files) (heldAt (w .session) k .file .entry) .used ≡ true
+  in-use k u = ap (λ (x : Standing Session). fileOf (x .session .files) i .used) (sym same) ∙ go (finds (bare (w .session) .files) i)
+    where
+      i : ℕ
+      i = heldAt (w .session) k .file .entry
+
+      go : Finds (bare (w .session) .files) (heldAt (w .session) k .file .entry) → fileOf (bare (w .session) .files) (heldAt (w .session) k .file .entry) .used ≡ true
+      go (opened h p z e b) = z
+      go (closed p h b) = both-ways (isOf (heldAt (w .session) k .file .entry) (heldAt (w .session) k .file)) (is-of _ (heldAt (w .session) k .file) u refl) (ap (isOf (heldAt (w .session) k .file .entry)) (sym (bare-at (w .session) k)) ∙ b k)
+
+  buffered-untouched : Untouched bufferedEngine image asked
+  unfolding bare
+  buffered-untouched j h =
+      let m = mounted-spared image ok asked j h in
+      sym (settle-elsewhere (w .image) (w .session) kept j (λ k u. away (m .1) (heldAt (w .session) k .file .entry) (in-use k u)))
+      ∙ ap (λ (x : Standing Session). getD (x .image) j 0) same
+      ∙ m .0
+    where
+      away : Spared (tableOf image) j v → (i : ℕ) → fileOf (v .session .files) i .used ≡ true
+          → Apart j 1 (sector * entryAt (w .session .table) i .first) (sector * entryAt (w .session .table) i .sectors)
+      away p i u =
+          let o : isOpenModel (modelAt (view (v .image) (v .session)) i) ≡ true = rw (view-at (v .image) (v .session) (p .stands .many) i) (open-at (v .image) (v .session) (p .stands .ok) i ∙ u) in
+          let y : Apart j 1 (sector * entryAt (v .session .table) i .first) (sector * entryAt (v .session .table) i .sectors) =
+          far (tableOf image) j (v .image) (v .session) i [] (p .same i) (p .none i o) .extent in
+          subst (λ (x : Standing Session). Apart j 1 (sector * entryAt (x .session .table) i .first) (sector * entryAt (x .session .table) i .sectors)) (sym same) y
+
+  agreeing : Agreeing plainEngine bufferedEngine image asked
+  agreeing = record {
+    alike = sym (mounted-reports image (mounts-length image ok) asked);
+    untouched = (plain-untouched image ok asked, buffered-untouched);
+    whenIdle = λ z.
+        let f = afresh image ok asked z in
+        (sym (idle-images image (mounts-length image ok) asked (λ i l. none-open (v .image) (v .session) (then-stands image ok asked) (rw (then-view image ok asked) z) i)), f .0, f .1);
+  }
+
+pub agree : Agree plainEngine bufferedEngine
+agree = record { first = plain-faithful; second = buffered-faithful; agreeing = agreeing }
+
+-- the count that a closing stores: the directory is in no buffer
+module _ (image : List ℕ) (ok : mounts image ≡ true) (asked : List Asked) (a : Asked) where
+  then-kept : KeptAt (stepOf bufferedEngine (w image ok asked) a)
+  then-kept = kept-step (w image ok asked) (kept image ok asked) a
+
+  then-agrees : Agrees (answered bufferedEngine (w image ok asked) a) (answered plainEngine (v image ok asked) a)
+  then-agrees = rw (same image ok asked) at (agrees (w image ok asked) (kept image ok asked) a)
+
+  same-table : tableOf (answered bufferedEngine (w image ok asked) a .image) ≡ tableOf (answered plainEngine (v image ok asked) a .image)
+  unfolding stepOf
+  same-table = sym (settle-table (answered bufferedEngine (w image ok asked) a .image) (answered bufferedEngine (w image ok asked) a .session) then-kept) ∙ ap tableOf (then-agrees .image)
+
+pub buffered-counts : CountsStored bufferedEngine
+buffered-counts = record {
+  stored = λ image ok asked i t here a is done.
+      ap (λ (table : List Entry). entryAt table i .count) (same-table image ok asked a)
+      ∙ plain-counts .stored image ok asked i t here a is (sym (then-agrees image ok asked a .answer) ∙ done);
+}

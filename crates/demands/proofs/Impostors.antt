@@ -1,0 +1,170 @@
+-- Document 01's impostors, each refuted against demand 2 by one run of ten requests on one small image: what the tape says of it is computed once,
+-- and each impostor says something else of one of them.
+use mathlib.Core.Path.{_≡_, refl, ap, _∙_}
+use mathlib.Core.Bool.{Bool, true, false}
+use mathlib.Core.List.{List, [], _∷_, _++_, map}
+use Prim.Native.Nat.{ℕ}
+use native.Mathlib.Omega.{arith}
+use lib.ListN.{length, replicate, getD, set}
+use Rattle.geometry.specs.Bytes.{part, lay, wordAt, word, padded}
+use Rattle.geometry.specs.Lists.{all, every, pairwise, firstWith, howMany, same}
+use Rattle.geometry.specs.Places.{sectorsFor, perSector, capacity, placeOf}
+use Rattle.geometry.specs.Sizes.{sectorsOf, lawfulLength}
+use Rattle.directory.specs.Entries.{entryFrom, entryBytes, entriesFrom, tableOf, entryAt, isMarked, isProtected}
+use Rattle.directory.specs.Rules.{kindKnown, freeIsZero, capital, digit, restOfName, isName, nameGood, namesDiffer, extentInside, extentsApart, flagsKnown, longest, lengthGood, countGood, randomBare, tableRules, tableGood}
+use Rattle.directory.specs.Stamp.{stampBytes}
+use Rattle.packing.specs.Reading.{behind, behindFrom}
+use Rattle.requests.specs.Judge.{isFull, tests, whether, orElse, firstOf, judge}
+use Rattle.sessions.specs.Session.{unheld, isOf, fileOf, slotOf, openFiles, spotOf, extent, ofUsedEntry, ofOther, positionGood, beyondGood, placesGood, sessionRules, legal}
+use Rattle.mounting.specs.Mounting.{countDecodes, mounts, startWith, plainMount}
+use Rattle.steps.specs.Effects.{readEffects, blockedEffect, writeEffects, effects, plainDo, plainAll}
+use Rattle.steps.specs.Look.{plainLook}
+use Rattle.steps.specs.Next.{fixedAt, recordHere, isLost, bytesGot, behindGot, decoding, badIn, codeLength, factsOf, behindWritten, endPlace, fileDone, counted, entryDone, intoBuffer}
+use Rattle.steps.specs.Step.{After, plainScene, plainAnswer, plainAfter, plainStep}
+use Rattle.tapes.specs.Tape.{fixedRecord, fixedRecords, recordsIn, tapeOf, recordCode, tapeFacts, padByte, newRecord, tapeDone, tapeMet, tapeNext, tapeRecord}
+use Rattle.tapes.specs.Model.{Asked, Report, shapeOf, modelOf, modelsOf, isOpenModel, modelFacts, modelNext, modelRecord, modelInto, openModels, modelAnswer, modelStep, ifDone, modelReport, modelReports}
+use Rattle.demands.specs.Engine.{Engine, answered, stepOf, reportOf, reports, mounted}
+use Rattle.demands.specs.Demand2.{Faithful}
+use Rattle.requests.specs.declared.Answer.the-variants.{Done, Refused}
+use Rattle.requests.specs.declared.Order.the-variants.{RewindOnline, RewindOffline}
+use Rattle.requests.specs.declared.Refusal.the-variants.{NotThere}
+use Rattle.requests.specs.declared.Request.{Request}
+use Rattle.requests.specs.declared.Request.the-variants.{Open, Read, Write, Position}
+use Rattle.sessions.specs.declared.Session.{Session}
+
+-- ---- what the runs are computed by: to unfold one of these four is to unfold all that its line names
+
+directory : Unit {0}
+unfolding part lay wordAt word padded all every pairwise firstWith howMany same sectorsFor perSector capacity placeOf sectorsOf lawfulLength entryFrom entryBytes entriesFrom tableOf isMarked isProtected kindKnown freeIsZero capital digit restOfName isName nameGood namesDiffer extentInside extentsApart flagsKnown longest lengthGood countGood randomBare tableRules tableGood countDecodes mounts
+directory = tt
+
+judging : Unit {0}
+unfolding isFull tests whether orElse firstOf judge
+judging = tt
+
+tapes : Unit {0}
+unfolding extent fixedRecord fixedRecords recordsIn tapeOf recordCode tapeFacts padByte newRecord tapeDone tapeMet tapeNext tapeRecord behind behindFrom shapeOf modelOf modelsOf isOpenModel modelFacts modelNext modelRecord modelInto openModels modelAnswer modelStep ifDone modelReport modelReports
+tapes = tt
+
+plainly : Unit {0}
+unfolding extent isOf fileOf slotOf openFiles ofUsedEntry ofOther positionGood beyondGood placesGood sessionRules legal startWith plainMount readEffects blockedEffect writeEffects effects plainDo plainAll stampBytes fixedAt recordHere isLost bytesGot behindGot decoding badIn codeLength factsOf behindWritten endPlace fileDone counted entryDone intoBuffer plainScene plainAnswer plainAfter plainStep
+plainly = tt
+
+-- ---- the image and the run
+
+-- two sectors, one blocked file A of R 180 with one record, 180 times 5; 180 times 9 stands behind it
+small : List ℕ
+small =
+    (193 ∷ 64 ∷ 64 ∷ 64 ∷ 64 ∷ 64 ∷ 64 ∷ 64 ∷ 0 ∷ 2 ∷ 0 ∷ 180 ∷ 0 ∷ 1 ∷ 0 ∷ 1 ∷ 0 ∷ 1 ∷ [])
+    ++ (replicate 342 0 ++ (replicate 180 5 ++ replicate 180 9))
+
+small-mounts : mounts small ≡ true
+unfolding directory small
+small-mounts = refl
+
+abbrev ask : Request → List ℕ → ℕ → Asked
+ask q given n = record { entry = 0; request = q; given = given; buffer = replicate n 0 }
+
+-- open, read, write over the record, read that back, close, open, and read until the end
+ten : List Asked
+ten =
+    ask Open [] 0 ∷ ask Read [] 180 ∷ ask (Position RewindOnline) [] 0 ∷ ask Write (1 ∷ 2 ∷ []) 0 ∷ ask (Position RewindOnline) [] 0
+    ∷ ask Read [] 180 ∷ ask (Position RewindOffline) [] 0 ∷ ask Open [] 0 ∷ ask Read [] 180 ∷ ask Read [] 180 ∷ []
+
+-- the numbers of some reports, and the first byte of each buffer
+numbers : List Report → List ℕ
+numbers rs = map (λ (r : Report). r .number) rs
+
+bytes : List Report → List ℕ
+bytes rs = map (λ (r : Report). getD (r .buffer) 0 0) rs
+
+tape-numbers : numbers (modelReports (modelsOf small) ten) ≡ 0 ∷ 0 ∷ 0 ∷ 0 ∷ 0 ∷ 0 ∷ 0 ∷ 0 ∷ 0 ∷ 7 ∷ []
+unfolding directory judging tapes small ten numbers
+tape-numbers = refl
+
+tape-bytes : bytes (modelReports (modelsOf small) ten) ≡ 0 ∷ 5 ∷ 0 ∷ 0 ∷ 0 ∷ 1 ∷ 0 ∷ 0 ∷ 1 ∷ 0 ∷ []
+unfolding directory judging tapes small ten bytes
+tape-bytes = refl
+
+-- what demand 2 says of an engine's k-th report
+module _ (E : Engine) (faithful : Faithful E) where
+  abbrev rs : List Report
+  rs = reports E (mounted E small) ten
+
+  number-is : (k : ℕ) → getD (numbers rs) k 0 ≡ getD (0 ∷ 0 ∷ 0 ∷ 0 ∷ 0 ∷ 0 ∷ 0 ∷ 0 ∷ 0 ∷ 7 ∷ []) k 0
+  number-is k = ap (λ (ns : List ℕ). getD ns k 0) (ap numbers (faithful .serves small small-mounts ten) ∙ tape-numbers)
+
+  byte-is : (k : ℕ) → getD (bytes rs) k 0 ≡ getD (0 ∷ 5 ∷ 0 ∷ 0 ∷ 0 ∷ 1 ∷ 0 ∷ 0 ∷ 1 ∷ 0 ∷ []) k 0
+  byte-is k = ap (λ (ns : List ℕ). getD ns k 0) (ap bytes (faithful .serves small small-mounts ten) ∙ tape-bytes)
+
+-- ---- the impostors
+
+-- an engine that does something else than the plain one with each request
+abbrev instead : (List ℕ → Session → ℕ → Request → List ℕ → List ℕ → After Session) → Engine
+instead f = record { Session = Session; seen = unheld; mount = plainMount; request = f; position = spotOf; look = plainLook }
+
+-- "one refusing every request"
+abbrev pub refuser : Engine
+refuser = instead (λ image s i q given buffer. record { answer = Refused NotThere; image = image; session = s; buffer = buffer })
+
+pub refuser-fails : Faithful refuser → ⊥
+unfolding reports reportOf answered stepOf ten numbers
+refuser-fails f = let z : _≡_ {A = ℕ} 8 0 = number-is refuser f 0 in omega arith
+
+-- "one answering 0 with a fixed record"
+abbrev pub parrot : Engine
+parrot = instead (λ image s i q given buffer. record { answer = Done; image = image; session = plainStep image s i q given buffer .session; buffer = replicate (length buffer) 7 })
+
+pub parrot-fails : Faithful parrot → ⊥
+unfolding reports reportOf answered stepOf ten bytes
+parrot-fails f = let z : _≡_ {A = ℕ} 7 5 = byte-is parrot f 1 in omega arith
+
+-- "one moving no bytes at all (reading back stops it)"
+abbrev pub idler : Engine
+idler = instead (λ image s i q given buffer.
+    let r : After Session = plainStep image s i q given buffer in
+    record { answer = r .answer; image = image; session = r .session; buffer = r .buffer })
+
+pub idler-fails : Faithful idler → ⊥
+unfolding reports reportOf answered stepOf mounted ten bytes small directory judging plainly
+idler-fails f = let z : _≡_ {A = ℕ} 5 1 = byte-is idler f 5 in omega arith
+
+-- "one that serves the first request truly and only says 0 afterwards": a plain session, and whether a request was served
+pub record Tired : Type 0 where
+  pub session : Session
+  pub served : Bool
+
+abbrev pub tiredly : Bool → List ℕ → Session → ℕ → Request → List ℕ → List ℕ → After Tired
+tiredly true image s i q given buffer = record { answer = Done; image = image; session = record { session = s; served = true }; buffer = buffer }
+tiredly false image s i q given buffer =
+    let r : After Session = plainStep image s i q given buffer in
+    record { answer = r .answer; image = r .image; session = record { session = r .session; served = true }; buffer = r .buffer }
+
+abbrev pub quitter : Engine
+quitter = record {
+  Session = Tired;
+  seen = λ s. unheld (s .session);
+  mount = λ image. record { answer = plainMount image .answer; session = record { session = plainMount image .session; served = false } };
+  request = λ image s i q given buffer. tiredly (s .served) image (s .session) i q given buffer;
+  position = λ s. spotOf (s .session);
+  look = λ image s i g. plainLook image (s .session) i g;
+}
+
+pub quitter-fails : Faithful quitter → ⊥
+unfolding reports reportOf answered stepOf mounted ten bytes
+quitter-fails f = let z : _≡_ {A = ℕ} 0 5 = byte-is quitter f 1 in omega arith
+
+-- "one that stores a made-up record count (demand 2 stops it at the next opening, by the tape's own length)": 2 at every request
+abbrev pub teller : Engine
+teller = instead (λ image s i q given buffer.
+    let r : After Session = plainStep image s i q given buffer in
+    record {
+      answer = r .answer;
+      image = r .image;
+      session = record { table = set (r .session .table) i (counted (entryAt (r .session .table) i) 2 0); files = r .session .files };
+      buffer = r .buffer;
+    })
+
+pub teller-fails : Faithful teller → ⊥
+unfolding reports reportOf answered stepOf mounted ten numbers small directory judging plainly
+teller-fails f = let z : _≡_ {A = ℕ} 0 7 = number-is teller f 9 in omega arith

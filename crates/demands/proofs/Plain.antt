@@ -1,0 +1,173 @@
+-- The plain engine serves the tapes and rows of the mounted image, request by request; every session that it hands out is legal; and where nothing
+-- is open, mounting its image afresh gives the same tapes and rows.
+use mathlib.Core.Path.{_≡_, refl, sym, ap, _∙_}
+use mathlib.Core.Bool.{true}
+use mathlib.Core.List.{List, [], _∷_, map}
+use Prim.Native.Nat.{ℕ, _≤_}
+use lib.ListN.{length, length-map}
+use Rattle.geometry.specs.Lists.{numbersFrom}
+use Rattle.geometry.specs.Sizes.{entries, mostOpen}
+use Rattle.directory.specs.Entries.{entryAt}
+use Rattle.requests.specs.Numbers.{numberOf}
+use Rattle.sessions.specs.Session.{fresh, unheld, spotOf, typed}
+use Rattle.sessions.proofs.Unheld.{unheld-legal}
+use Rattle.mounting.specs.Mounting.{mounts, plainMount}
+use Rattle.tapes.specs.Tape.{Tape}
+use Rattle.tapes.specs.Model.{tape, Model, Asked, Report, modelAt, modelsOf, modelSpot, modelShown, modelAnswer, modelStep, modelReport, modelReports, modelRun, ifDone, nothingOpen}
+use Rattle.mounting.proofs.Mounted.{mounted-legal}
+use Rattle.serving.proofs.Keeping.{legal-step}
+use Rattle.serving.proofs.Lifting.{Stands}
+use Rattle.serving.proofs.Mounted.{mounted-session, mounted-stands, mounted-view, afresh-view, afresh-mounts}
+use Rattle.serving.proofs.Step.{asked, tape-counts, answer-step, buffer-step, look-step, view-step, stands-step}
+use Rattle.serving.proofs.View.{view-at, showsAt, view, spot-view}
+use Rattle.settling.proofs.Kept.{table-length, files-length}
+use Rattle.demands.specs.Engine.{plainEngine, Standing, spotsOf, shownBy, answered, stepOf, reportOf, reports, run, mounted}
+use Rattle.demands.specs.Demand1.{Passing}
+use Rattle.demands.specs.Demand2.{Faithful}
+use Rattle.requests.specs.declared.Answer.{Answer}
+use Rattle.requests.specs.declared.Answer.the-variants.{Done, Met, Refused}
+use Rattle.requests.specs.declared.Request.{Request}
+use Rattle.requests.specs.declared.Request.the-variants.{Open, Read, Write, GranuleRead, GranuleWrite, GranuleLook, Position}
+use Rattle.sessions.specs.declared.Session.{Session}
+use Rattle.sessions.specs.declared.Spot.{Spot}
+
+-- ---- one request
+
+map-alike : {A B C : Type 0} (f : A → C) (g : B → C) (h : A → B) → ((x : A) → f x ≡ g (h x)) → (xs : List A) → map f xs ≡ map g (map h xs)
+map-alike f g h e [] = refl
+map-alike f g h e (x ∷ xs) = rw (e x, map-alike f g h e xs)
+
+same-report : (r t : Report) → r .number ≡ t .number → r .buffer ≡ t .buffer → r .shown ≡ t .shown → r .spots ≡ t .spots → r ≡ t
+same-report r t a b c d =
+    ap (λ (n : ℕ). record { number = n; buffer = r .buffer; shown = r .shown; spots = r .spots }) a
+    ∙ ap (λ (x : List ℕ). record { number = t .number; buffer = x; shown = r .shown; spots = r .spots }) b
+    ∙ ap (λ (x : List ℕ). record { number = t .number; buffer = t .buffer; shown = x; spots = r .spots }) c
+    ∙ ap (λ (x : List Spot). record { number = t .number; buffer = t .buffer; shown = t .shown; spots = x }) d
+
+-- what is not moved is empty
+none-done : (a : Answer) → ifDone a [] ≡ []
+unfolding ifDone
+none-done Done = refl
+none-done (Met x) = refl
+none-done (Refused x) = refl
+
+spots-view : (image : List ℕ) (s : Session) → Stands image s → map (spotOf s) (numbersFrom 0 entries) ≡ map modelSpot (view image s)
+unfolding view
+spots-view image s v = map-alike (spotOf s) modelSpot (showsAt image s) (λ i. spot-view image s (v .ok) i (λ u. v .sound i u .lawful)) (numbersFrom 0 entries)
+
+module _ (w : Standing Session) (v : Stands (w .image) (w .session)) (a : Asked) where
+  abbrev ms : List Model
+  ms = view (w .image) (w .session)
+
+  abbrev w′ : Standing Session
+  w′ = stepOf plainEngine w a
+
+  pub stands-then : Stands (w′ .image) (w′ .session)
+  unfolding stepOf answered
+  stands-then = stands-step (w .image) (w .session) v (a .entry) (a .given) (a .request) (a .buffer)
+
+  pub view-then : view (w′ .image) (w′ .session) ≡ modelStep ms a
+  unfolding stepOf answered
+  view-then = view-step (w .image) (w .session) v (a .entry) (a .given) (a .request) (a .buffer)
+
+  shown-then : (i : ℕ) (q : Request) (given buffer : List ℕ)
+      → shownBy plainEngine (w .image) (w .session) i q ≡ ifDone (modelAnswer ms (asked i q given buffer)) (modelShown q (modelAt ms i))
+  unfolding shownBy modelShown
+  shown-then i Open given buffer = sym (none-done _)
+  shown-then i Read given buffer = sym (none-done _)
+  shown-then i Write given buffer = sym (none-done _)
+  shown-then i (GranuleRead g) given buffer = sym (none-done _)
+  shown-then i (GranuleWrite g) given buffer = sym (none-done _)
+  shown-then i (GranuleLook g) given buffer = look-step (w .image) (w .session) v i given g buffer
+  shown-then i (Position o) given buffer = sym (none-done _)
+
+  report-then : reportOf plainEngine w a ≡ modelReport ms a
+  unfolding reportOf modelReport answered spotsOf stepOf
+  report-then =
+      same-report _ _
+      (ap numberOf (answer-step (w .image) (w .session) v (a .entry) (a .given) (a .request) (a .buffer)))
+      (buffer-step (w .image) (w .session) v (a .entry) (a .given) (a .request) (a .buffer))
+      (shown-then (a .entry) (a .request) (a .given) (a .buffer))
+      (spots-view (w′ .image) (w′ .session) stands-then ∙ ap (map modelSpot) view-then)
+
+-- ---- a run
+
+pub run-stands : (asked : List Asked) (w : Standing Session) → Stands (w .image) (w .session)
+    → Stands (run plainEngine w asked .image) (run plainEngine w asked .session)
+unfolding run
+run-stands [] w v = v
+run-stands (a ∷ rest) w v = run-stands rest (stepOf plainEngine w a) (stands-then w v a)
+
+pub run-view : (asked : List Asked) (w : Standing Session) → Stands (w .image) (w .session)
+    → view (run plainEngine w asked .image) (run plainEngine w asked .session) ≡ modelRun (view (w .image) (w .session)) asked
+unfolding run modelRun
+run-view [] w v = refl
+run-view (a ∷ rest) w v = run-view rest (stepOf plainEngine w a) (stands-then w v a) ∙ ap (λ (ms : List Model). modelRun ms rest) (view-then w v a)
+
+pub run-reports : (asked : List Asked) (w : Standing Session) → Stands (w .image) (w .session)
+    → reports plainEngine w asked ≡ modelReports (view (w .image) (w .session)) asked
+unfolding reports modelReports
+run-reports [] w v = refl
+run-reports (a ∷ rest) w v =
+    ap (λ (r : Report). r ∷ reports plainEngine (stepOf plainEngine w a) rest) (report-then w v a)
+    ∙ ap (λ (rs : List Report). modelReport (view (w .image) (w .session)) a ∷ rs)
+    (run-reports rest (stepOf plainEngine w a) (stands-then w v a) ∙ ap (λ (ms : List Model). modelReports ms rest) (view-then w v a))
+
+-- ---- from a mounting on
+
+module _ (image : List ℕ) (ok : mounts image ≡ true) where
+  pub mount-stands : Stands (mounted plainEngine image .image) (mounted plainEngine image .session)
+  unfolding mounted
+  mount-stands = rw (mounted-session image ok) (mounted-stands image ok)
+
+  pub mount-view : view (mounted plainEngine image .image) (mounted plainEngine image .session) ≡ modelsOf image
+  unfolding mounted
+  mount-view = rw (mounted-session image ok) (mounted-view image ok)
+
+  module _ (asked : List Asked) where
+    abbrev then : Standing Session
+    then = run plainEngine (mounted plainEngine image) asked
+
+    pub then-stands : Stands (then .image) (then .session)
+    then-stands = run-stands asked (mounted plainEngine image) mount-stands
+
+    pub then-view : view (then .image) (then .session) ≡ modelRun (modelsOf image) asked
+    then-view = run-view asked (mounted plainEngine image) mount-stands ∙ ap (λ (ms : List Model). modelRun ms asked) mount-view
+
+    -- a tape that was run to stands within its records, and its entry counts them
+    pub then-shows : (i : ℕ) → modelAt (modelRun (modelsOf image) asked) i ≡ showsAt (then .image) (then .session) i
+    then-shows i = ap (λ (ms : List Model). modelAt ms i) (sym then-view) ∙ view-at (then .image) (then .session) (then-stands .many) i
+
+    pub then-counts : (i : ℕ) (t : Tape) → modelAt (modelRun (modelsOf image) asked) i ≡ tape t
+        → (entryAt (then .session .table) i .count ≡ length (t .records)) × (t .position ≤ length (t .records))
+    then-counts i t e = tape-counts (then .image) (then .session) then-stands i t (sym (then-shows i) ∙ e)
+
+    -- "whenever no file is open, mounting the image afresh gives the same tapes, marks and granules"
+    pub afresh : nothingOpen (modelRun (modelsOf image) asked) ≡ true → (mounts (then .image) ≡ true) × (modelsOf (then .image) ≡ modelRun (modelsOf image) asked)
+    afresh none =
+        let h : nothingOpen (view (then .image) (then .session)) ≡ true = rw then-view none in
+        (afresh-mounts (then .image) (then .session) then-stands h, afresh-view (then .image) (then .session) then-stands h ∙ then-view)
+
+pub plain-faithful : Faithful plainEngine
+unfolding plainMount
+plain-faithful = record {
+  mounting = λ image. refl;
+  refusedMounting = λ image e. ap unheld (rw (e, plainMount));
+  serves = λ image ok asked.
+      run-reports asked (mounted plainEngine image) (mount-stands image ok) ∙ ap (λ (ms : List Model). modelReports ms asked) (mount-view image ok);
+}
+
+-- ---- legality
+
+pub plain-passing : Passing plainEngine
+plain-passing = record {
+  mounting = λ image ok. unheld-legal image (plainMount image .session) ∙ mounted-legal image ok;
+  requests = λ image s i q given buffer t ok.
+      unheld-legal _ _ ∙ legal-step image s (sym (unheld-legal image s) ∙ ok) (typed-table s t) (typed-files s t) i q given buffer;
+}
+  where
+    typed-table : (s : Session) → typed (unheld s) ≡ true → length (s .table) ≡ entries
+    typed-table s t = unfold unheld in table-length (unheld s) t
+
+    typed-files : (s : Session) → typed (unheld s) ≡ true → length (s .files) ≡ mostOpen
+    typed-files s t = unfold unheld in sym (length-map (s .files) fresh) ∙ files-length (unheld s) t

@@ -1,0 +1,57 @@
+-- A mounted session is legal and of its type: the table is good or has no used entry, and nothing is open.
+use mathlib.Core.Path.{_≡_, refl}
+use mathlib.Core.Bool.{true, false}
+use mathlib.Core.List.{List}
+use Prim.Native.Nat.{ℕ, _-_}
+use lib.ListN.{length, replicate}
+use lib.Dec.{eqb}
+use borrow.Author.Tests.{eq-eqb}
+use Rattle.geometry.specs.Bytes.{word}
+use Rattle.geometry.specs.Lists.{all, every, pairwise, howMany}
+use Rattle.geometry.specs.Sizes.{entries, sectorsOf, lawfulLength}
+use Rattle.geometry.proofs.Tests.{either, and-left, and-right, every-from}
+use Rattle.directory.specs.Entries.{entryBytes, tableOf, freeEntry}
+use Rattle.directory.specs.Rules.{kindKnown, freeIsZero, nameGood, namesDiffer, extentInside, extentsApart, flagsKnown, lengthGood, countGood, randomBare, tableRules, tableGood}
+use Rattle.directory.proofs.Table.{length-table, table-name}
+use Rattle.sessions.specs.Session.{unheld, isOf, openFiles, ofUsedEntry, ofOther, positionGood, beyondGood, placesGood, sessionRules, legal, typed}
+use Rattle.sessions.proofs.Unheld.{unheld-typed}
+use Rattle.mounting.specs.Mounting.{mounts, startWith, plainMount}
+use Rattle.directory.specs.declared.Entry.{Entry}
+
+-- ---- the two tables
+
+pub free-good : (N : ℕ) → tableGood N (replicate entries freeEntry) ≡ true
+unfolding tableGood tableRules all every pairwise kindKnown freeIsZero entryBytes word nameGood namesDiffer extentInside extentsApart flagsKnown lengthGood countGood randomBare
+free-good N = refl
+
+pub mounts-length : (image : List ℕ) → mounts image ≡ true → lawfulLength image ≡ true
+unfolding mounts
+mounts-length image m = and-left (lawfulLength image) _ m
+
+pub mounts-good : (image : List ℕ) → mounts image ≡ true → tableGood (sectorsOf image) (tableOf image) ≡ true
+unfolding mounts
+mounts-good image m = and-left (tableGood (sectorsOf image) (tableOf image)) _ (and-right (lawfulLength image) _ m)
+
+-- ---- legal
+
+pub start-legal : (image : List ℕ) (table : List Entry) → lawfulLength image ≡ true → tableGood (sectorsOf image) table ≡ true → legal image (startWith table) ≡ true
+unfolding legal sessionRules all every pairwise startWith openFiles howMany ofUsedEntry ofOther isOf positionGood beyondGood placesGood
+start-legal image table l g = rw (l, g)
+
+pub mounted-legal : (image : List ℕ) → lawfulLength image ≡ true → legal image (plainMount image .session) ≡ true
+unfolding plainMount
+mounted-legal image l = either (mounts image)
+    (λ (m : mounts image ≡ true). rw (m, plainMount) (start-legal image (tableOf image) l (mounts-good image m)))
+    (λ (m : mounts image ≡ false). rw (m, plainMount) (start-legal image (replicate entries freeEntry) l (free-good (sectorsOf image))))
+
+-- ---- of its type
+
+start-typed : (table : List Entry) → length table ≡ entries → every (λ e. eqb (length (e .name)) 8) table ≡ true → typed (unheld (startWith table)) ≡ true
+unfolding startWith
+start-typed table l n = unheld-typed (startWith table) l n refl
+
+pub mounted-typed : (image : List ℕ) → typed (unheld (plainMount image .session)) ≡ true
+unfolding plainMount every
+mounted-typed image = either (mounts image)
+    (λ (m : mounts image ≡ true). rw (m, plainMount) (start-typed (tableOf image) (length-table image) (every-from (λ e. eqb (length (e .name)) 8) (tableOf image) freeEntry (λ i l. eq-eqb _ 8 (table-name image i)))))
+    (λ (m : mounts image ≡ false). rw (m, plainMount) (start-typed (replicate entries freeEntry) refl refl))

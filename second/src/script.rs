@@ -1,0 +1,200 @@
+//! Scripts: rows of 16 bytes, eight words, high byte first. This form is the brief's, not
+//! document 01's.
+
+use crate::engine::Order;
+use crate::image::{put_word, word};
+
+/// Bytes of a row.
+pub const ROW_BYTES: usize = 16;
+
+/// What a row asks for.
+#[derive(Clone, Copy, Debug, PartialEq, Eq)]
+pub enum Code {
+    Open,
+    Read,
+    Write,
+    GranuleRead,
+    GranuleWrite,
+    GranuleLook,
+    Order(Order),
+}
+
+/// The codes 1 to 13, in order.
+const CODES: [Code; 13] = [
+    Code::Open,
+    Code::Read,
+    Code::Write,
+    Code::GranuleRead,
+    Code::GranuleWrite,
+    Code::GranuleLook,
+    Code::Order(Order::WriteFileMark),
+    Code::Order(Order::RewindOnLine),
+    Code::Order(Order::RewindOffLine),
+    Code::Order(Order::RecordForward),
+    Code::Order(Order::RecordBack),
+    Code::Order(Order::FileForward),
+    Code::Order(Order::FileBack),
+];
+
+impl Code {
+    fn from_number(number: u16) -> Option<Code> {
+        let index = usize::from(number).checked_sub(1)?;
+        CODES.get(index).copied()
+    }
+
+    fn number(self) -> u16 {
+        let index = CODES.iter().position(|&code| code == self);
+        index.map_or(0, |index| index as u16 + 1)
+    }
+
+    /// The rows that use up bytes: codes 3 and 5.
+    pub fn writes(self) -> bool {
+        matches!(self, Code::Write | Code::GranuleWrite)
+    }
+}
+
+/// One row: the request, its entry, the length (bytes of a write, buffer size of a read) and the
+/// granule number.
+#[derive(Clone, Copy, Debug, PartialEq, Eq)]
+pub struct Row {
+    pub code: Code,
+    pub entry: u16,
+    pub length: u16,
+    pub granule: u16,
+}
+
+impl Row {
+    /// Reads a row of 16 bytes. Words 4 and 5 are ignored; words 6 and 7 must be zero.
+    fn from_bytes(bytes: &[u8]) -> Result<Row, String> {
+        if word(bytes, 12) != 0 || word(bytes, 14) != 0 {
+            return Err("unknown shape (the last two words are not zero)".to_string());
+        }
+        let number = word(bytes, 0);
+        let code = Code::from_number(number).ok_or(format!("unknown code {number}"))?;
+        Ok(Row {
+            code,
+            entry: word(bytes, 2),
+            length: word(bytes, 4),
+            granule: word(bytes, 6),
+        })
+    }
+
+    fn to_bytes(self) -> [u8; ROW_BYTES] {
+        let mut bytes = [0; ROW_BYTES];
+        put_word(&mut bytes, 0, self.code.number());
+        put_word(&mut bytes, 2, self.entry);
+        put_word(&mut bytes, 4, self.length);
+        put_word(&mut bytes, 6, self.granule);
+        bytes
+    }
+
+    /// The bytes that this row uses up.
+    pub fn uses(&self) -> usize {
+        if self.code.writes() {
+            usize::from(self.length)
+        } else {
+            0
+        }
+    }
+}
+
+/// Rows with the bytes that their writes use up, in order.
+#[derive(Clone, Debug, Default)]
+pub struct Script {
+    pub rows: Vec<Row>,
+    pub bytes: Vec<u8>,
+}
+
+impl Script {
+    /// Reads a script: the first row that is not in order is told, in one line.
+    pub fn parse(script: &[u8], bytes: Vec<u8>) -> Result<Script, String> {
+        let mut rows = Vec::new();
+        let mut left = bytes.len();
+        for (number, part) in script.chunks(ROW_BYTES).enumerate() {
+            let row = parse_row(part, &mut left).map_err(|why| format!("row {number}: {why}"))?;
+            rows.push(row);
+        }
+        Ok(Script { rows, bytes })
+    }
+
+    /// The rows as bytes.
+    pub fn row_bytes(&self) -> Vec<u8> {
+        self.rows.iter().flat_map(|row| row.to_bytes()).collect()
+    }
+
+    /// Each row with the bytes it uses up.
+    pub fn steps(&self) -> Vec<(Row, &[u8])> {
+        let mut at = 0;
+        let mut steps = Vec::new();
+        for row in &self.rows {
+            steps.push((*row, &self.bytes[at..at + row.uses()]));
+            at += row.uses();
+        }
+        steps
+    }
+
+    /// Keeps the first `most` rows and the bytes they use up.
+    pub fn shorten(&mut self, most: usize) {
+        self.rows.truncate(most);
+        self.bytes.truncate(self.rows.iter().map(Row::uses).sum());
+    }
+
+    // --- building ---
+
+    fn push(&mut self, code: Code, entry: u16, length: u16, granule: u16) -> &mut Script {
+        self.rows.push(Row {
+            code,
+            entry,
+            length,
+            granule,
+        });
+        self
+    }
+
+    pub fn open(&mut self, entry: u16) -> &mut Script {
+        self.push(Code::Open, entry, 0, 0)
+    }
+
+    pub fn read(&mut self, entry: u16, size: usize) -> &mut Script {
+        self.push(Code::Read, entry, size as u16, 0)
+    }
+
+    pub fn write(&mut self, entry: u16, data: &[u8]) -> &mut Script {
+        self.bytes.extend_from_slice(data);
+        self.push(Code::Write, entry, data.len() as u16, 0)
+    }
+
+    pub fn granule_read(&mut self, entry: u16, granule: usize, size: usize) -> &mut Script {
+        self.push(Code::GranuleRead, entry, size as u16, granule as u16)
+    }
+
+    pub fn granule_write(&mut self, entry: u16, granule: usize, data: &[u8]) -> &mut Script {
+        self.bytes.extend_from_slice(data);
+        let length = data.len() as u16;
+        self.push(Code::GranuleWrite, entry, length, granule as u16)
+    }
+
+    pub fn granule_look(&mut self, entry: u16, granule: usize) -> &mut Script {
+        self.push(Code::GranuleLook, entry, 0, granule as u16)
+    }
+
+    pub fn order(&mut self, entry: u16, order: Order) -> &mut Script {
+        self.push(Code::Order(order), entry, 0, 0)
+    }
+
+    pub fn close(&mut self, entry: u16) -> &mut Script {
+        self.order(entry, Order::RewindOffLine)
+    }
+}
+
+/// One row, whole and known, with its bytes at hand; `left` is what is left of them.
+fn parse_row(part: &[u8], left: &mut usize) -> Result<Row, String> {
+    if part.len() < ROW_BYTES {
+        return Err(format!("cut short at {} of 16 bytes", part.len()));
+    }
+    let row = Row::from_bytes(part)?;
+    *left = left
+        .checked_sub(row.uses())
+        .ok_or(format!("bytes are missing for its write of {}", row.uses()))?;
+    Ok(row)
+}

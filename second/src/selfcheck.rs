@@ -1,0 +1,772 @@
+//! Runs both engines and the tiny model side by side and holds them to document 01's promises.
+
+use crate::answer::Answer;
+use crate::cases::all_cases;
+use crate::coding;
+use crate::directory::{
+    directory_is_good, Entry, BLOCKED, COMPRESSED, ENTRIES, ENTRY_BYTES, MARKED, RANDOM,
+};
+use crate::engine::Order;
+use crate::generate::{extent_mut, foreign_code, random_image, random_script, random_text};
+use crate::image::{sector, sector_mut, BLANK, SECTOR};
+use crate::layout::{blocked_place, capacity, sectors_per_record, Place};
+use crate::model::{hand_code, hand_decode, Model};
+use crate::play::{perform, Performed};
+use crate::random::Random;
+use crate::script::{Code, Row, Script};
+use crate::session::{mount, Buffer, Engine, OpenFile, Session, MOST_OPEN};
+
+/// A promise that does not hold, or nothing.
+type Check = Result<(), String>;
+
+fn must(holds: bool, promise: &str) -> Check {
+    if holds {
+        Ok(())
+    } else {
+        Err(promise.to_string())
+    }
+}
+
+/// What was run.
+#[derive(Default)]
+pub struct Tally {
+    pub scripts: usize,
+    pub requests: usize,
+    pub answers: [usize; 13],
+    pub strange_answers: [usize; 13],
+    pub illegal_sessions: usize,
+    pub cases: usize,
+}
+
+/// Checks the fixed cases, then `count` random images with scripts of `requests` requests, and as many strange
+/// sessions (legal, but made by hand) and illegal ones.
+pub fn selfcheck(seed: u64, count: usize, requests: usize) -> Result<Tally, String> {
+    let mut tally = Tally::default();
+    check_cases(seed, &mut tally)?;
+    for script in 0..count {
+        let mut random = Random::new(seed.wrapping_mul(1_000_003).wrapping_add(script as u64));
+        let name = |why: String| format!("seed {seed} script {script}: {why}");
+        check_script(&mut random, requests, &mut tally).map_err(name)?;
+        check_strange(&mut random, requests, &mut tally).map_err(name)?;
+        check_codes(&mut random).map_err(name)?;
+        tally.scripts += 1;
+    }
+    Ok(tally)
+}
+
+// ---------------------------------------------------------------------------------------------
+// Sessions from a good mounting on.
+
+/// One engine at work.
+#[derive(Clone)]
+struct Side {
+    image: Vec<u8>,
+    session: Session,
+}
+
+/// What a file and its engine were before a request.
+struct Before {
+    side: Side,
+    entry: Entry,
+    file: OpenFile,
+}
+
+fn check_script(random: &mut Random, requests: usize, tally: &mut Tally) -> Check {
+    let image = random_image(random);
+    let script = random_script(random, &image, requests);
+    check_run(&image, &script, tally)
+}
+
+/// The fixed cases that have a good image.
+fn check_cases(seed: u64, tally: &mut Tally) -> Check {
+    for case in all_cases(seed, 0) {
+        if directory_is_good(&case.image) {
+            check_run(&case.image, &case.script, tally)
+                .map_err(|why| format!("case {}: {why}", case.name))?;
+            tally.cases += 1;
+        }
+    }
+    Ok(())
+}
+
+/// Plays a script on a good image, then closes every file.
+fn check_run(image: &[u8], script: &Script, tally: &mut Tally) -> Check {
+    let mut run = Run::of_good_image(image)?;
+    for (number, (row, data)) in script.steps().into_iter().enumerate() {
+        let answer = run
+            .step(&row, data)
+            .map_err(|why| format!("row {number} ({row:?}): {why}"))?;
+        tally.answers[usize::from(answer)] += 1;
+        tally.requests += 1;
+    }
+    for number in 0..ENTRIES as u16 {
+        let mut closing = Script::default();
+        closing.close(number);
+        run.step(&closing.rows[0], &[])
+            .map_err(|why| format!("closing {number}: {why}"))?;
+    }
+    must(
+        run.plain.image == run.buffered.image,
+        "images are equal at the end",
+    )
+}
+
+/// The coder and decoder against those of the tiny model, on good and on damaged codes.
+fn check_codes(random: &mut Random) -> Check {
+    let r = 2 * random.between(1, 66);
+    let record = random_text(random, r);
+    let code = coding::encode(&record);
+    must(code == hand_code(&record), "the model's code")?;
+    must(code.len() <= r + 3, "at most R + 3 bytes")?;
+    let mut bytes = foreign_code(random, &record);
+    for _ in 0..8 {
+        let same = coding::decode(&bytes, r) == hand_decode(&bytes, r);
+        must(same, "the model's decoding")?;
+        let at = random.between(0, bytes.len() - 1);
+        bytes[at] = random.pick(&[0, 1, 5, 127, 128, 129, 200, 255]);
+    }
+    bytes.pop();
+    let same = coding::decode(&bytes, r) == hand_decode(&bytes, r);
+    must(same, "the model's decoding of a cut code")
+}
+
+/// Both engines, and the model where there is one (a strange session has no tapes to model).
+struct Run {
+    mounted: Vec<u8>,
+    opened: [bool; ENTRIES],
+    plain: Side,
+    buffered: Side,
+    model: Option<Model>,
+}
+
+impl Run {
+    fn of_good_image(image: &[u8]) -> Result<Run, String> {
+        let side = |engine| {
+            let (answer, session) = mount(engine, image);
+            must(answer == Answer::Done, "a good image is mounted")?;
+            Ok::<Side, String>(Side {
+                image: image.to_vec(),
+                session,
+            })
+        };
+        Ok(Run {
+            mounted: image.to_vec(),
+            opened: [false; ENTRIES],
+            plain: side(Engine::Plain)?,
+            buffered: side(Engine::Buffered)?,
+            model: Some(Model::of_good_image(image)),
+        })
+    }
+
+    /// One request on all sides, with every promise; its answer number.
+    fn step(&mut self, row: &Row, data: &[u8]) -> Result<u8, String> {
+        let plain_before = self.plain.clone();
+        let buffered_before = self.buffered.clone();
+        let plain = perform_checked(&mut self.plain, row, data)?;
+        let buffered = perform_checked(&mut self.buffered, row, data)?;
+        must(plain.answer == buffered.answer, "same answers")?;
+        must(plain.moved == buffered.moved, "same bytes")?;
+        must(plain.buffer == buffered.buffer, "same caller's buffers")?;
+        self.check_sessions_agree()?;
+        self.check_model(row, data, &plain)?;
+        check_plain(&plain_before, &self.plain, row, data, plain.answer)?;
+        self.check_buffered(buffered_before, row, plain.answer)?;
+        self.check_overlay()?;
+        self.check_untouched(row, plain.answer)?;
+        self.check_when_none_open()?;
+        Ok(plain.answer.number())
+    }
+
+    /// The same tables, positions and places in both engines.
+    fn check_sessions_agree(&self) -> Check {
+        let (plain, buffered) = (&self.plain.session, &self.buffered.session);
+        must(plain.table == buffered.table, "same tables")?;
+        for (one, other) in plain.open.iter().zip(&buffered.open) {
+            let without_buffer = OpenFile {
+                buffer: Buffer::EMPTY,
+                ..*other
+            };
+            must(*one == without_buffer, "same positions")?;
+        }
+        Ok(())
+    }
+
+    /// The tiny model answers and moves the same, and stands at the same place.
+    fn check_model(&mut self, row: &Row, data: &[u8], performed: &Performed) -> Check {
+        let Some(model) = &mut self.model else {
+            return Ok(());
+        };
+        let (answer, moved) = model.request(row, data);
+        must(answer == performed.answer.number(), "the model's answer")?;
+        must(moved == performed.moved, "the model's bytes")?;
+        for (number, tape) in model.tapes.iter().enumerate() {
+            let slot = self.plain.session.slot_of(number);
+            let file = slot.map(|slot| &self.plain.session.open[slot]);
+            let stands = file.map(|file| (usize::from(file.position), file.beyond));
+            let tape_stands = tape.as_ref().and_then(|tape| tape.stands);
+            must(tape_stands == stands, "the model's position")?;
+            if let Some(tape) = tape {
+                let entry = &self.plain.session.table[number];
+                let length = usize::from(entry.count);
+                must(
+                    entry.kind == RANDOM || tape.records.len() == length,
+                    "the tape's length",
+                )?;
+                must(tape.marked == entry.is_marked(), "the tape's mark")?;
+                if let (Some(file), COMPRESSED) = (file, entry.kind) {
+                    let place = tape.places[usize::from(file.position)];
+                    let end = tape.places[length];
+                    must(
+                        (file.place.sector, file.place.byte) == place,
+                        "the model's place",
+                    )?;
+                    must(
+                        (file.end_place.sector, file.end_place.byte) == end,
+                        "its end place",
+                    )?;
+                }
+            }
+        }
+        Ok(())
+    }
+
+    /// The blocking buffer's promises.
+    fn check_buffered(&self, side: Side, row: &Row, answer: Answer) -> Check {
+        let number = usize::from(row.entry);
+        if answer != Answer::Done {
+            // "a request not answered 0 puts nothing back"
+            return must(
+                side.image == self.buffered.image,
+                "nothing put back unless answered 0",
+            );
+        }
+        let Some(slot) = side.session.slot_of(number) else {
+            return must(
+                side.image == self.buffered.image,
+                "an opening leaves the image",
+            );
+        };
+        let before = Before {
+            entry: side.session.table[number],
+            file: side.session.open[slot],
+            side,
+        };
+        if !matches!(before.entry.kind, BLOCKED | COMPRESSED) {
+            return Ok(());
+        }
+        let after = &self.buffered.session.open[slot];
+        match row.code {
+            Code::Read | Code::Write => self.check_moving(&before, after, row),
+            Code::Order(Order::RecordForward | Order::RecordBack) => {
+                must(
+                    after.buffer == before.file.buffer,
+                    "a record skip leaves the buffer",
+                )?;
+                must(
+                    before.side.image == self.buffered.image,
+                    "a record skip puts nothing back",
+                )
+            }
+            Code::Order(Order::RewindOffLine) => must(
+                *after == OpenFile::UNUSED,
+                "a closed file's state is unused",
+            ),
+            Code::Order(_) => must(
+                !after.buffer.changed && after.buffer.holds_same(&before.file.buffer),
+                "an order puts the buffer back and goes on holding it",
+            ),
+            _ => Ok(()),
+        }
+    }
+
+    /// A read or write answered 0 on a file with a buffer.
+    fn check_moving(&self, before: &Before, after: &OpenFile, row: &Row) -> Check {
+        let writes = row.code == Code::Write;
+        let worked = sectors_worked(before, after, writes);
+        let last = worked[worked.len() - 1];
+        // "ends holding the one its record lies in"
+        must(
+            after.buffer.holds_sector(last),
+            "the record's sector is held",
+        )?;
+        let held = before.file.buffer;
+        if worked.iter().all(|&sector| held.holds_sector(sector)) {
+            // "a write wholly in the held sector leaves the image as it was"
+            must(before.side.image == self.buffered.image, "image as it was")?;
+            must(
+                after.buffer.changed == (held.changed || writes),
+                "changed flag",
+            )?;
+        } else {
+            must(
+                after.buffer.changed == writes,
+                "changed flag of a sector just taken",
+            )?;
+        }
+        // "No byte of such a file's extent changes in the image but by a putting back"
+        for of_extent in 0..usize::from(before.entry.sectors) {
+            let number = before.entry.image_sector(of_extent);
+            let same = sector(&before.side.image, number) == sector(&self.buffered.image, number);
+            let was_held = held.holds_sector(of_extent) && held.changed;
+            let was_worked = writes && worked.contains(&of_extent) && of_extent != last;
+            must(
+                same || was_held || was_worked,
+                "only a putting back changes the image",
+            )?;
+        }
+        Ok(())
+    }
+
+    /// At all times the buffered engine's image, with the held buffers laid over it, is the plain
+    /// engine's; an unchanged buffer is as the image.
+    fn check_overlay(&self) -> Check {
+        for file in self.buffered.session.open_files() {
+            let number = self.buffered.session.table[file.entry].image_sector(file.buffer.sector);
+            let as_image = sector(&self.buffered.image, number) == file.buffer.bytes;
+            let as_said = !file.buffer.holds || file.buffer.changed || as_image;
+            must(as_said, "an unchanged buffer is as the image")?;
+        }
+        must(
+            overlaid(&self.buffered) == self.plain.image,
+            "image and buffers are as plain",
+        )
+    }
+
+    /// "every byte outside entries and extents of files opened is as mounted"
+    fn check_untouched(&mut self, row: &Row, answer: Answer) -> Check {
+        if row.code == Code::Open && answer == Answer::Done {
+            self.opened[usize::from(row.entry)] = true;
+        }
+        for side in [&self.plain, &self.buffered] {
+            let mut restored = side.image.clone();
+            for number in (0..ENTRIES).filter(|&number| self.opened[number]) {
+                let at = number * ENTRY_BYTES + 16;
+                restored[at..at + 4].copy_from_slice(&self.mounted[at..at + 4]);
+                let entry = side.session.table[number];
+                let start = entry.image_sector(0) * SECTOR;
+                let end = entry.extent_end() * SECTOR;
+                restored[start..end].copy_from_slice(&self.mounted[start..end]);
+            }
+            must(
+                restored == self.mounted,
+                "bytes of other files are as mounted",
+            )?;
+        }
+        Ok(())
+    }
+
+    /// "whenever no file is open, mounting the image afresh gives the same tapes, marks and
+    /// granules"
+    fn check_when_none_open(&self) -> Check {
+        if self.plain.session.open_files().count() > 0 {
+            return Ok(());
+        }
+        must(
+            self.plain.image == self.buffered.image,
+            "images equal when none is open",
+        )?;
+        let Some(model) = &self.model else {
+            return Ok(());
+        };
+        for engine in [Engine::Plain, Engine::Buffered] {
+            let (answer, session) = mount(engine, &self.plain.image);
+            must(answer == Answer::Done, "a fresh mounting is good")?;
+            must(
+                session.table == self.plain.session.table,
+                "a fresh mounting's table",
+            )?;
+        }
+        let fresh = Model::of_good_image(&self.plain.image);
+        must(fresh == model.all_closed(), "a fresh mounting's tapes")
+    }
+}
+
+impl Buffer {
+    /// The same sector held with the same bytes.
+    fn holds_same(&self, other: &Buffer) -> bool {
+        self.holds == other.holds && self.sector == other.sector && self.bytes == other.bytes
+    }
+}
+
+/// The sectors that a read or write answered 0 must read or change, in order; the last one is
+/// the one that its record lies in.
+fn sectors_worked(before: &Before, after: &OpenFile, writes: bool) -> Vec<usize> {
+    if before.entry.kind == BLOCKED {
+        let k = usize::from(before.file.position);
+        return vec![blocked_place(before.entry.r(), k).sector];
+    }
+    let (old, new) = (before.file.place, after.place);
+    let went_on = new.sector != old.sector;
+    if went_on && old.byte < SECTOR {
+        debug_assert!(writes || old.byte > 0);
+        vec![old.sector, new.sector]
+    } else {
+        vec![new.sector]
+    }
+}
+
+/// The image with the held buffers laid over it.
+fn overlaid(side: &Side) -> Vec<u8> {
+    let mut image = side.image.clone();
+    for file in side.session.open_files() {
+        if file.buffer.holds {
+            let number = side.session.table[file.entry].image_sector(file.buffer.sector);
+            sector_mut(&mut image, number).copy_from_slice(&file.buffer.bytes);
+        }
+    }
+    image
+}
+
+/// Performs a row on one side; what holds for either engine by itself.
+fn perform_checked(side: &mut Side, row: &Row, data: &[u8]) -> Result<Performed, String> {
+    const FILLER: u8 = 0xA5;
+    let before = side.clone();
+    let performed = perform(&mut side.image, &mut side.session, row, data, FILLER);
+    let answer = performed.answer;
+    if answer.is_refusal() {
+        // ""Nothing changed" covers image, session and caller's buffer."
+        must(before.image == side.image, "a refusal leaves the image")?;
+        must(
+            before.session == side.session,
+            "a refusal leaves the session",
+        )?;
+    }
+    // "A read answered 0 changes the first R bytes of the buffer only; any other read changes
+    // none."
+    let changed = if answer == Answer::Done {
+        performed.moved.len()
+    } else {
+        0
+    };
+    let rest = performed.buffer.get(changed..).unwrap_or_default();
+    let is_read = matches!(row.code, Code::Read | Code::GranuleRead);
+    must(
+        !is_read || rest.iter().all(|&byte| byte == FILLER),
+        "the caller's buffer behind R",
+    )?;
+    // "Every other session handed out passes, save one handed back with 12."
+    let legal = side.session.is_legal(&side.image);
+    must(
+        legal || answer == Answer::IllegalSession,
+        "a session handed out is legal",
+    )?;
+    Ok(performed)
+}
+
+/// The plain engine's image after a request, byte for byte.
+fn check_plain(before: &Side, after: &Side, row: &Row, data: &[u8], answer: Answer) -> Check {
+    let mut expected = before.image.clone();
+    if answer == Answer::Done {
+        let number = usize::from(row.entry);
+        let entry = before.session.table[number];
+        let file = before
+            .session
+            .slot_of(number)
+            .map(|slot| before.session.open[slot]);
+        match (row.code, file) {
+            (Code::Write, Some(file)) => write_by_hand(&mut expected, &entry, &file, data),
+            (Code::GranuleWrite, Some(_)) => {
+                write_whole(&mut expected, &entry, usize::from(row.granule), data);
+            }
+            (Code::Order(Order::RewindOffLine), Some(_)) => {
+                let at = number * ENTRY_BYTES + 16;
+                expected[at..at + 2].copy_from_slice(&entry.count.to_be_bytes());
+                expected[at + 2..at + 4].copy_from_slice(&entry.flags.to_be_bytes());
+            }
+            _ => {}
+        }
+    }
+    must(expected == after.image, "the plain image, byte for byte")
+}
+
+/// What a write leaves in the image, by the sentences on where a record lies.
+fn write_by_hand(image: &mut [u8], entry: &Entry, file: &OpenFile, data: &[u8]) {
+    let (r, k) = (entry.r(), usize::from(file.position));
+    match entry.kind {
+        BLOCKED => {
+            let q = 360 / r;
+            let extent = extent_mut(image, entry);
+            let at = k / q * 360 + k % q * r;
+            extent[at..(k / q + 1) * 360].fill(0);
+            extent[at..at + data.len()].copy_from_slice(data);
+        }
+        COMPRESSED => write_code_by_hand(extent_mut(image, entry), r, file.place, data),
+        _ => write_whole(image, entry, k, data),
+    }
+}
+
+fn write_code_by_hand(extent: &mut [u8], r: usize, place: Place, data: &[u8]) {
+    let mut record = [BLANK; 132];
+    record[..data.len()].copy_from_slice(data);
+    let code = hand_code(&record[..r]);
+    let mut at = place.sector * 360 + place.byte;
+    let mut end = (place.sector + 1) * 360;
+    extent[at..end].fill(128);
+    if at + code.len() > end {
+        at = end;
+        end += 360;
+        extent[at..end].fill(128);
+    }
+    extent[at..at + code.len()].copy_from_slice(&code);
+}
+
+fn write_whole(image: &mut [u8], entry: &Entry, k: usize, data: &[u8]) {
+    let length = sectors_per_record(entry.r()) * SECTOR;
+    let part = &mut extent_mut(image, entry)[k * length..(k + 1) * length];
+    part.fill(0);
+    part[..data.len()].copy_from_slice(data);
+}
+
+// ---------------------------------------------------------------------------------------------
+// Strange sessions: legal, but made by hand, over extents of any bytes. Both engines must agree
+// on them too (their buffers laid over the one image give the other), and meet bad codes.
+
+fn check_strange(random: &mut Random, requests: usize, tally: &mut Tally) -> Check {
+    let mut image = random_image(random);
+    let (_, mut session) = mount(Engine::Buffered, &image);
+    disturb_extents(random, &mut image, &session);
+    disturb_table(random, &mut session);
+    disturb_open_files(random, &image, &mut session);
+    must(session.is_legal(&image), "a strange session is legal")?;
+    check_illegal(random, &image, &session, tally)?;
+    let script = random_script(random, &image, requests);
+    let mut run = strange_run(image, session);
+    for (number, (row, data)) in script.steps().into_iter().enumerate() {
+        let answer = run
+            .step(&row, data)
+            .map_err(|why| format!("strange row {number} ({row:?}): {why}"))?;
+        tally.strange_answers[usize::from(answer)] += 1;
+    }
+    Ok(())
+}
+
+fn strange_run(image: Vec<u8>, session: Session) -> Run {
+    let buffered = Side { image, session };
+    let mut plain = Side {
+        image: overlaid(&buffered),
+        session: buffered.session.clone(),
+    };
+    plain.session.engine = Engine::Plain;
+    for file in &mut plain.session.open {
+        file.buffer = Buffer::EMPTY;
+    }
+    let mut opened = [false; ENTRIES];
+    for file in buffered.session.open_files() {
+        opened[file.entry] = true;
+    }
+    Run {
+        mounted: buffered.image.clone(),
+        opened,
+        plain,
+        buffered,
+        model: None,
+    }
+}
+
+/// Changes some bytes of the extents.
+fn disturb_extents(random: &mut Random, image: &mut [u8], session: &Session) {
+    for entry in session.table.iter().filter(|entry| entry.is_used()) {
+        for _ in 0..random.pick(&[0, 1, 3, 20]) {
+            let extent = extent_mut(image, entry);
+            let at = random.between(0, extent.len() - 1);
+            extent[at] = random.pick(&[0, 1, 5, 127, 128, 129, 200, 255]);
+        }
+    }
+}
+
+/// Other counts and marks, within the rules.
+fn disturb_table(random: &mut Random, session: &mut Session) {
+    for entry in session
+        .table
+        .iter_mut()
+        .filter(|entry| entry.is_sequential())
+    {
+        if random.chance(30) {
+            let most = capacity(entry).unwrap_or(65_535);
+            entry.count = random.pick(&[0, 1, 2, most / 2, most]).min(most) as u16;
+        }
+        if random.chance(30) {
+            entry.flags ^= MARKED;
+        }
+    }
+}
+
+/// Opens some files with any lawful position, places and buffer.
+fn disturb_open_files(random: &mut Random, image: &[u8], session: &mut Session) {
+    let mut slot = 0;
+    for number in 0..ENTRIES {
+        let entry = session.table[number];
+        if slot < MOST_OPEN && entry.is_used() && random.chance(60) {
+            session.open[slot] = strange_file(random, image, number, &entry);
+            slot += 1;
+        }
+    }
+}
+
+fn strange_file(random: &mut Random, image: &[u8], number: usize, entry: &Entry) -> OpenFile {
+    let count = usize::from(entry.count);
+    let position = random.between(0, count);
+    let position = random.pick(&[0, position, count.saturating_sub(1), count]);
+    let mut file = OpenFile {
+        in_use: true,
+        entry: number,
+        position: position as u16,
+        beyond: entry.is_marked() && position == count && random.chance(50),
+        ..OpenFile::UNUSED
+    };
+    if entry.kind == COMPRESSED {
+        file.place = strange_place(random, entry);
+        file.end_place = strange_place(random, entry);
+    }
+    if matches!(entry.kind, BLOCKED | COMPRESSED) && random.chance(70) {
+        file.buffer = strange_buffer(random, image, entry, file.place.sector);
+    }
+    file
+}
+
+fn strange_place(random: &mut Random, entry: &Entry) -> Place {
+    let byte = random.between(0, SECTOR);
+    Place {
+        sector: random.between(0, usize::from(entry.sectors) - 1),
+        byte: random.pick(&[0, byte, SECTOR - 1, SECTOR]),
+    }
+}
+
+/// A held sector: as in the image, or changed.
+fn strange_buffer(random: &mut Random, image: &[u8], entry: &Entry, near: usize) -> Buffer {
+    let last = usize::from(entry.sectors) - 1;
+    let any = random.between(0, last);
+    let of_extent = random.pick(&[any, near, near + 1]).min(last);
+    let mut buffer = Buffer {
+        holds: true,
+        sector: of_extent,
+        changed: random.chance(50),
+        bytes: [0; SECTOR],
+    };
+    buffer
+        .bytes
+        .copy_from_slice(sector(image, entry.image_sector(of_extent)));
+    if buffer.changed {
+        let text = random_text(random, 100);
+        let at = random.between(0, SECTOR - 100);
+        buffer.bytes[at..at + 100].copy_from_slice(&text);
+    }
+    buffer
+}
+
+// ---------------------------------------------------------------------------------------------
+// Illegal sessions: 12 to every request, and nothing changed.
+
+fn check_illegal(random: &mut Random, image: &[u8], session: &Session, tally: &mut Tally) -> Check {
+    for engine in [Engine::Plain, Engine::Buffered] {
+        for way in 0..WAYS {
+            let mut image = image.to_vec();
+            let mut broken = session.clone();
+            broken.engine = engine;
+            if !break_session(random, &mut image, &mut broken, way) {
+                continue;
+            }
+            tally.illegal_sessions += 1;
+            let script = random_script(random, &image, 3);
+            let mut side = Side {
+                image,
+                session: broken,
+            };
+            for (row, data) in script.steps() {
+                let performed = perform_checked(&mut side, &row, data)?;
+                let refused = performed.answer == Answer::IllegalSession;
+                must(refused, &format!("illegal session {way} gives 12"))?;
+            }
+        }
+    }
+    Ok(())
+}
+
+/// The ways of `break_session`.
+const WAYS: usize = 22;
+
+/// Breaks one rule of a legal session; false if this session has nothing to break that way.
+fn break_session(
+    random: &mut Random,
+    image: &mut Vec<u8>,
+    session: &mut Session,
+    way: usize,
+) -> bool {
+    let used: Vec<usize> = (0..ENTRIES)
+        .filter(|&i| session.table[i].is_used())
+        .collect();
+    if used.is_empty() {
+        return false;
+    }
+    let number = random.pick(&used);
+    let n = image.len() / SECTOR;
+    let buffered = session.engine == Engine::Buffered;
+    let entry = &mut session.table[number];
+    match way {
+        0 => image.truncate(image.len() - 1),
+        1 => image.clear(),
+        2 => entry.kind = 5,
+        3 => entry.flags = 4,
+        4 => entry.length += 1,
+        5 => entry.length = 0,
+        6 => entry.name[0] = 0xF1,
+        7 => entry.first = 0,
+        8 => entry.sectors = 0,
+        9 => entry.sectors = (n + 1 - usize::from(entry.first)) as u16,
+        10 => entry.name[7] = 0,
+        11 => {
+            let Some(free) = (0..ENTRIES).find(|&i| !session.table[i].is_used()) else {
+                return false;
+            };
+            session.table[free].count = 1;
+        }
+        12 => {
+            let Some(free) = (0..ENTRIES).find(|&i| !session.table[i].is_used()) else {
+                return false;
+            };
+            session.table[free] = session.table[number];
+            session.table[free].name[1] = 0xE9;
+        }
+        13 => match capacity(entry) {
+            Some(most) if entry.kind != RANDOM && most < 65_535 => entry.count = most as u16 + 1,
+            Some(_) if entry.kind == RANDOM => entry.count = 1,
+            _ => return false,
+        },
+        _ => return break_open_file(session, way, buffered),
+    }
+    true
+}
+
+fn break_open_file(session: &mut Session, way: usize, buffered: bool) -> bool {
+    let Some(slot) = session.open.iter().position(|file| file.in_use) else {
+        return false;
+    };
+    let entry = session.table[session.open[slot].entry];
+    let twin = session.open[slot];
+    let file = &mut session.open[slot];
+    match way {
+        14 => file.entry = ENTRIES,
+        15 => match session.table.iter().position(|entry| !entry.is_used()) {
+            Some(free) => file.entry = free,
+            None => return false,
+        },
+        16 if entry.count < 65_535 => file.position = entry.count + 1,
+        17 if !entry.is_marked() => file.beyond = true,
+        18 if entry.count > 0 => {
+            file.position = entry.count - 1;
+            file.beyond = true;
+        }
+        19 if entry.kind == COMPRESSED => file.place.byte = SECTOR + 1,
+        20 if entry.kind == COMPRESSED => file.end_place.sector = usize::from(entry.sectors),
+        21 if buffered => {
+            file.buffer.holds = true;
+            file.buffer.sector = usize::from(entry.sectors);
+        }
+        21 => match session.unused_slot() {
+            Some(other) => session.open[other] = twin,
+            None => return false,
+        },
+        _ => return false,
+    }
+    true
+}

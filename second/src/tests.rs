@@ -1,0 +1,700 @@
+//! Document 01's table of twelve rows, the listing's whole case, the easy errors, and some more.
+
+use std::collections::HashSet;
+
+use crate::answer::Answer::{self, *};
+use crate::cases::{all_cases, coded_in_120, coded_rows, six_file_image};
+use crate::coding::{decode, encode};
+use crate::damage::{damaged_cases, small_image};
+use crate::directory::{directory_is_good, ENTRIES, MARKED};
+use crate::directory::{find_by_name, table_of, Entry, BLOCKED, COMPRESSED, RANDOM, UNBLOCKED};
+use crate::engine::{self, Order};
+use crate::generate::{empty_image, new_entry, put_entry};
+use crate::image::{sector, BLANK, SECTOR};
+use crate::layout::{blocked_place, capacity, records_per_sector, unblocked_capacity, Place};
+use crate::listing::listing;
+use crate::random::Random;
+use crate::script::Script;
+use crate::selfcheck::selfcheck;
+use crate::session::{mount, Engine, OpenFile, Session};
+
+const BOTH: [Engine; 2] = [Engine::Plain, Engine::Buffered];
+
+/// An image at work in an engine, for short tests.
+struct Bench {
+    image: Vec<u8>,
+    session: Session,
+}
+
+impl Bench {
+    fn new(engine: Engine, image: Vec<u8>) -> Bench {
+        let (answer, session) = mount(engine, &image);
+        assert_eq!(answer, Done);
+        Bench { image, session }
+    }
+
+    /// One file of this kind in entry 0, open.
+    fn with_file(engine: Engine, kind: u16, r: usize, sectors: usize) -> Bench {
+        let mut image = empty_image(1 + sectors);
+        image[SECTOR..].fill(0x55);
+        put_entry(&mut image, 0, &new_entry("FILE", kind, r, 1, sectors));
+        let mut bench = Bench::new(engine, image);
+        assert_eq!(bench.open(0), Done);
+        bench
+    }
+
+    fn open(&mut self, number: usize) -> Answer {
+        engine::open(&self.image, &mut self.session, number)
+    }
+
+    fn read(&mut self) -> (Answer, Vec<u8>) {
+        let mut buffer = vec![0; self.session.table[0].r()];
+        let answer = engine::read(&mut self.image, &mut self.session, 0, &mut buffer);
+        (answer, buffer)
+    }
+
+    fn write(&mut self, data: &[u8]) -> Answer {
+        engine::write(&mut self.image, &mut self.session, 0, data)
+    }
+
+    fn order(&mut self, order: Order) -> Answer {
+        engine::order(&mut self.image, &mut self.session, 0, order)
+    }
+
+    fn close(&mut self) -> Answer {
+        self.order(Order::RewindOffLine)
+    }
+
+    fn entry(&self) -> Entry {
+        self.session.table[0]
+    }
+
+    fn file(&self) -> &OpenFile {
+        &self.session.open[0]
+    }
+}
+
+/// Every request once on an entry.
+fn all_answers(image: &mut [u8], session: &mut Session, number: usize) -> Vec<Answer> {
+    let mut buffer = [0; 3_600];
+    let mut answers = vec![
+        engine::open(image, session, number),
+        engine::read(image, session, number, &mut buffer),
+        engine::write(image, session, number, &[1, 2]),
+        engine::granule_read(image, session, number, 0, &mut buffer),
+        engine::granule_write(image, session, number, 0, &[1, 2]),
+        engine::look_answer(image, session, number, 0),
+    ];
+    for order in [
+        Order::WriteFileMark,
+        Order::RewindOnLine,
+        Order::RecordForward,
+        Order::RecordBack,
+        Order::FileForward,
+        Order::FileBack,
+        Order::RewindOffLine,
+    ] {
+        answers.push(engine::order(image, session, number, order));
+    }
+    answers
+}
+
+// ---------------------------------------------------------------------------------------------
+// "Table to be proved".
+
+#[test]
+fn table_rows_1_to_8() {
+    let all_a = {
+        let mut code = vec![0x7F];
+        code.extend([0xC1; 127]);
+        code.push(5);
+        code.extend([0xC1; 5]);
+        code.push(0);
+        code
+    };
+    assert_eq!(all_a.len(), 135);
+    let codes: [&[u8]; 8] = [
+        &[0x00],
+        &[0x02, 0xC1, 0xC2, 0x00],
+        &[0x03, 0xC1, 0x40, 0xC2, 0x00],
+        &[0x01, 0xC1, 0x82, 0x01, 0xC2, 0x00],
+        &[0x85, 0x01, 0xE7, 0x00],
+        &[0x02, 0x40, 0xC1, 0x00],
+        &[0xFF, 0x83, 0x02, 0xC1, 0xC2, 0x00],
+        &all_a,
+    ];
+    for ((row, r, record), code) in coded_rows().into_iter().zip(codes) {
+        assert_eq!(encode(&record), code, "row {row}");
+        assert_eq!(decode(code, r), Some((record, code.len())), "row {row}");
+    }
+}
+
+#[test]
+fn table_row_9() {
+    assert_eq!(
+        blocked_place(100, 2),
+        Place {
+            sector: 0,
+            byte: 200
+        }
+    );
+    assert_eq!(blocked_place(100, 3), Place { sector: 1, byte: 0 });
+}
+
+#[test]
+fn table_row_10() {
+    assert_eq!(records_per_sector(182), 1);
+    assert_eq!(records_per_sector(180), 2);
+}
+
+#[test]
+fn table_row_11() {
+    assert_eq!(unblocked_capacity(362, 5), 2);
+}
+
+#[test]
+fn table_row_12() {
+    for engine in BOTH {
+        let mut bench = Bench::with_file(engine, COMPRESSED, 132, 2);
+        for _ in 0..3 {
+            assert_eq!(bench.write(&[0xC1; 132]), Done);
+        }
+        assert_eq!(bench.close(), Done);
+        let first = sector(&bench.image, 1);
+        assert_eq!(first[134], 0);
+        assert_eq!(first[135], 0x7F);
+        assert_eq!(first[269], 0);
+        assert!(first[270..].iter().all(|&byte| byte == 0x80));
+        let second = sector(&bench.image, 2);
+        assert_eq!(second[..135], encode(&[0xC1; 132]));
+        assert!(second[135..].iter().all(|&byte| byte == 0x80));
+    }
+}
+
+// ---------------------------------------------------------------------------------------------
+// "Listing".
+
+#[test]
+fn listing_whole_case() {
+    let mut image = empty_image(10);
+    let mut entry = new_entry("PASSA", COMPRESSED, 80, 1, 4);
+    entry.count = 2;
+    entry.flags = MARKED;
+    put_entry(&mut image, 0, &entry);
+    let text = "FILE NAME KIND RECORD FIRST SECTORS COUNT FLAGS\n0 PASSA 3 80 1 4 2 1\n";
+    assert_eq!(listing(&image), text);
+}
+
+#[test]
+fn listing_of_bad_and_longer_images() {
+    assert_eq!(listing(&[]), "BAD IMAGE\n");
+    assert_eq!(listing(&[0; 359]), "BAD IMAGE\n");
+    assert_eq!(listing(&empty_image(181)), "BAD IMAGE\n");
+    let header = "FILE NAME KIND RECORD FIRST SECTORS COUNT FLAGS\n";
+    assert_eq!(listing(&empty_image(180)), header);
+}
+
+#[test]
+fn listing_of_all_kinds() {
+    let lines = "FILE NAME KIND RECORD FIRST SECTORS COUNT FLAGS
+0 ALPHA 1 400 1 4 2 1
+1 BETA1 2 100 5 2 6 2
+2 GAMMA 3 80 7 2 3 3
+3 DELTA22X 4 360 9 2 0 0
+";
+    assert_eq!(listing(&small_image()), lines);
+}
+
+// ---------------------------------------------------------------------------------------------
+// "Easy errors".
+
+/// "filling with 128 before finding there is no next sector"
+#[test]
+fn no_next_sector_leaves_all_as_it_was() {
+    for engine in BOTH {
+        let mut bench = Bench::with_file(engine, COMPRESSED, 132, 1);
+        assert_eq!(bench.write(&[0xC1; 132]), Done);
+        assert_eq!(bench.write(&[0xC1; 132]), Done);
+        let before = (bench.image.clone(), bench.session.clone());
+        assert_eq!(bench.write(&[0xC1; 132]), NoRoom);
+        assert_eq!((bench.image.clone(), bench.session.clone()), before);
+        // A shorter code still goes at that very place.
+        assert_eq!(bench.write(&[0xC1; 2]), Done);
+        assert_eq!(
+            bench.file().place,
+            Place {
+                sector: 0,
+                byte: 274
+            }
+        );
+    }
+}
+
+/// "letting old codes stand behind a shorter rewrite"
+#[test]
+fn shorter_rewrite_clears_the_sector() {
+    for engine in BOTH {
+        let mut bench = Bench::with_file(engine, COMPRESSED, 132, 1);
+        bench.write(&[0xC1; 132]);
+        bench.write(&[0xC1; 132]);
+        assert_eq!(bench.order(Order::RewindOnLine), Done);
+        assert_eq!(bench.write(&[0xC1, 0xC2]), Done);
+        assert_eq!(bench.close(), Done);
+        let bytes = sector(&bench.image, 1);
+        assert_eq!(bytes[..4], [2, 0xC1, 0xC2, 0]);
+        assert!(bytes[4..].iter().all(|&byte| byte == 128));
+    }
+}
+
+/// "putting a look-ahead 128 after a sector filled exactly by three 120-byte codes"
+#[test]
+fn sector_filled_exactly() {
+    for engine in BOTH {
+        let mut bench = Bench::with_file(engine, COMPRESSED, 132, 2);
+        let record = coded_in_120();
+        assert_eq!(encode(&record).len(), 120);
+        for _ in 0..3 {
+            assert_eq!(bench.write(&record), Done);
+        }
+        assert_eq!(
+            bench.file().place,
+            Place {
+                sector: 0,
+                byte: SECTOR
+            }
+        );
+        assert_eq!(bench.close(), Done);
+        assert_eq!(sector(&bench.image, 1)[359], 0);
+        assert!(sector(&bench.image, 2).iter().all(|&byte| byte == 0x55));
+        assert_eq!(bench.open(0), Done);
+        for _ in 0..3 {
+            assert_eq!(bench.read(), (Done, record.clone()));
+        }
+        assert_eq!(bench.write(&record[..2]), Done);
+        assert_eq!(bench.close(), Done);
+        assert_eq!(sector(&bench.image, 1)[359], 0);
+        assert_eq!(sector(&bench.image, 2)[..5], [2, 0xC1, 0xC1, 0, 128]);
+    }
+}
+
+/// "counting the mark as a record"
+#[test]
+fn mark_is_no_record() {
+    for engine in BOTH {
+        for kind in [UNBLOCKED, BLOCKED, COMPRESSED] {
+            let mut bench = Bench::with_file(engine, kind, 80, 2);
+            assert_eq!(bench.write(&[1; 80]), Done);
+            assert_eq!(bench.order(Order::WriteFileMark), Done);
+            assert_eq!((bench.entry().count, bench.entry().flags), (1, MARKED));
+            assert_eq!((bench.file().position, bench.file().beyond), (1, true));
+            assert_eq!(bench.order(Order::RewindOnLine), Done);
+            assert_eq!(bench.read().0, Done);
+            assert_eq!(bench.read().0, EndOfFile);
+            assert_eq!((bench.file().position, bench.file().beyond), (1, true));
+            assert_eq!(bench.read().0, WrongKindOrSequence);
+        }
+    }
+}
+
+/// "losing the buffer at a rewind"
+#[test]
+fn rewind_keeps_what_was_written() {
+    for order in [Order::RewindOnLine, Order::FileBack] {
+        for kind in [BLOCKED, COMPRESSED] {
+            let mut bench = Bench::with_file(Engine::Buffered, kind, 80, 2);
+            let before = bench.image.clone();
+            assert_eq!(bench.write(&[7; 80]), Done);
+            assert_eq!(bench.image, before, "a write leaves the image as it was");
+            bench.order(order);
+            assert_eq!(bench.image != before, order == Order::RewindOnLine);
+            assert_eq!(bench.file().buffer.changed, order == Order::FileBack);
+            assert_eq!(bench.read(), (Done, vec![7; 80]));
+        }
+    }
+}
+
+// ---------------------------------------------------------------------------------------------
+// The blocking buffer.
+
+#[test]
+fn reading_on_takes_the_old_sector_first() {
+    let mut bench = Bench::with_file(Engine::Buffered, COMPRESSED, 132, 2);
+    for _ in 0..3 {
+        assert_eq!(bench.write(&[0xC1; 132]), Done);
+    }
+    // Sector 1 is held and changed; file back (2) puts nothing back.
+    assert_eq!(bench.order(Order::FileBack), BeginningOfTape);
+    assert!(bench.file().buffer.holds_sector(1) && bench.file().buffer.changed);
+    assert_eq!(bench.order(Order::RecordForward), Done);
+    assert_eq!(bench.order(Order::RecordForward), Done);
+    assert_eq!(sector(&bench.image, 2), [0x55; SECTOR]);
+    // The place is at byte 270, a 128: sector 0 is taken first, so sector 1 is put back.
+    assert_eq!(bench.read(), (Done, vec![0xC1; 132]));
+    assert_eq!(sector(&bench.image, 2)[..135], encode(&[0xC1; 132]));
+    assert!(bench.file().buffer.holds_sector(1) && !bench.file().buffer.changed);
+}
+
+#[test]
+fn reading_from_byte_360_keeps_a_held_next_sector() {
+    let mut bench = Bench::with_file(Engine::Buffered, COMPRESSED, 132, 2);
+    for _ in 0..4 {
+        assert_eq!(bench.write(&coded_in_120()), Done);
+    }
+    assert_eq!(bench.order(Order::FileBack), BeginningOfTape);
+    for _ in 0..3 {
+        assert_eq!(bench.order(Order::RecordForward), Done);
+    }
+    assert_eq!(bench.read(), (Done, coded_in_120()));
+    assert_eq!(sector(&bench.image, 2), [0x55; SECTOR]);
+    assert!(bench.file().buffer.holds_sector(1) && bench.file().buffer.changed);
+}
+
+#[test]
+fn unchanged_buffer_is_not_put_back() {
+    let mut bench = Bench::with_file(Engine::Buffered, BLOCKED, 180, 2);
+    bench.write(&[1; 180]);
+    bench.order(Order::RewindOnLine);
+    bench.read();
+    bench.image[SECTOR..2 * SECTOR].fill(0xEE);
+    assert_eq!(bench.order(Order::RewindOnLine), Done);
+    assert_eq!(bench.close(), Done);
+    assert_eq!(sector(&bench.image, 1), [0xEE; SECTOR]);
+}
+
+#[test]
+fn blocked_write_zeroes_behind_the_record() {
+    for engine in BOTH {
+        let mut bench = Bench::with_file(engine, BLOCKED, 100, 1);
+        bench.write(&[1; 100]);
+        bench.write(&[2; 2]);
+        bench.close();
+        let bytes = sector(&bench.image, 1);
+        assert_eq!(bytes[98..104], [1, 1, 2, 2, 0, 0]);
+        assert!(bytes[102..].iter().all(|&byte| byte == 0));
+    }
+}
+
+// ---------------------------------------------------------------------------------------------
+// Answers.
+
+#[test]
+fn tests_come_in_order() {
+    for engine in BOTH {
+        let mut bench = Bench::with_file(engine, UNBLOCKED, 80, 1);
+        assert_eq!(bench.write(&[]), WrongLength);
+        assert_eq!(bench.write(&[1; 81]), OddCount);
+        assert_eq!(bench.write(&[1; 82]), WrongLength);
+        assert_eq!(bench.write(&[1; 80]), Done);
+        assert_eq!(bench.write(&[1; 81]), OddCount);
+        assert_eq!(bench.write(&[1; 82]), WrongLength);
+        assert_eq!(bench.write(&[1; 80]), NoRoom);
+        let mut short = [9; 79];
+        assert_eq!(
+            engine::read(&mut bench.image, &mut bench.session, 0, &mut short),
+            WrongLength
+        );
+        assert_eq!(bench.order(Order::WriteFileMark), Done);
+        assert_eq!(
+            engine::read(&mut bench.image, &mut bench.session, 0, &mut short),
+            WrongKindOrSequence
+        );
+        assert_eq!(short, [9; 79]);
+        assert_eq!(bench.open(0), OpenAlready);
+        assert_eq!(bench.open(1), NotThere);
+        assert_eq!(bench.open(18), NotThere);
+    }
+}
+
+#[test]
+fn granules() {
+    for engine in BOTH {
+        let mut bench = Bench::with_file(engine, RANDOM, 362, 5);
+        let (image, session) = (&mut bench.image, &mut bench.session);
+        assert_eq!(capacity(&session.table[0]), Some(2));
+        assert_eq!(engine::granule_write(image, session, 0, 1, &[1, 2]), Done);
+        let mut granule = vec![0; 362];
+        granule[..2].copy_from_slice(&[1, 2]);
+        assert_eq!(engine::look(image, session, 0, 1), granule);
+        assert_eq!(image[5 * SECTOR - 358..5 * SECTOR], [0; 358]);
+        assert_eq!(sector(image, 5), [0x55; SECTOR]);
+        assert_eq!(engine::look_answer(image, session, 0, 2), NoRoom);
+        assert_eq!(engine::look(image, session, 0, 2), []);
+        assert_eq!(engine::granule_write(image, session, 0, 2, &[1]), OddCount);
+        assert_eq!(
+            engine::granule_read(image, session, 0, 2, &mut [0; 361]),
+            WrongLength
+        );
+        assert_eq!(
+            engine::granule_read(image, session, 0, 2, &mut [0; 362]),
+            NoRoom
+        );
+        let mut answers = all_answers(image, session, 0);
+        assert_eq!(answers.remove(0), OpenAlready);
+        let seven = WrongKindOrSequence;
+        assert_eq!(answers[..5], [seven, seven, Done, Done, Done]);
+        assert_eq!(answers[5..11], [seven; 6]);
+        assert_eq!(answers[11], Done);
+    }
+}
+
+#[test]
+fn refused_mounting() {
+    for engine in BOTH {
+        let mut image = small_image();
+        image[8] = 9;
+        let (answer, mut session) = mount(engine, &image);
+        assert_eq!(answer, BadImage);
+        assert_eq!(session.table, [Entry::default(); ENTRIES]);
+        assert_eq!(all_answers(&mut image, &mut session, 0), [NotThere; 13]);
+        let mut short = small_image()[..3_000].to_vec();
+        let (answer, mut session) = mount(engine, &short);
+        assert_eq!(answer, BadImage);
+        assert_eq!(
+            all_answers(&mut short, &mut session, 0),
+            [IllegalSession; 13]
+        );
+    }
+}
+
+#[test]
+fn illegal_session() {
+    for engine in BOTH {
+        let mut bench = Bench::with_file(engine, COMPRESSED, 80, 2);
+        bench.session.open[0].place.byte = 361;
+        let before = (bench.image.clone(), bench.session.clone());
+        let answers = all_answers(&mut bench.image, &mut bench.session, 0);
+        assert_eq!(answers, [IllegalSession; 13]);
+        assert_eq!((bench.image, bench.session), before);
+    }
+}
+
+#[test]
+fn bad_code_met_changes_nothing() {
+    for engine in BOTH {
+        let mut bench = Bench::with_file(engine, COMPRESSED, 80, 2);
+        bench.write(&[1; 80]);
+        bench.close();
+        bench.image[SECTOR] = 128;
+        let before = (bench.image.clone(), bench.session.clone());
+        assert_eq!(bench.open(0), BadImage);
+        assert_eq!((bench.image.clone(), bench.session.clone()), before);
+        bench.image[SECTOR] = 80;
+        assert_eq!(bench.open(0), Done);
+        bench.image[SECTOR + 81] = 128;
+        let before = (bench.image.clone(), bench.session.clone());
+        assert_eq!(bench.read(), (BadImage, vec![0; 80]));
+        assert_eq!(bench.order(Order::RecordForward), BadImage);
+        assert_eq!((bench.image.clone(), bench.session.clone()), before);
+        // A write never decodes.
+        assert_eq!(bench.write(&[1; 80]), Done);
+    }
+}
+
+#[test]
+fn found_by_name() {
+    let mut table = table_of(&six_file_image());
+    let name = table[6].name;
+    assert_eq!(find_by_name(&table, &name), Ok(6));
+    table[2] = table[6];
+    assert_eq!(find_by_name(&table, &name), Ok(2));
+    assert_eq!(find_by_name(&table, &name[..7]), Err(NotThere));
+    assert_eq!(find_by_name(&table, &[0; 8]), Err(NotThere));
+    assert_eq!(find_by_name(&[], &name), Err(NotThere));
+}
+
+// ---------------------------------------------------------------------------------------------
+// Coding.
+
+/// "A coded record has at most R + 3 bytes."
+#[test]
+fn codes_are_short_and_give_the_record_back() {
+    let mut random = Random::new(1);
+    for _ in 0..20_000 {
+        let r = 2 * random.between(1, 66);
+        let record = crate::generate::random_text(&mut random, r);
+        let code = encode(&record);
+        assert!(code.len() <= r + 3);
+        assert_eq!(decode(&code, r), Some((record.clone(), code.len())));
+        let foreign = crate::generate::foreign_code(&mut random, &record);
+        assert_eq!(decode(&foreign, r), Some((record, foreign.len())));
+    }
+}
+
+#[test]
+fn bad_codes() {
+    let long = [BLANK; 11];
+    let mut eleven = vec![11];
+    eleven.extend(long);
+    eleven.push(0);
+    let bad: [&[u8]; 7] = [
+        &[],
+        &[1],
+        &[1, 0xC1],
+        &[0x82, 0x80, 0],
+        &[0x80, 0],
+        &[0x8B, 0],
+        &eleven,
+    ];
+    for code in bad {
+        assert_eq!(decode(code, 10), None, "{code:x?}");
+    }
+    assert_eq!(decode(&[0x8A, 0], 10), Some((vec![BLANK; 10], 2)));
+}
+
+// ---------------------------------------------------------------------------------------------
+// Good and bad directories and codes.
+
+/// The names of the cases that begin like this and whose image is good.
+fn good_cases(front: &str) -> Vec<String> {
+    let cases = damaged_cases(&mut Random::new(1));
+    let wanted = cases.iter().filter(|case| case.name.starts_with(front));
+    let good = wanted.filter(|case| directory_is_good(&case.image));
+    good.map(|case| case.name[front.len()..].to_string())
+        .collect()
+}
+
+#[test]
+fn each_broken_rule_is_refused() {
+    assert_eq!(good_cases("damage-"), ["none"]);
+    assert_eq!(good_cases("length-"), [""; 0]);
+}
+
+#[test]
+fn edges_of_the_rules() {
+    let good = [
+        "length-least",
+        "length-3600",
+        "length-other",
+        "length-132",
+        "length-just-codes",
+        "sectors-fewer",
+        "count-0",
+        "count-0-blocked",
+        "count-0-compressed",
+        "count-1-compressed",
+        "flags-3",
+        "random-protected",
+        "name-one-letter-more",
+        "name-all-digits-behind",
+        "kind-1-for-4",
+    ];
+    assert_eq!(good_cases("edge-"), good);
+}
+
+#[test]
+fn edges_of_the_codes() {
+    let good = [
+        "eleven-characters-count1",
+        "eleven-blanks-count1",
+        "eleven-by-runs-count1",
+        "one-blank-too-many-count1",
+        "go-on-inside-count1",
+        "go-on-behind-blanks-count1",
+        "blanks-largest-count1",
+        "characters-largest-count1",
+        "good-count1",
+        "good-count2",
+        "go-on-at-0-behind-count0",
+        "go-on-at-1-count2",
+        "go-on-at-359-count360",
+        "place-360-count361",
+        "place-360-end-count360",
+        "two-left-end-in-sector-count359",
+        "fills-extent-count720",
+    ];
+    assert_eq!(good_cases("code-"), good);
+}
+
+/// "Capacity is q·sectors, at most 65,535."; "position already 65,535"
+#[test]
+fn largest_counts() {
+    let blocked = new_entry("LARGE", BLOCKED, 2, 1, 365);
+    assert_eq!(capacity(&blocked), Some(65_535));
+    for engine in BOTH {
+        let mut image = empty_image(185);
+        let mut entry = new_entry("LAST", COMPRESSED, 2, 1, 184);
+        entry.count = 65_534;
+        entry.flags = MARKED;
+        put_entry(&mut image, 0, &entry);
+        let mut bench = Bench::new(engine, image);
+        assert_eq!(bench.open(0), Done);
+        assert_eq!(bench.order(Order::FileForward), Done);
+        assert_eq!(bench.order(Order::FileBack), Done);
+        assert_eq!(bench.write(&[BLANK; 2]), Done);
+        assert_eq!(bench.file().position, 65_535);
+        assert_eq!(bench.write(&[BLANK; 2]), NoRoom);
+        assert_eq!(bench.write(&[BLANK; 4]), WrongLength);
+        assert_eq!(bench.order(Order::WriteFileMark), Done);
+    }
+}
+
+// ---------------------------------------------------------------------------------------------
+// Scripts, cases, selfcheck.
+
+#[test]
+fn rows_that_are_not_in_order() {
+    let row = |words: [u16; 8]| words.map(u16::to_be_bytes).concat();
+    let parse = |rows: &[u8], bytes: usize| Script::parse(rows, vec![0; bytes]);
+    let good = row([3, 0, 4, 0, 77, 78, 0, 0]);
+    assert_eq!(parse(&good, 4).map(|script| script.rows.len()), Ok(1));
+    assert!(parse(&good, 3).is_err_and(|why| why.contains("row 0")));
+    assert!(
+        parse(&[good.clone(), good.clone()].concat(), 7).is_err_and(|why| why.contains("row 1"))
+    );
+    assert!(parse(&good[..15], 4).is_err());
+    for bad in [
+        row([0; 8]),
+        row([14, 0, 0, 0, 0, 0, 0, 0]),
+        row([1, 0, 0, 0, 0, 0, 1, 0]),
+        row([1, 0, 0, 0, 0, 0, 0, 1]),
+    ] {
+        assert!(parse(&bad, 4).is_err());
+    }
+    assert!(parse(&[], 0).is_ok());
+}
+
+#[test]
+fn play_text() {
+    let mut script = Script::default();
+    script
+        .open(0)
+        .write(0, &[0xFF, 0xFF, 0, 3])
+        .order(0, Order::RecordBack)
+        .read(0, 80);
+    script.order(0, Order::WriteFileMark).read(9, 80).close(0);
+    let mut image = empty_image(2);
+    put_entry(&mut image, 0, &new_entry("FILE", BLOCKED, 80, 1, 1));
+    for engine in BOTH {
+        let text = crate::play::play(engine, image.clone(), &script).text;
+        let expected = "MOUNT 0
+0 0 0 0 0
+1 0 3 1 0
+2 0 0 0 0
+3 0 3 1 0
+4 0 0 1 1
+5 8 0 - -
+6 0 0 - -
+";
+        assert_eq!(text, expected);
+    }
+}
+
+#[test]
+fn cases_have_names_of_their_own_and_parse() {
+    let cases = all_cases(1, 5);
+    let names: HashSet<&str> = cases.iter().map(|case| case.name.as_str()).collect();
+    assert_eq!(names.len(), cases.len());
+    for case in &cases {
+        let rows = case.script.row_bytes();
+        let parsed = Script::parse(&rows, case.script.bytes.clone());
+        assert_eq!(
+            parsed.map(|script| script.rows),
+            Ok(case.script.rows.clone())
+        );
+    }
+}
+
+#[test]
+fn small_selfcheck() {
+    assert_eq!(selfcheck(7, 60, 80).map(|tally| tally.scripts), Ok(60));
+}
