@@ -24,7 +24,7 @@ use Rattle.mounting.specs.Mounting.{countedWalk}
 use Rattle.steps.specs.Next.{Scene, recordHere, fixedAt, isLost, bytesGot, behindGot, Decoding, theCounted, theNext, none, decoding, badIn, factsWith, endPlace, moved, fileMet, fileDone, intoBuffer, entryDone}
 use Rattle.steps.proofs.Compressed.{end-is}
 use Rattle.steps.specs.Verdict.{entryNext, bufferNext, doneWith, fileWith, verdictOf}
-use Rattle.judging.specs.Turns.{factsBut, sight, endLed, hereLed, laidFirst, hereInto, turnLed, turnInto, isAstray, placeIn, carriedTo, carriedInto, orderFrom, doneFrom, fileFrom, verdictFrom}
+use Rattle.judging.specs.Turns.{factsBut, sight, endLed, hereLed, laidFirst, hereInto, turnLed, turnInto, isAstray, placeIn, writtenAt, carriedTo, carriedInto, orderFrom, doneFrom, fileFrom, verdictFrom}
 use Rattle.geometry.specs.declared.Place.{Place}
 use Rattle.directory.specs.declared.Entry.{Entry}
 use Rattle.packing.specs.declared.Led.{Led}
@@ -42,11 +42,11 @@ use Rattle.steps.specs.declared.Verdict.{Verdict}
 
 -- ---- the count records: lost exactly where one is bad; else to the end place
 
-end-packed : (e : Entry) (bytes : List ℕ) → isKind compressed e ≡ true → endLed e bytes ≡ walkedTo origin (countedWalk e bytes)
+pub end-packed : (e : Entry) (bytes : List ℕ) → isKind compressed e ≡ true → endLed e bytes ≡ walkedTo origin (countedWalk e bytes)
 unfolding endLed
 end-packed e bytes k = rw (k, endLed)
 
-end-fixed : (e : Entry) (bytes : List ℕ) → isKind compressed e ≡ false → endLed e bytes ≡ To origin
+pub end-fixed : (e : Entry) (bytes : List ℕ) → isKind compressed e ≡ false → endLed e bytes ≡ To origin
 unfolding endLed
 end-fixed e bytes k = rw (k, endLed)
 
@@ -77,11 +77,11 @@ end-place c b = either (isKind compressed (c .entry))
 
 -- ---- the record at the position: lost where there is one and it is bad; else the place behind it
 
-here-there : (e : Entry) (f : OpenFile) (bytes : List ℕ) → ltb (f .position) (e .count) ≡ true → hereLed e f bytes ≡ ledTo (recordHere (sight e f bytes))
+pub here-there : (e : Entry) (f : OpenFile) (bytes : List ℕ) → ltb (f .position) (e .count) ≡ true → hereLed e f bytes ≡ ledTo (recordHere (sight e f bytes))
 unfolding hereLed
 here-there e f bytes k = rw (k, hereLed)
 
-here-end : (e : Entry) (f : OpenFile) (bytes : List ℕ) → ltb (f .position) (e .count) ≡ false → hereLed e f bytes ≡ To (f .here)
+pub here-end : (e : Entry) (f : OpenFile) (bytes : List ℕ) → ltb (f .position) (e .count) ≡ false → hereLed e f bytes ≡ To (f .here)
 unfolding hereLed
 here-end e f bytes k = rw (k, hereLed)
 
@@ -222,7 +222,7 @@ module _ (files buffer code : ℕ) (c : Scene) where
 
   -- done: a request that decodes nothing
   carried : (q : Request) → Allows q (facts true) → doneFrom q (c .number) (c .entry) (c .file) (carriedTo code q (c .entry) (c .file)) ≡ doneWith code q c
-  unfolding doneFrom orderFrom doneWith fileDone carriedTo
+  unfolding doneFrom orderFrom doneWith fileDone carriedTo writtenAt
   carried Open a = absurd (false≢true (sym (a .sound)))
   carried Read a = absurd (false≢true (sym (a .advances .sound)))
   carried Write a = refl

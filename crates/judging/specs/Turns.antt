@@ -1,15 +1,16 @@
 -- How a request is judged with decoding only in its turn: what it is judged by at first, where its decoding leads, and the file's state by that place.
 -- proofs/Turns.antt shows that this comes to `verdictOf`. Definitions only.
 use mathlib.Core.Bool.{Bool, true, false}
+use mathlib.Core.Path.{_≡_}
 use mathlib.Core.List.{List, []}
-use Prim.Native.Nat.{ℕ, _+_, _-_}
+use Prim.Native.Nat.{ℕ, _+_, _-_, _*_, _≤_, _<_}
 use lib.Dec.{ltb}
-use Rattle.geometry.specs.Bytes.{lay}
-use Rattle.geometry.specs.Places.{origin}
-use Rattle.geometry.specs.Sizes.{compressed}
+use Rattle.geometry.specs.Bytes.{part, lay}
+use Rattle.geometry.specs.Places.{capacity, placeOf, byteOf, origin}
+use Rattle.geometry.specs.Sizes.{sector, blocked, compressed, mostSectors}
 use Rattle.directory.specs.Entries.{isKind, isMarked, isProtected}
 use Rattle.packing.specs.Placing.{behindNew}
-use Rattle.packing.specs.Reading.{Got, got, lost, walkedTo, ledTo}
+use Rattle.packing.specs.Reading.{overlaid, Got, got, lost, walkedTo, ledTo}
 use Rattle.mounting.specs.Mounting.{countedWalk}
 use Rattle.sessions.specs.Session.{idle}
 use Rattle.steps.specs.Next.{Scene, recordHere, fixedAt, moved, fileMet}
@@ -55,6 +56,22 @@ factsBut bad legal files e f given code buffer = record {
 abbrev pub sight : Entry → OpenFile → List ℕ → Scene
 sight e f bytes = record { number = 0; entry = e; file = f; bytes = bytes; given = [] }
 
+-- record or granule k of a file that is not compressed, in the bytes of its extent
+unfoldable pub recordIn : Entry → ℕ → List ℕ → List ℕ
+recordIn e k bytes = part bytes (byteOf (placeOf (e .kind) (e .length) k)) (e .length)
+
+-- such a file's bytes, with a blocked one's held sector
+unfoldable pub blockedBytes : Entry → List ℕ → ℕ → List ℕ → List ℕ
+blockedBytes e bytes held over = elim (isKind blocked e) [ true ↦ overlaid bytes held over | false ↦ bytes ]
+
+-- there is such a record, in so many bytes
+pub record Fixed (e : Entry) (k n : ℕ) : Type 0 where
+  pub some : 0 < e .length
+  pub short : e .kind ≡ blocked → e .length ≤ sector
+  pub there : k < capacity (e .kind) (e .length) (e .sectors)
+  pub few : e .sectors ≤ mostSectors
+  pub whole : n ≡ sector * e .sectors
+
 -- the place behind the records counted
 unfoldable pub endLed : Entry → List ℕ → Led
 endLed e bytes = elim (isKind compressed e) [ true ↦ walkedTo origin (countedWalk e bytes) | false ↦ To origin ]
@@ -99,11 +116,15 @@ unfoldable pub placeIn : Led → Place
 placeIn (To p) = p
 placeIn (Lost p) = p
 
--- a request that decodes nothing, answered 0: a write's code has so many bytes, and its record ends behind it
+-- the place behind a record written, whose code has so many bytes
+unfoldable pub writtenAt : ℕ → Entry → OpenFile → Place
+writtenAt code e f = elim (isKind compressed e) [ true ↦ behindNew (f .here) code | false ↦ f .here ]
+
+-- a request that decodes nothing, answered 0
 unfoldable pub carriedTo : ℕ → Request → Entry → OpenFile → Place
 carriedTo code Open e f = origin
 carriedTo code Read e f = origin
-carriedTo code Write e f = elim (isKind compressed e) [ true ↦ behindNew (f .here) code | false ↦ f .here ]
+carriedTo code Write e f = writtenAt code e f
 carriedTo code (GranuleRead g) e f = origin
 carriedTo code (GranuleWrite g) e f = origin
 carriedTo code (GranuleLook g) e f = origin

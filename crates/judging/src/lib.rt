@@ -1,22 +1,52 @@
 // One request, judged once for both engines: document 01's "The tape a file is" and "Answer numbers".
+// Decoding happens only in its turn: a request is first judged as if a bad code were met, and only where that gives 11 is anything decoded.
 use directory::Entry;
+use directory::entry_of;
 use directory::is_marked;
 use directory::is_protected;
 use geometry::Geometry;
 use geometry::Place;
+use geometry::lay;
+use geometry::part;
+use packing::Led;
+use packing::goes_to_byte;
+use packing::goes_to_sector;
+use packing::read_behind;
+use packing::skip_behind;
+use packing::walk;
+use requests::Answer;
 use requests::Edge;
 use requests::Facts;
 use requests::Order;
+use requests::Refusal;
 use requests::Request;
+use requests::judge;
+use requests::number;
 use sessions::OpenFile;
+use sessions::Session;
+use sessions::file_of;
+use sessions::idle;
+use sessions::is_legal;
+use sessions::open_files;
+use steps::Verdict;
 ghost use mathlib.Core.Path.{_≡_};
+ghost use mathlib.Core.Bool.{true, false, _&&_};
 ghost use mathlib.Core.List.{[]};
-ghost use Prim.Native.Nat.{_+_, _-_, _≤_, _<_, _^_};
-ghost use Rattle.geometry.specs.Places.{origin};
-ghost use Rattle.sessions.specs.Session.{idle};
-ghost use Rattle.judging.specs.Turns.{factsBut, sight, orderFrom, doneFrom};
-ghost use Rattle.steps.specs.Next.{moved, counted, fileMet, entryDone};
+ghost use Prim.Native.Nat.{_+_, _-_, _*_, _≤_, _<_, _^_};
+ghost use lib.Dec.{eqb};
+ghost use lib.ListN.{length};
+ghost use Rattle.geometry.specs.Bytes as Bytes;
+ghost use Rattle.geometry.specs.Places.{origin, capacity};
+ghost use Rattle.geometry.specs.Sizes.{blocked, compressed, random};
+ghost use Rattle.geometry.specs.Sizes as Sizes;
+ghost use Rattle.directory.specs.Entries.{isKind};
+ghost use Rattle.steps.specs.Next.{moved, counted, fileMet, entryDone, fixedAt};
+ghost use Rattle.steps.specs.Verdict.{seenBytes};
+ghost use Rattle.steps.proofs.Lawful.{Lawful};
 ghost use Rattle.requests.proofs.InTurn.{supposing};
+ghost use Rattle.judging.specs.Turns.{factsBut, sight, endLed, hereLed, hereInto, isAstray, placeIn, writtenAt, Fixed, recordIn, blockedBytes, orderFrom, doneFrom, verdictFrom};
+
+// ---- what a request is judged by
 
 // What the tests ask about.
 fn facts(
@@ -61,6 +91,8 @@ fn supposed(f: Facts, bad: bool) -> Facts
     g
 }
 
+// ---- the next entry and the next state
+
 // The place before the first record.
 fn start() -> Place
     ensures { λ r. ⌜ r ≡ origin ⌝ }
@@ -68,21 +100,6 @@ fn start() -> Place
     Place {
         sector: 0,
         byte: 0,
-    }
-}
-
-// TODO sessions::idle
-fn idle() -> OpenFile
-    ensures { λ r. ⌜ r ≡ idle ⌝ }
-{
-    let here = start();
-    OpenFile {
-        used: false,
-        entry: 0,
-        position: 0,
-        beyond: false,
-        here: here,
-        end: here,
     }
 }
 
@@ -151,7 +168,7 @@ fn met_file(x: Edge, f: OpenFile) -> OpenFile
     }
 }
 
-// The state behind an order answered 0; p is the place behind the record passed.
+// The state behind an order answered 0; p is the place behind the record passed over.
 fn done_order(o: Order, e: Entry, f: OpenFile, p: Place) -> OpenFile
     requires { ⌜ f .position + 1 < 2 ^ 32 ⌝ }
     ensures { λ r. ⌜ r ≡ orderFrom o e f p ⌝ }
@@ -188,5 +205,116 @@ fn done_file(q: Request, i: usize, e: Entry, f: OpenFile, p: Place) -> OpenFile
         Request::Write => moved(f, f.position + 1, false, p, p),
         Request::Position(o) => done_order(o, e, f, p),
         _ => f,
+    }
+}
+
+// An answer, with the entry and the state behind it; p as above.
+fn next(a: Answer, q: Request, i: usize, e: Entry, f: OpenFile, p: Place) -> Verdict
+    requires { ⌜ f .position + 1 < 2 ^ 32 ⌝ }
+    ensures { λ r. ⌜ r ≡ verdictFrom a q i e f p ⌝ }
+{
+    match a {
+        Answer::Done => {
+            let entry = done_entry(q, e, f);
+            let file = done_file(q, i, e, f, p);
+            Verdict {
+                answer: a,
+                entry: entry,
+                file: file,
+            }
+        }
+        Answer::Met(x) => {
+            let file = met_file(x, f);
+            Verdict {
+                answer: a,
+                entry: e,
+                file: file,
+            }
+        }
+        Answer::Refused(_) => Verdict {
+            answer: a,
+            entry: e,
+            file: f,
+        },
+    }
+}
+
+// ---- decoding and copying
+
+// Whether reading met a bad code.
+fn is_astray(l: Led) -> bool
+    ensures { λ r. ⌜ r ≡ isAstray l ⌝ }
+{
+    match l {
+        Led::To(_) => false,
+        Led::Lost(_) => true,
+    }
+}
+
+// The place that reading led to.
+fn place_in(l: Led) -> Place
+    ensures { λ r. ⌜ r ≡ placeIn l ⌝ }
+{
+    match l {
+        Led::To(p) => p,
+        Led::Lost(p) => p,
+    }
+}
+
+// The end place of a file that is opened.
+fn end_place(bytes: &[u8], e: Entry) -> Led
+    ensures { λ r. ⌜ r ≡ endLed e (now (bytes .entry)) ⌝ }
+{
+    if e.kind == Geometry::COMPRESSED {
+        walk(bytes, e.sectors, e.length, e.count)
+    } else {
+        Led::To(start())
+    }
+}
+
+// The place behind the record written, whose code has so many bytes.
+fn behind_written(e: Entry, f: OpenFile, code: usize) -> Place
+    requires { ⌜ (isKind compressed e ≡ true → (code ≤ Sizes.sector) × (f .here .byte ≤ Sizes.sector) × (f .here .sector < 2 ^ 16)) ⌝ }
+    ensures { λ r. ⌜ r ≡ writtenAt code e f ⌝ }
+{
+    let p = f.here;
+    if e.kind == Geometry::COMPRESSED {
+        Place {
+            sector: goes_to_sector(p, code) as u32,
+            byte: (goes_to_byte(p, code) + code) as u32,
+        }
+    } else {
+        p
+    }
+}
+
+// Lays the n bytes of s from byte at on over the first bytes of the buffer.
+fn lay_part(s: &[u8], at: usize, n: usize, buffer: &mut [u8])
+    requires { ⌜ at + n ≤ length (now s) ⌝ }
+    ensures { λ _. ⌜ now (buffer .exit) ≡ Bytes.lay (now (buffer .entry)) 0 (Bytes.part (now (s .entry)) at n) ⌝ }
+{
+    lay(buffer, 0, &s[at..at + n]);
+}
+
+// Whether blocked record's sector, of that number, is the held one, which lies in over.
+fn is_held(e: Entry, sector: usize, held: u32, over: &[u8]) -> bool
+    ensures { λ r. ⌜ r ≡ (isKind blocked e && eqb (length (now (over .entry))) Sizes.sector) && eqb held sector ⌝ }
+{
+    ((e.kind == Geometry::BLOCKED) & (over.len() == Geometry::SECTOR)) & ((held as usize) == sector)
+}
+
+// Lays record or granule k of a file that is not compressed over the first bytes of the buffer: the sector's part from the record's byte offset,
+// out of over, if the record's sector is the one held there.
+fn copy_record(bytes: &[u8], held: u32, over: &[u8], e: Entry, k: u32, buffer: &mut [u8])
+    requires { ⌜ Fixed e k (length (now bytes)) ⌝ }
+    ensures { λ _. ⌜ now (buffer .exit) ≡ Bytes.lay (now (buffer .entry)) 0 (recordIn e k (blockedBytes e (now (bytes .entry)) held (now (over .entry)))) ⌝ }
+{
+    let s = Geometry::sector_of_record(e.kind, e.length, k);
+    let o = Geometry::byte_of_record(e.kind, e.length, k);
+    let n = e.length as usize;
+    if is_held(e, s, held, over) {
+        lay_part(over, o, n, buffer);
+    } else {
+        lay_part(bytes, Geometry::SECTOR * s + o, n, buffer);
     }
 }

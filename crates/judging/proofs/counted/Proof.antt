@@ -6,15 +6,12 @@ use Rattle.judging.proofs.counted.Tie as tie
 use Rattle.judging.proofs.counted.Reads as reads
 use Rattle.judging.proofs.counted.Lts as lts
 
--- src/lib.rt:89:16
 mul-t6 : tie.Need-mul-t6
 mul-t6 c = search needs
 
--- src/lib.rt:89:16
 add-t7 : tie.Need-add-t7
 add-t7 c = search needs
 
--- src/lib.rt:77:1
 returns : tie.Need-returns
 unfolding counted
 returns c = refl

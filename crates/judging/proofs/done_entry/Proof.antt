@@ -19,27 +19,21 @@ use Rattle.judging.proofs.done_entry.Reads as reads
 use Rattle.judging.proofs.done_entry.Lts as lts
 use Rattle.judging.proofs.counted.Reads as counted-reads
 
--- src/lib.rt:99:38
 enum-told : tie.Need-enum-told
 enum-told c = search needs
 
--- src/lib.rt:99:38
 add-counted : tie.Need-add-counted
 add-counted c = search needs
 
--- src/lib.rt:99:27
 counted-requires : tie.Need-counted-requires
 counted-requires c κs = search needs
 
--- src/lib.rt:100:27
 enum-known-q : tie.Need-enum-known-q
 enum-known-q c = search needs
 
--- src/lib.rt:101:33
 enum-told-2 : tie.Need-enum-told-2
 enum-told-2 c = search needs
 
--- src/lib.rt:101:33
 counted-requires-2 : tie.Need-counted-requires-2
 counted-requires-2 c κs = search needs
 
@@ -68,17 +62,14 @@ returns : tie.Need-returns
 unfolding entryDone
 returns c = rw (c .before .before .enum-told .given .1, c .counted .ensures)
 
--- src/lib.rt:94:1
 returns-2 : tie.Need-returns-2
 unfolding entryDone
 returns-2 c = rw (c .before .before .before .before .q .given .1, c .before .enum-told2 .given .1, c .counted2 .ensures)
 
--- src/lib.rt:94:1
 returns-3 : tie.Need-returns-3
 unfolding entryDone
 returns-3 c = rw (c .before .before .q .given .1) (other-order (c .before .before .before .before .args .e) (c .before .before .before .before .args .f) (c .before .before .q .given .0 .0) (c .match2 .keys2))
 
--- src/lib.rt:94:1
 returns-4 : tie.Need-returns-4
 returns-4 c = other-request (c .before .args .e) (c .before .args .f) (c .before .args .q) (c .match .keys3)
 

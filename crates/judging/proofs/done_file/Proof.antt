@@ -31,67 +31,52 @@ granules (GranuleWrite g) i e f p k = refl
 granules (GranuleLook g) i e f p k = refl
 granules (Position o) i e f p k = absurd (miss (3 ∷ 4 ∷ 5 ∷ []) 6 tt k)
 
--- src/lib.rt:184:19
 enum-told : tie.Need-enum-told
 enum-told c = search needs
 
--- src/lib.rt:184:19
 start-requires : tie.Need-start-requires
 start-requires c κs = search needs
 
--- src/lib.rt:187:35
 enum-told-2 : tie.Need-enum-told-2
 enum-told-2 c = search needs
 
--- src/lib.rt:187:35
 add-moved : tie.Need-add-moved
 add-moved c = search needs
 
--- src/lib.rt:187:26
 moved-requires : tie.Need-moved-requires
 moved-requires c κs = search needs
 
--- src/lib.rt:188:36
 enum-told-3 : tie.Need-enum-told-3
 enum-told-3 c = search needs
 
--- src/lib.rt:188:36
 add-moved-2 : tie.Need-add-moved-2
 add-moved-2 c = search needs
 
--- src/lib.rt:188:27
 moved-requires-2 : tie.Need-moved-requires-2
 moved-requires-2 c κs = search needs
 
--- src/lib.rt:189:27
 enum-known-q : tie.Need-enum-known-q
 enum-known-q c = search needs
 
--- src/lib.rt:189:33
 done-order-requires : tie.Need-done-order-requires
 done-order-requires c κs = search needs
 
--- src/lib.rt:173:1
 returns : tie.Need-returns
 unfolding doneFrom
 returns c = rw (c .before .enum-told .given .1, c .start .ensures)
 
--- src/lib.rt:173:1
 returns-2 : tie.Need-returns-2
 unfolding doneFrom
 returns-2 c = rw (c .before .before .enum-told2 .given .1, c .moved .ensures)
 
--- src/lib.rt:173:1
 returns-3 : tie.Need-returns-3
 unfolding doneFrom
 returns-3 c = rw (c .before .before .enum-told3 .given .1, c .moved2 .ensures)
 
--- src/lib.rt:173:1
 returns-4 : tie.Need-returns-4
 unfolding doneFrom
 returns-4 c = rw (c .before .before .q .given .1, c .done-order .ensures)
 
--- src/lib.rt:173:1
 returns-5 : tie.Need-returns-5
 returns-5 c =
     let a = c .before .before .args in

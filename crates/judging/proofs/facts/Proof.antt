@@ -6,15 +6,12 @@ use Rattle.judging.proofs.facts.Lts as lts
 use Rattle.directory.proofs.is_marked.Reads as is-marked-reads
 use Rattle.directory.proofs.is_protected.Reads as is-protected-reads
 
--- src/lib.rt:39:20
 is-protected-requires : tie.Need-is-protected-requires
 is-protected-requires c κs = search needs
 
--- src/lib.rt:43:17
 is-marked-requires : tie.Need-is-marked-requires
 is-marked-requires c κs = search needs
 
--- src/lib.rt:20:1
 returns : tie.Need-returns
 returns c = rw (c .before .is-protected .ensures, c .is-marked .ensures)
 

@@ -7,32 +7,25 @@ use Rattle.judging.proofs.met_file.Lts as lts
 use Rattle.judging.proofs.moved.Reads as moved-reads
 use Rattle.judging.proofs.start.Reads as start-reads
 
--- src/lib.rt:149:49
 enum-told : tie.Need-enum-told
 enum-told c = search needs
 
--- src/lib.rt:149:28
 moved-requires : tie.Need-moved-requires
 moved-requires c κs = search needs
 
--- src/lib.rt:150:53
 enum-told-2 : tie.Need-enum-told-2
 enum-told-2 c = search needs
 
--- src/lib.rt:150:53
 start-requires : tie.Need-start-requires
 start-requires c κs = search needs
 
--- src/lib.rt:150:34
 moved-requires-2 : tie.Need-moved-requires-2
 moved-requires-2 c κs = search needs
 
--- src/lib.rt:143:1
 returns : tie.Need-returns
 unfolding fileMet
 returns c = rw (c .before .before .enum-told .given .1, c .moved .ensures)
 
--- src/lib.rt:143:1
 returns-2 : tie.Need-returns-2
 unfolding fileMet
 returns-2 c = rw (c .before .before .enum-told2 .given .1, c .moved2 .ensures, c .before .start .ensures)
