@@ -130,15 +130,15 @@ module _ (c : Scene) (k : ltb (c .file .position) (c .entry .count) ≡ true) (b
   here-laid old = rw (k, hereInto) (first-laid (recordHere (sight (c .entry) (c .file) (c .bytes))) old not-lost ∙ ap (λ (g : Got). lay old 0 (bytesGot g)) (here-seen c))
 
 -- else the buffer stays as it is
-here-kept : (c : Scene) (old : List ℕ) → ltb (c .file .position) (c .entry .count) ≡ false → hereInto (c .entry) (c .file) (c .bytes) old ≡ old
+pub here-kept : (e : Entry) (f : OpenFile) (bytes old : List ℕ) → ltb (f .position) (e .count) ≡ false → hereInto e f bytes old ≡ old
 unfolding hereInto
-here-kept c old k = rw (k, hereInto)
+here-kept e f bytes old k = rw (k, hereInto)
 
 here-spared : (c : Scene) (old : List ℕ) → badIn theNext c ≡ true → hereInto (c .entry) (c .file) (c .bytes) old ≡ old
 unfolding hereInto badIn
 here-spared c old b = either (ltb (c .file .position) (c .entry .count))
     (λ (k : ltb (c .file .position) (c .entry .count) ≡ true). rw (k, hereInto) (first-kept (recordHere (sight (c .entry) (c .file) (c .bytes))) old (ap isLost (here-seen c) ∙ (rw k at b))))
-    (here-kept c old)
+    (here-kept (c .entry) (c .file) (c .bytes) old)
 
 -- ---- the verdict
 
@@ -310,7 +310,7 @@ module _ (files buffer code : ℕ) (c : Scene) where
     where
       ended : ltb (c .file .position) (c .entry .count) ≡ false → hereInto (c .entry) (c .file) (c .bytes) old ≡ bufferNext (ans Read) Read c old
       ended k =
-          here-kept c old k ∙ sym (buffer-kept (ans Read) Read c old (λ h.
+          here-kept (c .entry) (c .file) (c .bytes) old k ∙ sym (buffer-kept (ans Read) Read c old (λ h.
           let a : c .file .position < c .entry .count = done-allows Read (facts (badIn theNext c)) h .advances .ahead in
           both-ways (ltb (c .file .position) (c .entry .count)) (lt-ltb _ _ a) k))
 

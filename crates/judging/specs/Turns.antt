@@ -15,6 +15,7 @@ use Rattle.mounting.specs.Mounting.{countedWalk}
 use Rattle.sessions.specs.Session.{idle}
 use Rattle.steps.specs.Next.{Scene, recordHere, fixedAt, moved, fileMet}
 use Rattle.steps.specs.Verdict.{entryNext}
+use Rattle.steps.proofs.Lawful.{Lawful}
 use Rattle.geometry.specs.declared.Place.{Place}
 use Rattle.directory.specs.declared.Entry.{Entry}
 use Rattle.packing.specs.declared.Led.{Led}
@@ -70,6 +71,12 @@ pub record Fixed (e : Entry) (k n : ℕ) : Type 0 where
   pub short : e .kind ≡ blocked → e .length ≤ sector
   pub there : k < capacity (e .kind) (e .length) (e .sectors)
   pub few : e .sectors ≤ mostSectors
+  pub whole : n ≡ sector * e .sectors
+
+-- an open file of a legal session, and its extent of so many bytes
+pub record Ready (e : Entry) (f : OpenFile) (n : ℕ) : Type 0 where
+  pub lawful : Lawful e f
+  pub opened : f .used ≡ true
   pub whole : n ≡ sector * e .sectors
 
 -- the place behind the records counted

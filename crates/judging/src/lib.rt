@@ -44,7 +44,7 @@ ghost use Rattle.steps.specs.Next.{moved, counted, fileMet, entryDone, fixedAt}
 ghost use Rattle.steps.specs.Verdict.{seenBytes};
 ghost use Rattle.steps.proofs.Lawful.{Lawful};
 ghost use Rattle.requests.proofs.InTurn.{supposing};
-ghost use Rattle.judging.specs.Turns.{factsBut, sight, endLed, hereLed, hereInto, isAstray, placeIn, writtenAt, Fixed, recordIn, blockedBytes, orderFrom, doneFrom, verdictFrom};
+ghost use Rattle.judging.specs.Turns.{factsBut, sight, Ready, endLed, hereLed, hereInto, isAstray, placeIn, writtenAt, Fixed, recordIn, blockedBytes, orderFrom, doneFrom, verdictFrom};
 
 // ---- what a request is judged by
 
@@ -317,4 +317,44 @@ fn copy_record(bytes: &[u8], held: u32, over: &[u8], e: Entry, k: u32, buffer: &
     } else {
         lay_part(bytes, Geometry::SECTOR * s + o, n, buffer);
     }
+}
+
+// Reads the record at the position, if there is one, into the first bytes of the buffer. A bad code leaves the buffer as it was.
+fn read_here(
+    bytes: &[u8],
+    held: u32,
+    over: &[u8],
+    e: Entry,
+    f: OpenFile,
+    buffer: &mut [u8],
+) -> Led
+    requires { ⌜ (Ready e f (length (now bytes))) × (isKind random e ≡ false) × (e .length ≤ length (now buffer)) ⌝ }
+    ensures { λ r. ⌜ (r ≡ hereLed e f (seenBytes e f (now (bytes .entry)) held (now (over .entry))))
+        × (now (buffer .exit) ≡ hereInto e f (seenBytes e f (now (bytes .entry)) held (now (over .entry))) (now (buffer .entry))) ⌝ }
+{
+    let here = f.here;
+    if e.count <= f.position {
+        return Led::To(here);
+    }
+    if e.kind == Geometry::COMPRESSED {
+        let n = e.length as usize;
+        return read_behind(bytes, held, over, e.sectors, here, &mut buffer[..n]);
+    }
+    copy_record(bytes, held, over, e, f.position, buffer);
+    Led::To(here)
+}
+
+// Passes over the record at the position, if there is one.
+fn skip_here(bytes: &[u8], held: u32, over: &[u8], e: Entry, f: OpenFile) -> Led
+    requires { ⌜ f .used ≡ true ⌝ }
+    ensures { λ r. ⌜ r ≡ hereLed e f (seenBytes e f (now (bytes .entry)) held (now (over .entry))) ⌝ }
+{
+    let here = f.here;
+    if e.count <= f.position {
+        return Led::To(here);
+    }
+    if e.kind == Geometry::COMPRESSED {
+        return skip_behind(bytes, held, over, e.sectors, e.length, here);
+    }
+    Led::To(here)
 }
