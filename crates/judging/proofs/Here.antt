@@ -46,6 +46,13 @@ module _ (e : Entry) (f : OpenFile) (bytes over : List ℕ) (held : ℕ) where
       (λ (b : isKind blocked e ≡ true). rw (u, b, seenBytes, blockedBytes))
       (λ (b : isKind blocked e ≡ false). rw (u, b, k, seenBytes, blockedBytes))
 
+  pub seen-shut : f .used ≡ false → seen ≡ bytes
+  unfolding seenBytes
+  seen-shut u = rw (u, seenBytes)
+
+  pub seen-random : f .used ≡ true → isKind random e ≡ true → seen ≡ blockedBytes e bytes held over
+  seen-random u k = seen-fixed u (let q : e .kind ≡ random = eqb-true (e .kind) random k in ne-eqb (e .kind) compressed (omega arith))
+
   -- ---- the record that is read
 
   abbrev behindHere : Got

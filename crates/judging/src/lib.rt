@@ -44,7 +44,7 @@ ghost use Rattle.steps.specs.Next.{moved, counted, fileMet, entryDone, fixedAt}
 ghost use Rattle.steps.specs.Verdict.{seenBytes};
 ghost use Rattle.steps.proofs.Lawful.{Lawful};
 ghost use Rattle.requests.proofs.InTurn.{supposing};
-ghost use Rattle.judging.specs.Turns.{factsBut, sight, Ready, endLed, hereLed, hereInto, isAstray, placeIn, writtenAt, Fixed, recordIn, blockedBytes, orderFrom, doneFrom, verdictFrom};
+ghost use Rattle.judging.specs.Turns.{factsBut, sight, Ready, endLed, hereLed, hereInto, isAstray, placeIn, turnLed, turnInto, TurnOf, writtenAt, Reaches, carriedTo, carriedInto, CarryOf, Fixed, recordIn, blockedBytes, orderFrom, doneFrom, verdictFrom};
 
 // ---- what a request is judged by
 
@@ -274,7 +274,7 @@ fn end_place(bytes: &[u8], e: Entry) -> Led
 
 // The place behind the record written, whose code has so many bytes.
 fn behind_written(e: Entry, f: OpenFile, code: usize) -> Place
-    requires { ⌜ (isKind compressed e ≡ true → (code ≤ Sizes.sector) × (f .here .byte ≤ Sizes.sector) × (f .here .sector < 2 ^ 16)) ⌝ }
+    requires { ⌜ Reaches code e f ⌝ }
     ensures { λ r. ⌜ r ≡ writtenAt code e f ⌝ }
 {
     let p = f.here;
@@ -357,4 +357,51 @@ fn skip_here(bytes: &[u8], held: u32, over: &[u8], e: Entry, f: OpenFile) -> Led
         return skip_behind(bytes, held, over, e.sectors, e.length, here);
     }
     Led::To(here)
+}
+
+// What a request decodes, where its turn has come: the records counted, or the record at the position.
+fn decode(
+    q: Request,
+    bytes: &[u8],
+    held: u32,
+    over: &[u8],
+    e: Entry,
+    f: OpenFile,
+    buffer: &mut [u8],
+) -> Led
+    requires { ⌜ TurnOf q e f (length (now bytes)) (length (now buffer)) ⌝ }
+    ensures { λ r. ⌜ (r ≡ turnLed q e f (seenBytes e f (now (bytes .entry)) held (now (over .entry))))
+        × (now (buffer .exit) ≡ turnInto q e f (seenBytes e f (now (bytes .entry)) held (now (over .entry))) (now (buffer .entry))) ⌝ }
+{
+    match q {
+        Request::Open => end_place(bytes, e),
+        Request::Read => read_here(bytes, held, over, e, f, buffer),
+        Request::Position(_) => skip_here(bytes, held, over, e, f),
+        _ => Led::To(start()),
+    }
+}
+
+// What a request that decodes nothing and is answered 0 moves: a granule into the buffer, or the place behind a record written.
+fn carry(
+    q: Request,
+    bytes: &[u8],
+    held: u32,
+    over: &[u8],
+    e: Entry,
+    f: OpenFile,
+    code: usize,
+    buffer: &mut [u8],
+) -> Place
+    requires { ⌜ CarryOf q code e f (length (now bytes)) ⌝ }
+    ensures { λ r. ⌜ (r ≡ carriedTo code q e f)
+        × (now (buffer .exit) ≡ carriedInto q e f (seenBytes e f (now (bytes .entry)) held (now (over .entry))) (now (buffer .entry))) ⌝ }
+{
+    match q {
+        Request::Write => behind_written(e, f, code),
+        Request::GranuleRead(g) => {
+            copy_record(bytes, held, over, e, g, buffer);
+            start()
+        }
+        _ => start(),
+    }
 }
