@@ -11,7 +11,7 @@ use Rattle.geometry.specs.Places.{origin, sectorsFor, perSector, capacity}
 use Rattle.geometry.specs.Sizes.{sectorsOf, lawfulLength}
 use Rattle.directory.specs.Entries.{entryFrom, entryBytes, entriesFrom, tableOf, entryAt, isMarked}
 use Rattle.directory.specs.Rules.{kindKnown, freeIsZero, capital, digit, restOfName, isName, nameGood, namesDiffer, extentInside, extentsApart, flagsKnown, longest, lengthGood, countGood, randomBare, tableRules, tableGood}
-use Rattle.requests.specs.Judge.{whether, tests, orElse, firstOf, judge}
+use Rattle.requests.proofs.Live.{first-is-12}
 use Rattle.sessions.specs.Session.{idle, fresh, bare, isOf, openFiles, ofUsedEntry, ofOther, positionGood, beyondGood, placeGood, placesGood, heldGood, sessionRules, legal, bufferedLegal}
 use Rattle.steps.specs.Next.{factsOf}
 use Rattle.steps.specs.Step.{After, bufferedAnswer}
@@ -30,22 +30,6 @@ use Rattle.sessions.specs.declared.BufferedSession.{BufferedSession}
 use Rattle.sessions.specs.declared.OpenFile.{OpenFile}
 
 -- ---- 12, and nothing changed
-
-first-is-12 : (q : Request) (f : Facts) → f .legal ≡ false → judge q f ≡ Refused NotLegal
-unfolding judge tests firstOf orElse whether
-first-is-12 Open f e = rw e
-first-is-12 Read f e = rw e
-first-is-12 Write f e = rw e
-first-is-12 (GranuleRead g) f e = rw e
-first-is-12 (GranuleWrite g) f e = rw e
-first-is-12 (GranuleLook g) f e = rw e
-first-is-12 (Position WriteMark) f e = rw e
-first-is-12 (Position RewindOnline) f e = rw e
-first-is-12 (Position RewindOffline) f e = rw e
-first-is-12 (Position RecordForward) f e = rw e
-first-is-12 (Position RecordBack) f e = rw e
-first-is-12 (Position FileForward) f e = rw e
-first-is-12 (Position FileBack) f e = rw e
 
 module _ (E : Engine) (orderly : Orderly E) (image : List ℕ) (s : E .Session) (i : ℕ) (q : Request) (given buffer : List ℕ) (e : bufferedLegal image (E .seen s) ≡ false) where
   abbrev r : After (E .Session)

@@ -1,22 +1,40 @@
 // The engine with no buffer: every byte is moved straight in the image.
 use directory::Entry;
+use directory::entry_of;
 use directory::stamp;
 use geometry::Geometry;
+use geometry::part;
+use mounting::PlainMounted;
+use requests::Answer;
 use requests::Order;
 use requests::Request;
 use sessions::OpenFile;
+use sessions::Session;
+use sessions::Spot;
+use sessions::file_of;
+use sessions::slot_of;
+use sessions::spot_of;
+use steps::Verdict;
+use straight::encode_given;
+use straight::shown;
 use straight::store;
 use straight::write_blocked;
 use straight::write_coded;
+use verdicts::verdict;
 ghost use mathlib.Core.Path.{_≡_};
 ghost use mathlib.Core.Bool.{true};
 ghost use Prim.Native.Nat.{_<_};
+ghost use lib.ListN.{set};
 ghost use Rattle.geometry.specs.Sizes.{compressed, entries};
 ghost use Rattle.coding.specs.Encode.{codeOf};
 ghost use Rattle.directory.specs.Entries.{isKind};
+ghost use Rattle.sessions.specs.Session.{slotOf, spotOf};
+ghost use Rattle.mounting.specs.Mounting.{plainMount};
+ghost use Rattle.steps.specs.Step.{plainStep};
+ghost use Rattle.steps.specs.Look.{plainLookAnswer, plainLook};
 ghost use Rattle.steps.specs.Effects.{writeEffects, effects, plainAll};
 ghost use Rattle.straight.specs.Straight.{writing, Encoded};
-ghost use Rattle.plain.specs.Plain.{sceneIn};
+ghost use Rattle.plain.specs.Plain.{sceneIn, after};
 
 // ---- what a request answered 0 does to the image
 
@@ -51,4 +69,134 @@ fn act(image: &mut [u8], i: usize, e: Entry, f: OpenFile, q: Request, given: &[u
         },
         _ => {}
     }
+}
+
+// ---- a request
+
+// An answer, and the session behind it.
+pub struct Reply {
+    pub answer: Answer,
+    pub session: Session,
+}
+
+// The table with another entry of number i, if it has one of that number.
+fn with_entry(table: [Entry; 18], i: usize, e: Entry) -> [Entry; 18]
+    ensures { λ r. ⌜ r ≡ set table i e ⌝ }
+{
+    if i < 18 {
+        let mut t = table;
+        t[i] = e;
+        t
+    } else {
+        table
+    }
+}
+
+// The open-file states with another one of number k, if there is one of that number.
+fn with_file(files: [OpenFile; 4], k: usize, f: OpenFile) -> [OpenFile; 4]
+    ensures { λ r. ⌜ r ≡ set files k f ⌝ }
+{
+    if k < 4 {
+        let mut fs = files;
+        fs[k] = f;
+        fs
+    } else {
+        files
+    }
+}
+
+// The session with another entry and state of number i.
+fn with_next(s: Session, i: usize, v: Verdict) -> Session
+    ensures { λ r. ⌜ r ≡ record { table = set (s .table) i (v .entry); files = set (s .files) (slotOf (s .files) i) (v .file) } ⌝ }
+{
+    let t = s.table;
+    let files = s.files;
+    let e = v.entry;
+    let f = v.file;
+    Session {
+        table: with_entry(t, i, e),
+        files: with_file(files, slot_of(files, i), f),
+    }
+}
+
+// A request, with room for a code.
+fn request_in(image: &mut [u8], s: Session, i: usize, q: Request, given: &[u8], code: &mut [u8; 135], buffer: &mut [u8]) -> Reply
+    ensures { λ r. ⌜ after r (now (image .exit)) (now (buffer .exit)) ≡ plainStep (now (image .entry)) s i q (now (given .entry)) (now (buffer .entry)) ⌝ }
+{
+    let t = s.table;
+    let files = s.files;
+    let e = entry_of(t, i);
+    let f = file_of(files, i);
+    let n = encode_given(e, given, code);
+    let none = part(given, 0, 0);
+    let v = verdict(image, s, true, 0, none, i, q, given, n, buffer);
+    let a = v.answer;
+    match a {
+        Answer::Done => {
+            act(image, i, e, f, q, given, part(code, 0, n));
+            Reply {
+                answer: a,
+                session: with_next(s, i, v),
+            }
+        }
+        Answer::Met(_) => Reply {
+            answer: a,
+            session: with_next(s, i, v),
+        },
+        Answer::Refused(_) => Reply {
+            answer: a,
+            session: s,
+        },
+    }
+}
+
+// One request on entry i: a write takes its bytes from what is given, a read lays them in the buffer.
+pub fn request(image: &mut [u8], s: Session, i: usize, q: Request, given: &[u8], buffer: &mut [u8]) -> Reply
+    ensures { λ r. ⌜ after r (now (image .exit)) (now (buffer .exit)) ≡ plainStep (now (image .entry)) s i q (now (given .entry)) (now (buffer .entry)) ⌝ }
+{
+    let mut code = [0u8; 135];
+    request_in(image, s, i, q, given, &mut code, buffer)
+}
+
+// ---- mounting, looks and positions
+
+// Mounts an image: the answer, and a session with nothing open.
+pub fn mount(image: &[u8]) -> PlainMounted
+    ensures answer { λ r. ⌜ r .answer ≡ plainMount (now (image .entry)) .answer ⌝ }
+    ensures session { λ r. ⌜ r .session ≡ plainMount (now (image .entry)) .session ⌝ }
+{
+    mounting::mount(image)
+}
+
+// The answer to a look, with nothing to read into.
+fn look_in(image: &[u8], s: Session, i: usize, g: u32, none: &mut [u8; 0]) -> Answer
+    ensures { λ r. ⌜ r ≡ plainLookAnswer (now (image .entry)) s i g ⌝ }
+{
+    let empty = part(image, 0, 0);
+    let v = verdict(image, s, true, 0, empty, i, Request::GranuleLook(g), empty, 0, none);
+    v.answer
+}
+
+// The answer to a look at granule g of entry i.
+pub fn look_number(image: &[u8], s: Session, i: usize, g: u32) -> Answer
+    ensures { λ r. ⌜ r ≡ plainLookAnswer (now (image .entry)) s i g ⌝ }
+{
+    let mut none = [0u8; 0];
+    look_in(image, s, i, g, &mut none)
+}
+
+// Granule g of entry i, shown in place in the image; an empty part where that is refused.
+pub fn look(image: &[u8], s: Session, i: usize, g: u32) -> &[u8]
+    ensures { λ r. ⌜ now r ≡ plainLook (now (image .entry)) s i g ⌝ }
+{
+    let t = s.table;
+    let e = entry_of(t, i);
+    shown(image, look_number(image, s, i, g), e, g)
+}
+
+// Where entry i's file stands.
+pub fn position(s: Session, i: usize) -> Spot
+    ensures { λ r. ⌜ r ≡ spotOf s i ⌝ }
+{
+    spot_of(s, i)
 }

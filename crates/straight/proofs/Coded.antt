@@ -1,15 +1,16 @@
 -- The code of the bytes given: a record of n characters is the first n of 132 with blanks behind the bytes given.
-use mathlib.Core.Path.{_≡_, sym, ap, _∙_}
+use mathlib.Core.Path.{_≡_, refl, sym, ap, _∙_}
 use mathlib.Core.Bool.{Bool, true, false, _&&_}
 use mathlib.Core.List.{List, []}
 use Prim.Native.Nat.{ℕ, _≤_}
 use native.Mathlib.Omega.{arith}
 use lib.ListN.{length}
 use lib.Dec.{leb}
+use lib.Seq.{sets, sets-eq}
 use borrow.Author.Tests.{leb-true}
 use Rattle.geometry.specs.Bytes.{part, lay, padded}
 use Rattle.geometry.specs.Sizes.{blank, compressed}
-use Rattle.geometry.proofs.Bytes.{length-lay, length-padded, part-all, part-lay-same, part-padded}
+use Rattle.geometry.proofs.Bytes.{lay-fits, length-lay, length-padded, part-all, part-lay-same, part-padded}
 use Rattle.geometry.proofs.Tests.{and-left, and-right}
 use Rattle.coding.specs.Encode.{encode, codeOf}
 use Rattle.directory.specs.Entries.{isKind}
@@ -42,3 +43,7 @@ module _ (e : Entry) (given : List ℕ) where
   given-fits h =
       let t : leb (length given) (e .length) && leb (e .length) 132 ≡ true = and-right (isKind compressed e) _ h in
       (leb-true _ _ (and-left _ (leb (e .length) 132) t), leb-true _ _ (and-right (leb (length given) (e .length)) _ t))
+
+-- bytes set at the front of a list stand there
+pub sets-part : (old xs : List ℕ) → length xs ≤ length old → part (sets old 0 xs) 0 (length xs) ≡ xs
+sets-part old xs h = ap (λ (ys : List ℕ). part ys 0 (length xs)) (sets-eq xs old 0 (omega arith) ∙ sym (lay-fits old 0 xs (omega arith))) ∙ part-lay-same old 0 xs (length xs) refl (omega arith)

@@ -1,0 +1,25 @@
+-- `plain::with_next` meets its contract: what it calls does the work.
+use borrow.Author.Needs.{needs}
+use Rattle.plain.proofs.with_next.Statement.{statement}
+use Rattle.plain.proofs.with_next.Tie as tie
+use Rattle.plain.proofs.with_next.Reads as reads
+use Rattle.plain.proofs.with_next.Lts as lts
+use Rattle.plain.proofs.with_entry.Reads as with-entry-reads
+use Rattle.plain.proofs.with_file.Reads as with-file-reads
+use Rattle.sessions.proofs.slot_of.Reads as slot-of-reads
+
+with-entry-requires : tie.Need-with-entry-requires
+with-entry-requires c κs = search needs
+
+slot-of-requires : tie.Need-slot-of-requires
+slot-of-requires c κs = search needs
+
+with-file-requires : tie.Need-with-file-requires
+with-file-requires c κs = search needs
+
+returns : tie.Need-returns
+returns c = rw (c .with-file .ensures, c .before .slot-of .ensures, c .before .before .with-entry .ensures)
+
+pub with-next-spec : {M : Type 1} → statement M
+with-next-spec =
+    tie.close (tie.spec with-entry-requires slot-of-requires with-file-requires returns)
