@@ -41,10 +41,10 @@ ghost use Rattle.geometry.specs.Sizes.{blocked, compressed, random};
 ghost use Rattle.geometry.specs.Sizes as Sizes;
 ghost use Rattle.directory.specs.Entries.{isKind};
 ghost use Rattle.steps.specs.Next.{moved, counted, fileMet, entryDone, fixedAt};
-ghost use Rattle.steps.specs.Verdict.{seenBytes};
+ghost use Rattle.steps.specs.Verdict.{seenBytes, bufferNext, answerOf, verdictOf};
 ghost use Rattle.steps.proofs.Lawful.{Lawful};
 ghost use Rattle.requests.proofs.InTurn.{supposing};
-ghost use Rattle.judging.specs.Turns.{factsBut, sight, Ready, endLed, hereLed, hereInto, isAstray, placeIn, turnLed, turnInto, TurnOf, writtenAt, Reaches, carriedTo, carriedInto, CarryOf, Fixed, recordIn, blockedBytes, orderFrom, doneFrom, verdictFrom};
+ghost use Rattle.judging.specs.Turns.{factsBut, sight, Ready, endLed, hereLed, hereInto, isAstray, placeIn, turnLed, turnInto, TurnOf, writtenAt, Reaches, carriedTo, carriedInto, CarryOf, Fixed, recordIn, blockedBytes, orderFrom, doneFrom, sceneOf, verdictFrom};
 
 // ---- what a request is judged by
 
@@ -404,4 +404,41 @@ fn carry(
         }
         _ => start(),
     }
+}
+
+// The verdict on a used entry of a legal session; bytes is its extent.
+fn lawful_verdict(
+    bytes: &[u8],
+    held: u32,
+    over: &[u8],
+    files: u32,
+    i: usize,
+    e: Entry,
+    f: OpenFile,
+    q: Request,
+    given: &[u8],
+    code: usize,
+    buffer: &mut [u8],
+) -> Verdict
+    requires { ⌜ (Lawful e f) × (length (now bytes) ≡ Sizes.sector * e .sectors) ⌝ }
+    ensures { λ r. ⌜ (r ≡ verdictOf true files (length (now (buffer .entry))) code q
+            (sceneOf i e f (seenBytes e f (now (bytes .entry)) held (now (over .entry))) (now (given .entry))))
+        × (now (buffer .exit) ≡ bufferNext (answerOf true files (length (now (buffer .entry))) code q
+            (sceneOf i e f (seenBytes e f (now (bytes .entry)) held (now (over .entry))) (now (given .entry)))) q
+            (sceneOf i e f (seenBytes e f (now (bytes .entry)) held (now (over .entry))) (now (given .entry))) (now (buffer .entry))) ⌝ }
+{
+    let known = facts(true, true, files, e, f, given.len(), code, buffer.len());
+    let first = judge(q, known);
+    let n = number(first);
+    let here = f.here;
+    if n == 11 {
+        let led = decode(q, bytes, held, over, e, f, buffer);
+        let a = judge(q, supposed(known, is_astray(led)));
+        return next(a, q, i, e, f, place_in(led));
+    }
+    if n == 0 {
+        let p = carry(q, bytes, held, over, e, f, code, buffer);
+        return next(first, q, i, e, f, p);
+    }
+    next(first, q, i, e, f, here)
 }
