@@ -1,13 +1,12 @@
 -- The record at the position of an open file: of a compressed one it is read behind the place, of any other it lies in the extent, in which case
 -- the held sector counts for a blocked file alone.
 use mathlib.Core.Path.{_≡_, refl, sym, ap, _∙_}
-use mathlib.Core.Bool.{true, false, _&&_, _||_, false≢true}
-use mathlib.Core.List.{List, _++_, []}
+use mathlib.Core.Bool.{true, false}
+use mathlib.Core.List.{List, _++_}
 use Prim.Native.Nat.{ℕ, _+_, _*_, _≤_, _<_}
 use native.Mathlib.Omega.{arith}
-use lib.Dec.{ltb}
 use lib.ListN.{length, take, drop, take-append-drop}
-use borrow.Author.Tests.{lt-ltb, ne-eqb, eqb-false, eqb-true}
+use borrow.Author.Tests.{lt-ltb, ne-eqb, eqb-true}
 use Rattle.geometry.specs.Bytes.{lay}
 use Rattle.geometry.specs.Sizes.{sector, blocked, compressed, random}
 use Rattle.geometry.specs.Places.{capacity}
@@ -15,7 +14,7 @@ use Rattle.geometry.proofs.Bytes.{lay-fits}
 use Rattle.geometry.proofs.Tests.{either}
 use Rattle.directory.specs.Entries.{isKind}
 use Rattle.directory.specs.Rules.{longest}
-use Rattle.packing.specs.Reading.{overlaid, Got, got, lost, Recorded, readBehind, ledTo, into}
+use Rattle.packing.specs.Reading.{overlaid, Got, got, lost, readBehind, ledTo, into}
 use Rattle.packing.proofs.One.{Within, told}
 use Rattle.requests.proofs.Done.{Allows}
 use Rattle.requests.proofs.InTurn.{Then}
@@ -25,7 +24,6 @@ use Rattle.steps.proofs.Lawful.{Lawful}
 use Rattle.steps.proofs.Compressed.{good-within, here-read}
 use Rattle.judging.specs.Turns.{factsBut, TurnOf, CarryOf, Ready, Fixed, sight, recordIn, blockedBytes, hereLed, laidFirst, hereInto}
 use Rattle.judging.proofs.Turns.{here-there}
-use Rattle.geometry.specs.declared.Place.{Place}
 use Rattle.directory.specs.declared.Entry.{Entry}
 use Rattle.sessions.specs.declared.OpenFile.{OpenFile}
 use Rattle.requests.specs.declared.Facts.{Facts}
@@ -103,8 +101,8 @@ unfolding longest
 fixed-from e f k n l w t = record {
   some = omega (arith, l .long);
   short = λ (b : e .kind ≡ blocked).
-  let s : e .length ≤ longest (e .kind) = l .short in
-  rw (b, longest) at s;
+      let s : e .length ≤ longest (e .kind) = l .short in
+      rw (b, longest) at s;
   there = t;
   few = l .few;
   whole = w;

@@ -1,11 +1,10 @@
 -- Judging with decoding in its turn comes to the verdict. An answer other than 11 to the request judged as if a code were bad stands; at 11 the
 -- request is judged again by what its decoding led to.
 use mathlib.Core.Path.{_≡_, refl, sym, ap, ap₂, subst, _∙_}
-use mathlib.Core.Bool.{Bool, true, false, _&&_, not, false≢true}
+use mathlib.Core.Bool.{Bool, true, false, not, false≢true}
 use mathlib.Core.List.{List, []}
 use Prim.Native.Nat.{ℕ, _+_, _<_}
-use native.Mathlib.Omega.{arith}
-use lib.Dec.{eqb, ltb, leb}
+use lib.Dec.{ltb}
 use lib.ListN.{length}
 use borrow.Author.Tests.{lt-ltb, ltb-true, eqb-false, eq-eqb, ne-eqb}
 use Rattle.geometry.specs.Bytes.{lay}
@@ -14,14 +13,14 @@ use Rattle.geometry.specs.Sizes.{compressed}
 use Rattle.geometry.proofs.Bytes.{lay-nil}
 use Rattle.geometry.proofs.Tests.{either, both-ways}
 use Rattle.directory.specs.Entries.{isKind}
-use Rattle.packing.specs.Reading.{Got, got, lost, Walk, Recorded, decodes, recordsOf, behind, behindFrom, walk, walkedTo, ledTo}
+use Rattle.packing.specs.Reading.{Got, got, lost, Walk, decodes, recordsOf, behind, behindFrom, walk, walkedTo, ledTo}
 use Rattle.packing.proofs.Walks.{walk-length, decodes-walked, to-decodes, lost-breaks}
 use Rattle.requests.specs.Judge.{judge}
 use Rattle.requests.specs.Numbers.{numberOf}
 use Rattle.requests.proofs.Done.{Allows, done-allows}
 use Rattle.requests.proofs.InTurn.{supposing, isBad, stands, turn, Then, ReadsThen, reads-on}
 use Rattle.mounting.specs.Mounting.{countedWalk}
-use Rattle.steps.specs.Next.{Scene, recordHere, fixedAt, isLost, bytesGot, behindGot, Decoding, theCounted, theNext, none, decoding, badIn, factsWith, endPlace, moved, fileMet, fileDone, intoBuffer, entryDone}
+use Rattle.steps.specs.Next.{Scene, recordHere, fixedAt, isLost, bytesGot, behindGot, theCounted, theNext, decoding, badIn, endPlace, moved, fileMet, fileDone, intoBuffer, entryDone}
 use Rattle.steps.proofs.Compressed.{end-is}
 use Rattle.steps.specs.Verdict.{entryNext, bufferNext, doneWith, fileWith, verdictOf}
 use Rattle.judging.specs.Turns.{factsBut, sight, endLed, hereLed, laidFirst, hereInto, turnLed, turnInto, isAstray, placeIn, writtenAt, carriedTo, carriedInto, orderFrom, doneFrom, fileFrom, verdictFrom}

@@ -40,8 +40,9 @@ ghost use Rattle.geometry.specs.Places.{origin, capacity};
 ghost use Rattle.geometry.specs.Sizes.{blocked, compressed, random};
 ghost use Rattle.geometry.specs.Sizes as Sizes;
 ghost use Rattle.directory.specs.Entries.{isKind};
+ghost use Rattle.sessions.specs.Session.{openFiles, extent, legal};
 ghost use Rattle.steps.specs.Next.{moved, counted, fileMet, entryDone, fixedAt};
-ghost use Rattle.steps.specs.Verdict.{seenBytes, bufferNext, answerOf, verdictOf};
+ghost use Rattle.steps.specs.Verdict.{seenBytes, seenScene, bufferNext, answerOf, verdictOf};
 ghost use Rattle.steps.proofs.Lawful.{Lawful};
 ghost use Rattle.requests.proofs.InTurn.{supposing};
 ghost use Rattle.judging.specs.Turns.{factsBut, sight, Ready, endLed, hereLed, hereInto, isAstray, placeIn, turnLed, turnInto, TurnOf, writtenAt, Reaches, carriedTo, carriedInto, CarryOf, Fixed, recordIn, blockedBytes, orderFrom, doneFrom, sceneOf, verdictFrom};
@@ -97,10 +98,7 @@ fn supposed(f: Facts, bad: bool) -> Facts
 fn start() -> Place
     ensures { λ r. ⌜ r ≡ origin ⌝ }
 {
-    Place {
-        sector: 0,
-        byte: 0,
-    }
+    Place { sector: 0, byte: 0 }
 }
 
 // One less, and 0 of 0.
@@ -320,14 +318,7 @@ fn copy_record(bytes: &[u8], held: u32, over: &[u8], e: Entry, k: u32, buffer: &
 }
 
 // Reads the record at the position, if there is one, into the first bytes of the buffer. A bad code leaves the buffer as it was.
-fn read_here(
-    bytes: &[u8],
-    held: u32,
-    over: &[u8],
-    e: Entry,
-    f: OpenFile,
-    buffer: &mut [u8],
-) -> Led
+fn read_here(bytes: &[u8], held: u32, over: &[u8], e: Entry, f: OpenFile, buffer: &mut [u8]) -> Led
     requires { ⌜ (Ready e f (length (now bytes))) × (isKind random e ≡ false) × (e .length ≤ length (now buffer)) ⌝ }
     ensures { λ r. ⌜ (r ≡ hereLed e f (seenBytes e f (now (bytes .entry)) held (now (over .entry))))
         × (now (buffer .exit) ≡ hereInto e f (seenBytes e f (now (bytes .entry)) held (now (over .entry))) (now (buffer .entry))) ⌝ }
@@ -406,6 +397,17 @@ fn carry(
     }
 }
 
+// The bytes of an entry's extent.
+fn extent_of(image: &[u8], e: Entry) -> &[u8]
+    ensures { λ r. ⌜ now r ≡ extent e (now (image .entry)) ⌝ }
+{
+    part(
+        image,
+        Geometry::SECTOR * (e.first as usize),
+        Geometry::SECTOR * (e.sectors as usize),
+    )
+}
+
 // The verdict on a used entry of a legal session; bytes is its extent.
 fn lawful_verdict(
     bytes: &[u8],
@@ -422,10 +424,10 @@ fn lawful_verdict(
 ) -> Verdict
     requires { ⌜ (Lawful e f) × (length (now bytes) ≡ Sizes.sector * e .sectors) ⌝ }
     ensures { λ r. ⌜ (r ≡ verdictOf true files (length (now (buffer .entry))) code q
-            (sceneOf i e f (seenBytes e f (now (bytes .entry)) held (now (over .entry))) (now (given .entry))))
+        (sceneOf i e f (seenBytes e f (now (bytes .entry)) held (now (over .entry))) (now (given .entry))))
         × (now (buffer .exit) ≡ bufferNext (answerOf true files (length (now (buffer .entry))) code q
-            (sceneOf i e f (seenBytes e f (now (bytes .entry)) held (now (over .entry))) (now (given .entry)))) q
-            (sceneOf i e f (seenBytes e f (now (bytes .entry)) held (now (over .entry))) (now (given .entry))) (now (buffer .entry))) ⌝ }
+        (sceneOf i e f (seenBytes e f (now (bytes .entry)) held (now (over .entry))) (now (given .entry)))) q
+        (sceneOf i e f (seenBytes e f (now (bytes .entry)) held (now (over .entry))) (now (given .entry))) (now (buffer .entry))) ⌝ }
 {
     let known = facts(true, true, files, e, f, given.len(), code, buffer.len());
     let first = judge(q, known);
@@ -441,4 +443,48 @@ fn lawful_verdict(
         return next(first, q, i, e, f, p);
     }
     next(first, q, i, e, f, here)
+}
+
+// The verdict on a request on entry i, and the caller's buffer behind it. sound: what an engine asks of its sessions beyond the rules of every
+// session. The held sector of this file, if there is one, is lent as over; code is the length of the code of the bytes given.
+pub fn verdict(
+    image: &[u8],
+    s: Session,
+    sound: bool,
+    held: u32,
+    over: &[u8],
+    i: usize,
+    q: Request,
+    given: &[u8],
+    code: usize,
+    buffer: &mut [u8],
+) -> Verdict
+    ensures { λ r. ⌜ (r ≡ verdictOf (legal (now (image .entry)) s && sound) (openFiles (s .files)) (length (now (buffer .entry))) code q
+        (seenScene (now (image .entry)) s held (now (over .entry)) i (now (given .entry))))
+        × (now (buffer .exit) ≡ bufferNext (answerOf (legal (now (image .entry)) s && sound) (openFiles (s .files)) (length (now (buffer .entry))) code q
+        (seenScene (now (image .entry)) s held (now (over .entry)) i (now (given .entry)))) q
+        (seenScene (now (image .entry)) s held (now (over .entry)) i (now (given .entry))) (now (buffer .entry))) ⌝ }
+{
+    let table = s.table;
+    let files = s.files;
+    let e = entry_of(table, i);
+    let f = file_of(files, i);
+    let lawful = is_legal(image, s) & sound;
+    if !lawful {
+        return Verdict {
+            answer: Answer::Refused(Refusal::NotLegal),
+            entry: e,
+            file: f,
+        };
+    }
+    if e.kind == Geometry::FREE {
+        return Verdict {
+            answer: Answer::Refused(Refusal::NotThere),
+            entry: e,
+            file: f,
+        };
+    }
+    let n = open_files(files);
+    let bytes = extent_of(image, e);
+    lawful_verdict(bytes, held, over, n, i, e, f, q, given, code, buffer)
 }

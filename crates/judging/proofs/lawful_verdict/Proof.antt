@@ -10,17 +10,6 @@ use mathlib.Core.Path.{_∙_}
 use borrow.Author.Needs.{needs}
 use Rattle.judging.proofs.lawful_verdict.Statement.{statement}
 use Rattle.judging.proofs.lawful_verdict.Tie as tie
-use Rattle.judging.proofs.lawful_verdict.Reads as reads
-use Rattle.judging.proofs.lawful_verdict.Lts as lts
-use Rattle.judging.proofs.carry.Reads as carry-reads
-use Rattle.judging.proofs.decode.Reads as decode-reads
-use Rattle.judging.proofs.facts.Reads as facts-reads
-use Rattle.judging.proofs.is_astray.Reads as is-astray-reads
-use Rattle.judging.proofs.next.Reads as next-reads
-use Rattle.judging.proofs.place_in.Reads as place-in-reads
-use Rattle.judging.proofs.supposed.Reads as supposed-reads
-use Rattle.requests.proofs.judge.Reads as judge-reads
-use Rattle.requests.proofs.number.Reads as number-reads
 
 facts-requires : tie.Need-facts-requires
 facts-requires c κs = search needs
@@ -58,11 +47,12 @@ same-length c = search needs
 
 returns : tie.Need-returns
 returns c =
-    let a = c .before .before .before .before .before .before .before .before .before .before .before .before .before .before .before .before .before .before .args in
-    (judged-again (a .files) (length (a .buffer .now)) (a .code) (sceneOf (a .i) (a .e) (a .f) (seenBytes (a .e) (a .f) (a .bytes .now) (a .held) (a .over .now)) (a .given .now)) (a .q) (c .before .before .before .before .before .before .before .before .before .before .before .before .before .facts .result) (c .before .before .before .before .before .before .before .before .before .before .before .before .judge .result) (c .before .before .before .before .before .before .before .before .before .before .before .number .result) (c .before .before .before .before .before .before .before .before .before .before .before .before .before .facts .ensures) (c .before .before .before .before .before .before .before .before .before .before .before .before .judge .ensures) (c .before .before .before .before .before .before .before .before .before .before .before .number .ensures) (c .before .before .before .before .before .before .before .before .before .if1 .taken) (c .before .before .before .before .before .before .before .decode .result) (c .before .before .before .before .is-astray .result) (c .before .before .before .supposed .result)
-    (c .before .before .judge2 .result) (c .before .place-in .result) (c .next .result) (c .before .before .before .before .before .before .before .decode .ensures .0) (c .before .before .before .before .is-astray .ensures) (c .before .before .before .supposed .ensures)
-    (c .before .before .judge2 .ensures) (c .before .place-in .ensures) (c .next .ensures),
-    c .before .before .before .before .before .before .before .decode .ensures .1 ∙ turn-buffer (a .files) (length (a .buffer .now)) (a .code) (sceneOf (a .i) (a .e) (a .f) (seenBytes (a .e) (a .f) (a .bytes .now) (a .held) (a .over .now)) (a .given .now)) (a .q) (is-bad (a .files) (length (a .buffer .now)) (a .code) (sceneOf (a .i) (a .e) (a .f) (seenBytes (a .e) (a .f) (a .bytes .now) (a .held) (a .over .now)) (a .given .now)) (a .q) (c .before .before .before .before .before .before .before .before .before .before .before .before .before .facts .result) (c .before .before .before .before .before .before .before .before .before .before .before .before .judge .result) (c .before .before .before .before .before .before .before .before .before .before .before .number .result) (c .before .before .before .before .before .before .before .before .before .before .before .before .before .facts .ensures) (c .before .before .before .before .before .before .before .before .before .before .before .before .judge .ensures) (c .before .before .before .before .before .before .before .before .before .before .before .number .ensures) (c .before .before .before .before .before .before .before .before .before .if1 .taken)) (a .buffer .now))
+    let a = c .before .before .before .before .before .before .before .before .before .before .before .before .before .before .before .before .before .before .args in (
+      judged-again (a .files) (length (a .buffer .now)) (a .code) (sceneOf (a .i) (a .e) (a .f) (seenBytes (a .e) (a .f) (a .bytes .now) (a .held) (a .over .now)) (a .given .now)) (a .q) (c .before .before .before .before .before .before .before .before .before .before .before .before .before .facts .result) (c .before .before .before .before .before .before .before .before .before .before .before .before .judge .result) (c .before .before .before .before .before .before .before .before .before .before .before .number .result) (c .before .before .before .before .before .before .before .before .before .before .before .before .before .facts .ensures) (c .before .before .before .before .before .before .before .before .before .before .before .before .judge .ensures) (c .before .before .before .before .before .before .before .before .before .before .before .number .ensures) (c .before .before .before .before .before .before .before .before .before .if1 .taken) (c .before .before .before .before .before .before .before .decode .result) (c .before .before .before .before .is-astray .result) (c .before .before .before .supposed .result)
+          (c .before .before .judge2 .result) (c .before .place-in .result) (c .next .result) (c .before .before .before .before .before .before .before .decode .ensures .0) (c .before .before .before .before .is-astray .ensures) (c .before .before .before .supposed .ensures)
+          (c .before .before .judge2 .ensures) (c .before .place-in .ensures) (c .next .ensures),
+      c .before .before .before .before .before .before .before .decode .ensures .1 ∙ turn-buffer (a .files) (length (a .buffer .now)) (a .code) (sceneOf (a .i) (a .e) (a .f) (seenBytes (a .e) (a .f) (a .bytes .now) (a .held) (a .over .now)) (a .given .now)) (a .q) (is-bad (a .files) (length (a .buffer .now)) (a .code) (sceneOf (a .i) (a .e) (a .f) (seenBytes (a .e) (a .f) (a .bytes .now) (a .held) (a .over .now)) (a .given .now)) (a .q) (c .before .before .before .before .before .before .before .before .before .before .before .before .before .facts .result) (c .before .before .before .before .before .before .before .before .before .before .before .before .judge .result) (c .before .before .before .before .before .before .before .before .before .before .before .number .result) (c .before .before .before .before .before .before .before .before .before .before .before .before .before .facts .ensures) (c .before .before .before .before .before .before .before .before .before .before .before .before .judge .ensures) (c .before .before .before .before .before .before .before .before .before .before .before .number .ensures) (c .before .before .before .before .before .before .before .before .before .if1 .taken)) (a .buffer .now),
+    )
 
 carry-requires : tie.Need-carry-requires
 carry-requires c κs =
@@ -79,18 +69,20 @@ same-length-2 c = search needs
 
 returns-2 : tie.Need-returns-2
 returns-2 c =
-    let a = c .before .before .before .before .before .before .before .before .before .before .before .before .before .before .before .args in
-    (judged-done (a .files) (length (a .buffer .now)) (a .code) (sceneOf (a .i) (a .e) (a .f) (seenBytes (a .e) (a .f) (a .bytes .now) (a .held) (a .over .now)) (a .given .now)) (a .q) (c .before .before .before .before .before .before .before .before .before .before .facts .result) (c .before .before .before .before .before .before .before .before .before .judge .result) (c .before .before .before .before .before .before .before .before .number .result) (c .before .before .before .before .before .before .before .before .before .before .facts .ensures) (c .before .before .before .before .before .before .before .before .before .judge .ensures) (c .before .before .before .before .before .before .before .before .number .ensures) (c .before .before .before .before .before .if2 .taken) (c .before .before .before .carry .result) (c .next2 .result) (c .before .before .before .carry .ensures .0) (c .next2 .ensures),
-    c .before .before .before .carry .ensures .1 ∙ carried-buffer (a .files) (length (a .buffer .now)) (a .code) (sceneOf (a .i) (a .e) (a .f) (seenBytes (a .e) (a .f) (a .bytes .now) (a .held) (a .over .now)) (a .given .now)) (a .q) (is-done (a .files) (length (a .buffer .now)) (a .code) (sceneOf (a .i) (a .e) (a .f) (seenBytes (a .e) (a .f) (a .bytes .now) (a .held) (a .over .now)) (a .given .now)) (a .q) (c .before .before .before .before .before .before .before .before .before .before .facts .result) (c .before .before .before .before .before .before .before .before .before .judge .result) (c .before .before .before .before .before .before .before .before .number .result) (c .before .before .before .before .before .before .before .before .before .before .facts .ensures) (c .before .before .before .before .before .before .before .before .before .judge .ensures) (c .before .before .before .before .before .before .before .before .number .ensures) (c .before .before .before .before .before .if2 .taken)) (a .buffer .now))
+    let a = c .before .before .before .before .before .before .before .before .before .before .before .before .before .before .before .args in (
+      judged-done (a .files) (length (a .buffer .now)) (a .code) (sceneOf (a .i) (a .e) (a .f) (seenBytes (a .e) (a .f) (a .bytes .now) (a .held) (a .over .now)) (a .given .now)) (a .q) (c .before .before .before .before .before .before .before .before .before .before .facts .result) (c .before .before .before .before .before .before .before .before .before .judge .result) (c .before .before .before .before .before .before .before .before .number .result) (c .before .before .before .before .before .before .before .before .before .before .facts .ensures) (c .before .before .before .before .before .before .before .before .before .judge .ensures) (c .before .before .before .before .before .before .before .before .number .ensures) (c .before .before .before .before .before .if2 .taken) (c .before .before .before .carry .result) (c .next2 .result) (c .before .before .before .carry .ensures .0) (c .next2 .ensures),
+      c .before .before .before .carry .ensures .1 ∙ carried-buffer (a .files) (length (a .buffer .now)) (a .code) (sceneOf (a .i) (a .e) (a .f) (seenBytes (a .e) (a .f) (a .bytes .now) (a .held) (a .over .now)) (a .given .now)) (a .q) (is-done (a .files) (length (a .buffer .now)) (a .code) (sceneOf (a .i) (a .e) (a .f) (seenBytes (a .e) (a .f) (a .bytes .now) (a .held) (a .over .now)) (a .given .now)) (a .q) (c .before .before .before .before .before .before .before .before .before .before .facts .result) (c .before .before .before .before .before .before .before .before .before .judge .result) (c .before .before .before .before .before .before .before .before .number .result) (c .before .before .before .before .before .before .before .before .before .before .facts .ensures) (c .before .before .before .before .before .before .before .before .before .judge .ensures) (c .before .before .before .before .before .before .before .before .number .ensures) (c .before .before .before .before .before .if2 .taken)) (a .buffer .now),
+    )
 
 next-requires-3 : tie.Need-next-requires-3
 next-requires-3 c κs = search needs
 
 returns-3 : tie.Need-returns-3
 returns-3 c =
-    let a = c .before .before .before .before .before .before .before .before .before .before .before .args in
-    (judged-once (a .files) (length (a .buffer .now)) (a .code) (sceneOf (a .i) (a .e) (a .f) (seenBytes (a .e) (a .f) (a .bytes .now) (a .held) (a .over .now)) (a .given .now)) (a .q) (c .before .before .before .before .before .before .facts .result) (c .before .before .before .before .before .judge .result) (c .before .before .before .before .number .result) (c .before .before .before .before .before .before .facts .ensures) (c .before .before .before .before .before .judge .ensures) (c .before .before .before .before .number .ensures) (c .before .before .if1 .left) (c .before .if2 .left) _ (c .next3 .result) (c .next3 .ensures),
-    buffer-once (a .files) (length (a .buffer .now)) (a .code) (sceneOf (a .i) (a .e) (a .f) (seenBytes (a .e) (a .f) (a .bytes .now) (a .held) (a .over .now)) (a .given .now)) (a .q) (c .before .before .before .before .before .before .facts .result) (c .before .before .before .before .before .judge .result) (c .before .before .before .before .number .result) (c .before .before .before .before .before .before .facts .ensures) (c .before .before .before .before .before .judge .ensures) (c .before .before .before .before .number .ensures) (c .before .before .if1 .left) (c .before .if2 .left) (a .buffer .now))
+    let a = c .before .before .before .before .before .before .before .before .before .before .before .args in (
+      judged-once (a .files) (length (a .buffer .now)) (a .code) (sceneOf (a .i) (a .e) (a .f) (seenBytes (a .e) (a .f) (a .bytes .now) (a .held) (a .over .now)) (a .given .now)) (a .q) (c .before .before .before .before .before .before .facts .result) (c .before .before .before .before .before .judge .result) (c .before .before .before .before .number .result) (c .before .before .before .before .before .before .facts .ensures) (c .before .before .before .before .before .judge .ensures) (c .before .before .before .before .number .ensures) (c .before .before .if1 .left) (c .before .if2 .left) _ (c .next3 .result) (c .next3 .ensures),
+      buffer-once (a .files) (length (a .buffer .now)) (a .code) (sceneOf (a .i) (a .e) (a .f) (seenBytes (a .e) (a .f) (a .bytes .now) (a .held) (a .over .now)) (a .given .now)) (a .q) (c .before .before .before .before .before .before .facts .result) (c .before .before .before .before .before .judge .result) (c .before .before .before .before .number .result) (c .before .before .before .before .before .before .facts .ensures) (c .before .before .before .before .before .judge .ensures) (c .before .before .before .before .number .ensures) (c .before .before .if1 .left) (c .before .if2 .left) (a .buffer .now),
+    )
 
 pub lawful-verdict-spec : {M : Type 1} → statement M
 lawful-verdict-spec =
