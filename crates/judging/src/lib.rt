@@ -41,6 +41,9 @@ ghost use Rattle.geometry.specs.Sizes.{blocked, compressed, random};
 ghost use Rattle.geometry.specs.Sizes as Sizes;
 ghost use Rattle.directory.specs.Entries.{isKind};
 ghost use Rattle.sessions.specs.Session.{openFiles, extent, legal};
+ghost use Rattle.steps.specs.Look.{shown};
+ghost use Rattle.requests.specs.declared.Answer.the-variants.{Done};
+ghost use Rattle.judging.specs.Looks.{lookNumber, lookPart};
 ghost use Rattle.steps.specs.Next.{moved, counted, fileMet, entryDone, fixedAt};
 ghost use Rattle.steps.specs.Verdict.{seenBytes, seenScene, bufferNext, answerOf, verdictOf};
 ghost use Rattle.steps.proofs.Lawful.{Lawful};
@@ -487,4 +490,44 @@ pub fn verdict(
     let n = open_files(files);
     let bytes = extent_of(image, e);
     lawful_verdict(bytes, held, over, n, i, e, f, q, given, code, buffer)
+}
+
+// ---- looks
+
+// The answer to a look at granule g of entry i.
+pub fn look_answer(image: &[u8], s: Session, sound: bool, i: usize, g: u32) -> Answer
+    ensures { λ r. ⌜ r ≡ lookNumber (now (image .entry)) s sound i g ⌝ }
+{
+    let table = s.table;
+    let files = s.files;
+    let e = entry_of(table, i);
+    let f = file_of(files, i);
+    let n = open_files(files);
+    let lawful = is_legal(image, s) & sound;
+    judge(Request::GranuleLook(g), facts(false, lawful, n, e, f, 0, 0, 0))
+}
+
+// Granule g of an entry, in place.
+fn granule(image: &[u8], e: Entry, g: u32) -> &[u8]
+    requires { ⌜ (Fixed e g (Sizes.sector * e .sectors)) × (e .kind ≡ random) × (Sizes.sector * (e .first + e .sectors) ≤ length (now image)) ⌝ }
+    ensures { λ r. ⌜ now r ≡ shown Done e g (now (image .entry)) ⌝ }
+{
+    let k = Geometry::sector_of_record(e.kind, e.length, g);
+    let n = e.length as usize;
+    let at = Geometry::SECTOR * ((e.first as usize) + k);
+    &image[at..at + n]
+}
+
+// Granule g of entry i, in place in the image; an empty part where the look is refused.
+pub fn look(image: &[u8], s: Session, sound: bool, i: usize, g: u32) -> &[u8]
+    ensures { λ r. ⌜ now r ≡ lookPart (now (image .entry)) s sound i g ⌝ }
+{
+    let a = look_answer(image, s, sound, i, g);
+    if number(a) == 0 {
+        let table = s.table;
+        let e = entry_of(table, i);
+        granule(image, e, g)
+    } else {
+        &image[..0]
+    }
 }
