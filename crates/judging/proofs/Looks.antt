@@ -4,7 +4,7 @@ use mathlib.Core.Bool.{Bool, true, false, _&&_}
 use mathlib.Core.List.{List, []}
 use Prim.Native.Nat.{ℕ, _+_, _-_, _*_, _≤_}
 use native.Mathlib.Omega.{arith}
-use lib.ListN.{length, take, drop}
+use lib.ListN.{length}
 use borrow.Author.Tests.{eqb-true, eqb-false}
 use Rattle.geometry.specs.Bytes.{part}
 use Rattle.geometry.specs.Lists.{every}
@@ -22,7 +22,6 @@ use Rattle.sessions.proofs.Legal.{lawful-length, good-table}
 use Rattle.steps.specs.Next.{Scene, factsOf}
 use Rattle.steps.specs.Step.{plainScene, plainAnswer, bufferedScene, bufferedAnswer}
 use Rattle.steps.specs.Look.{shown, plainLookAnswer, bufferedLookAnswer}
-use Rattle.steps.proofs.Lawful.{Lawful}
 use Rattle.steps.proofs.Inside.{lawful}
 use Rattle.judging.specs.Looks.{lookNumber, lookPart}
 use Rattle.judging.specs.Turns.{factsBut, Fixed}
@@ -76,10 +75,11 @@ module _ (image : List ℕ) (s : Session) (sound : Bool) (i g n : ℕ) (a : Answ
   look-done z =
       let f : Finds g (factsOf (legal image s && sound) (openFiles (s .files)) 0 (GranuleLook g) (plainScene image s i [])) = done-allows (GranuleLook g) _ (done z) in
       let ok : legal image s ≡ true = and-left _ _ (f .live .legal) in
-      let l : Lies (sectorsOf image) e = lies (sectorsOf image) (s .table) (good-table image s ok) i (eqb-false (e .kind) 0 (f .live .used)) in
-      (fixed-from e (fileOf (s .files) i) g (sector * e .sectors) (lawful image s ok i (f .live .used)) refl (f .there),
-       eqb-true (e .kind) random (f .random),
-       omega (arith, l .ends, lawful-whole image (lawful-length image s ok)))
+      let l : Lies (sectorsOf image) e = lies (sectorsOf image) (s .table) (good-table image s ok) i (eqb-false (e .kind) 0 (f .live .used)) in (
+        fixed-from e (fileOf (s .files) i) g (sector * e .sectors) (lawful image s ok i (f .live .used)) refl (f .there),
+        eqb-true (e .kind) random (f .random),
+        omega (arith, l .ends, lawful-whole image (lawful-length image s ok)),
+      )
 
   pub look-shown : n ≡ 0 → shown Done e g image ≡ lookPart image s sound i g
   unfolding lookPart

@@ -1,3 +1,4 @@
+-- A granule begins at its sector, and ends in the extent, which lies in the image.
 use Rattle.judging.proofs.Looks.{granule-ends, granule-shown}
 use Rattle.geometry.specs.Sizes.{sector}
 use Rattle.geometry.specs.Bytes.{part}
@@ -7,9 +8,6 @@ use mathlib.Core.Path.{_≡_}
 use borrow.Author.Needs.{needs}
 use Rattle.judging.proofs.granule.Statement.{statement}
 use Rattle.judging.proofs.granule.Tie as tie
-use Rattle.judging.proofs.granule.Reads as reads
-use Rattle.judging.proofs.granule.Lts as lts
-use Rattle.geometry.proofs.Geometry.sector_of_record.Reads as sector-of-record-reads
 
 sector-of-record-requires : tie.Need-sector-of-record-requires
 sector-of-record-requires c κs = search needs

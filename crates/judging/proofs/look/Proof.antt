@@ -1,3 +1,4 @@
+-- Where the look is done, the granule lies in the image; else the part is empty.
 use Rattle.judging.proofs.Looks.{look-done, look-shown, look-none}
 use Rattle.requests.specs.declared.Answer.the-variants.{Done}
 use Rattle.directory.specs.declared.Entry.{Entry}
@@ -6,12 +7,6 @@ use mathlib.Core.Path.{ap, _∙_}
 use borrow.Author.Needs.{needs}
 use Rattle.judging.proofs.look.Statement.{statement}
 use Rattle.judging.proofs.look.Tie as tie
-use Rattle.judging.proofs.look.Reads as reads
-use Rattle.judging.proofs.look.Lts as lts
-use Rattle.directory.proofs.entry_of.Reads as entry-of-reads
-use Rattle.judging.proofs.granule.Reads as granule-reads
-use Rattle.judging.proofs.look_answer.Reads as look-answer-reads
-use Rattle.requests.proofs.number.Reads as number-reads
 
 look-answer-requires : tie.Need-look-answer-requires
 look-answer-requires c κs = search needs

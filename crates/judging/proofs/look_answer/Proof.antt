@@ -1,3 +1,4 @@
+-- A look is judged by the entry and its state.
 use Rattle.judging.proofs.Looks.{look-is}
 use Rattle.requests.specs.declared.Request.the-variants.{GranuleLook}
 use Rattle.requests.specs.Judge.{judge}
@@ -5,14 +6,6 @@ use mathlib.Core.Path.{ap, _∙_}
 use borrow.Author.Needs.{needs}
 use Rattle.judging.proofs.look_answer.Statement.{statement}
 use Rattle.judging.proofs.look_answer.Tie as tie
-use Rattle.judging.proofs.look_answer.Reads as reads
-use Rattle.judging.proofs.look_answer.Lts as lts
-use Rattle.directory.proofs.entry_of.Reads as entry-of-reads
-use Rattle.judging.proofs.facts.Reads as facts-reads
-use Rattle.requests.proofs.judge.Reads as judge-reads
-use Rattle.sessions.proofs.file_of.Reads as file-of-reads
-use Rattle.sessions.proofs.is_legal.Reads as is-legal-reads
-use Rattle.sessions.proofs.open_files.Reads as open-files-reads
 
 entry-of-requires : tie.Need-entry-of-requires
 entry-of-requires c κs = search needs
