@@ -1,17 +1,17 @@
 -- A record or granule of a file that is not compressed lies in its extent; a blocked one in one sector, so that it is the held sector's or is apart from it.
-use mathlib.Core.Path.{_≡_, refl, sym, ap, _∙_}
+use mathlib.Core.Path.{_≡_, sym, _∙_}
 use mathlib.Core.Bool.{Bool, true, false, _&&_}
 use mathlib.Core.List.{List}
 use Prim.Native.Nat.{ℕ, _+_, _*_, _≤_, _<_}
 use native.Mathlib.Omega.{arith}
 use lib.Dec.{eqb}
 use lib.ListN.{length}
-use borrow.Author.Tests.{eqb-true, eqb-false, eq-eqb}
+use borrow.Author.Tests.{eqb-true, eqb-false}
 use Rattle.geometry.specs.Bytes.{part, lay}
 use Rattle.geometry.specs.Sizes.{sector, blocked}
 use Rattle.geometry.specs.Places.{placeOf, byteOf}
 use Rattle.geometry.proofs.Bytes.{Apart, part-lay-apart, part-lay-inside}
-use Rattle.geometry.proofs.Places.{byte-blocked, record-inside, sector-below, two-sectors, inside-apart}
+use Rattle.geometry.proofs.Places.{byte-blocked, record-inside, sector-below}
 use Rattle.geometry.proofs.Tests.{either, and-left, and-right}
 use Rattle.directory.specs.Entries.{isKind}
 use Rattle.packing.specs.Reading.{overlaid}
@@ -28,6 +28,9 @@ overlaid-none : (bytes over : List ℕ) (held : ℕ) → eqb (length over) secto
 unfolding overlaid
 overlaid-none bytes over held h = rw (h, overlaid)
 
+pub ends-in : (e : Entry) (k n : ℕ) → Fixed e k n → byteOf (placeOf (e .kind) (e .length) k) + e .length ≤ n
+ends-in e k n x = rw (x .whole) (record-inside (e .kind) (e .length) (x .some) (x .short) k (e .sectors) (x .there))
+
 module _ (e : Entry) (k : ℕ) (bytes over : List ℕ) (held : ℕ) (x : Fixed e k (length bytes)) where
   abbrev p : Place
   p = placeOf (e .kind) (e .length) k
@@ -41,7 +44,7 @@ module _ (e : Entry) (k : ℕ) (bytes over : List ℕ) (held : ℕ) (x : Fixed e
   tested s r t h q k = rw (← h) (sym q ∙ k)
 
   pub ends : byteOf p + e .length ≤ length bytes
-  ends = rw (x .whole) (record-inside (e .kind) (e .length) (x .some) (x .short) k (e .sectors) (x .there))
+  ends = ends-in e k (length bytes) x
 
   below : p .sector < e .sectors
   below = sector-below (e .kind) (e .length) (x .some) (x .short) k (e .sectors) (x .there)

@@ -2,3 +2,5 @@ pub mod Turns
 pub mod Written
 pub mod Fixed
 pub mod Here
+pub mod Entered
+pub mod Looks

@@ -53,9 +53,12 @@ factsBut bad legal files e f given code buffer = record {
 
 -- ---- decoding, and copying, in its turn
 
+abbrev pub sceneOf : ℕ → Entry → OpenFile → List ℕ → List ℕ → Scene
+sceneOf i e f bytes given = record { number = i; entry = e; file = f; bytes = bytes; given = given }
+
 -- a file and its bytes, as a request finds them
 abbrev pub sight : Entry → OpenFile → List ℕ → Scene
-sight e f bytes = record { number = 0; entry = e; file = f; bytes = bytes; given = [] }
+sight e f bytes = sceneOf 0 e f bytes []
 
 -- record or granule k of a file that is not compressed, in the bytes of its extent
 unfoldable pub recordIn : Entry → ℕ → List ℕ → List ℕ

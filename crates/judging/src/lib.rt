@@ -36,15 +36,19 @@ ghost use Prim.Native.Nat.{_+_, _-_, _*_, _≤_, _<_, _^_};
 ghost use lib.Dec.{eqb};
 ghost use lib.ListN.{length};
 ghost use Rattle.geometry.specs.Bytes as Bytes;
-ghost use Rattle.geometry.specs.Places.{origin, capacity};
+ghost use Rattle.geometry.specs.Places.{origin};
 ghost use Rattle.geometry.specs.Sizes.{blocked, compressed, random};
 ghost use Rattle.geometry.specs.Sizes as Sizes;
 ghost use Rattle.directory.specs.Entries.{isKind};
-ghost use Rattle.steps.specs.Next.{moved, counted, fileMet, entryDone, fixedAt};
-ghost use Rattle.steps.specs.Verdict.{seenBytes};
+ghost use Rattle.sessions.specs.Session.{openFiles, extent, legal};
+ghost use Rattle.steps.specs.Look.{shown};
+ghost use Rattle.requests.specs.declared.Answer.the-variants.{Done};
+ghost use Rattle.judging.specs.Looks.{lookNumber, lookPart};
+ghost use Rattle.steps.specs.Next.{moved, counted, fileMet, entryDone};
+ghost use Rattle.steps.specs.Verdict.{seenBytes, seenScene, bufferNext, answerOf, verdictOf};
 ghost use Rattle.steps.proofs.Lawful.{Lawful};
 ghost use Rattle.requests.proofs.InTurn.{supposing};
-ghost use Rattle.judging.specs.Turns.{factsBut, sight, Ready, endLed, hereLed, hereInto, isAstray, placeIn, turnLed, turnInto, TurnOf, writtenAt, Reaches, carriedTo, carriedInto, CarryOf, Fixed, recordIn, blockedBytes, orderFrom, doneFrom, verdictFrom};
+ghost use Rattle.judging.specs.Turns.{factsBut, sight, Ready, endLed, hereLed, hereInto, isAstray, placeIn, turnLed, turnInto, TurnOf, writtenAt, Reaches, carriedTo, carriedInto, CarryOf, Fixed, recordIn, blockedBytes, orderFrom, doneFrom, sceneOf, verdictFrom};
 
 // ---- what a request is judged by
 
@@ -97,10 +101,7 @@ fn supposed(f: Facts, bad: bool) -> Facts
 fn start() -> Place
     ensures { λ r. ⌜ r ≡ origin ⌝ }
 {
-    Place {
-        sector: 0,
-        byte: 0,
-    }
+    Place { sector: 0, byte: 0 }
 }
 
 // One less, and 0 of 0.
@@ -146,8 +147,9 @@ fn done_entry(q: Request, e: Entry, f: OpenFile) -> Entry
     requires { ⌜ f .position + 1 < 2 ^ 32 ⌝ }
     ensures { λ r. ⌜ r ≡ entryDone q (sight e f []) ⌝ }
 {
+    let past = f.position + 1;
     match q {
-        Request::Write => counted(e, f.position + 1, 0),
+        Request::Write => counted(e, past, 0),
         Request::Position(o) => match o {
             Order::WriteMark => counted(e, f.position, 1),
             _ => e,
@@ -173,13 +175,14 @@ fn done_order(o: Order, e: Entry, f: OpenFile, p: Place) -> OpenFile
     requires { ⌜ f .position + 1 < 2 ^ 32 ⌝ }
     ensures { λ r. ⌜ r ≡ orderFrom o e f p ⌝ }
 {
+    let past = f.position + 1;
     let here = f.here;
     let end = f.end;
     match o {
         Order::WriteMark => moved(f, f.position, true, here, here),
         Order::RewindOnline => moved(f, 0, false, start(), end),
         Order::RewindOffline => idle(),
-        Order::RecordForward => moved(f, f.position + 1, false, p, end),
+        Order::RecordForward => moved(f, past, false, p, end),
         Order::RecordBack => moved(f, less_one(f.position), false, here, end),
         Order::FileForward => moved(f, e.count, true, end, end),
         Order::FileBack => moved(f, f.position, false, here, end),
@@ -191,6 +194,7 @@ fn done_file(q: Request, i: usize, e: Entry, f: OpenFile, p: Place) -> OpenFile
     requires { ⌜ f .position + 1 < 2 ^ 32 ⌝ }
     ensures { λ r. ⌜ r ≡ doneFrom q i e f p ⌝ }
 {
+    let past = f.position + 1;
     let end = f.end;
     match q {
         Request::Open => OpenFile {
@@ -201,8 +205,8 @@ fn done_file(q: Request, i: usize, e: Entry, f: OpenFile, p: Place) -> OpenFile
             here: start(),
             end: p,
         },
-        Request::Read => moved(f, f.position + 1, false, p, end),
-        Request::Write => moved(f, f.position + 1, false, p, p),
+        Request::Read => moved(f, past, false, p, end),
+        Request::Write => moved(f, past, false, p, p),
         Request::Position(o) => done_order(o, e, f, p),
         _ => f,
     }
@@ -296,7 +300,7 @@ fn lay_part(s: &[u8], at: usize, n: usize, buffer: &mut [u8])
     lay(buffer, 0, &s[at..at + n]);
 }
 
-// Whether blocked record's sector, of that number, is the held one, which lies in over.
+// Whether a blocked record's sector, of that number, is the held one, which lies in over.
 fn is_held(e: Entry, sector: usize, held: u32, over: &[u8]) -> bool
     ensures { λ r. ⌜ r ≡ (isKind blocked e && eqb (length (now (over .entry))) Sizes.sector) && eqb held sector ⌝ }
 {
@@ -320,14 +324,7 @@ fn copy_record(bytes: &[u8], held: u32, over: &[u8], e: Entry, k: u32, buffer: &
 }
 
 // Reads the record at the position, if there is one, into the first bytes of the buffer. A bad code leaves the buffer as it was.
-fn read_here(
-    bytes: &[u8],
-    held: u32,
-    over: &[u8],
-    e: Entry,
-    f: OpenFile,
-    buffer: &mut [u8],
-) -> Led
+fn read_here(bytes: &[u8], held: u32, over: &[u8], e: Entry, f: OpenFile, buffer: &mut [u8]) -> Led
     requires { ⌜ (Ready e f (length (now bytes))) × (isKind random e ≡ false) × (e .length ≤ length (now buffer)) ⌝ }
     ensures { λ r. ⌜ (r ≡ hereLed e f (seenBytes e f (now (bytes .entry)) held (now (over .entry))))
         × (now (buffer .exit) ≡ hereInto e f (seenBytes e f (now (bytes .entry)) held (now (over .entry))) (now (buffer .entry))) ⌝ }
@@ -403,5 +400,140 @@ fn carry(
             start()
         }
         _ => start(),
+    }
+}
+
+// The bytes of an entry's extent.
+fn extent_of(image: &[u8], e: Entry) -> &[u8]
+    ensures { λ r. ⌜ now r ≡ extent e (now (image .entry)) ⌝ }
+{
+    part(
+        image,
+        Geometry::SECTOR * (e.first as usize),
+        Geometry::SECTOR * (e.sectors as usize),
+    )
+}
+
+// The verdict on a used entry of a legal session; bytes is its extent.
+fn lawful_verdict(
+    bytes: &[u8],
+    held: u32,
+    over: &[u8],
+    files: u32,
+    i: usize,
+    e: Entry,
+    f: OpenFile,
+    q: Request,
+    given: &[u8],
+    code: usize,
+    buffer: &mut [u8],
+) -> Verdict
+    requires { ⌜ (Lawful e f) × (length (now bytes) ≡ Sizes.sector * e .sectors) ⌝ }
+    ensures { λ r. ⌜ (r ≡ verdictOf true files (length (now (buffer .entry))) code q
+        (sceneOf i e f (seenBytes e f (now (bytes .entry)) held (now (over .entry))) (now (given .entry))))
+        × (now (buffer .exit) ≡ bufferNext (answerOf true files (length (now (buffer .entry))) code q
+        (sceneOf i e f (seenBytes e f (now (bytes .entry)) held (now (over .entry))) (now (given .entry)))) q
+        (sceneOf i e f (seenBytes e f (now (bytes .entry)) held (now (over .entry))) (now (given .entry))) (now (buffer .entry))) ⌝ }
+{
+    let known = facts(true, true, files, e, f, given.len(), code, buffer.len());
+    let first = judge(q, known);
+    let n = number(first);
+    let here = f.here;
+    if n == 11 {
+        let led = decode(q, bytes, held, over, e, f, buffer);
+        let a = judge(q, supposed(known, is_astray(led)));
+        return next(a, q, i, e, f, place_in(led));
+    }
+    if n == 0 {
+        let p = carry(q, bytes, held, over, e, f, code, buffer);
+        return next(first, q, i, e, f, p);
+    }
+    next(first, q, i, e, f, here)
+}
+
+// The verdict on a request on entry i, and the caller's buffer behind it. sound: what an engine asks of its sessions beyond the rules of every
+// session. The held sector of this file, if there is one, is lent as over; code is the length of the code of the bytes given.
+pub fn verdict(
+    image: &[u8],
+    s: Session,
+    sound: bool,
+    held: u32,
+    over: &[u8],
+    i: usize,
+    q: Request,
+    given: &[u8],
+    code: usize,
+    buffer: &mut [u8],
+) -> Verdict
+    ensures { λ r. ⌜ (r ≡ verdictOf (legal (now (image .entry)) s && sound) (openFiles (s .files)) (length (now (buffer .entry))) code q
+        (seenScene (now (image .entry)) s held (now (over .entry)) i (now (given .entry))))
+        × (now (buffer .exit) ≡ bufferNext (answerOf (legal (now (image .entry)) s && sound) (openFiles (s .files)) (length (now (buffer .entry))) code q
+        (seenScene (now (image .entry)) s held (now (over .entry)) i (now (given .entry)))) q
+        (seenScene (now (image .entry)) s held (now (over .entry)) i (now (given .entry))) (now (buffer .entry))) ⌝ }
+{
+    let table = s.table;
+    let files = s.files;
+    let e = entry_of(table, i);
+    let f = file_of(files, i);
+    let lawful = is_legal(image, s) & sound;
+    if !lawful {
+        return Verdict {
+            answer: Answer::Refused(Refusal::NotLegal),
+            entry: e,
+            file: f,
+        };
+    }
+    if e.kind == Geometry::FREE {
+        return Verdict {
+            answer: Answer::Refused(Refusal::NotThere),
+            entry: e,
+            file: f,
+        };
+    }
+    let n = open_files(files);
+    let bytes = extent_of(image, e);
+    lawful_verdict(bytes, held, over, n, i, e, f, q, given, code, buffer)
+}
+
+// ---- looks
+
+// The answer to a look at granule g of entry i.
+pub fn look_answer(image: &[u8], s: Session, sound: bool, i: usize, g: u32) -> Answer
+    ensures { λ r. ⌜ r ≡ lookNumber (now (image .entry)) s sound i g ⌝ }
+{
+    let table = s.table;
+    let files = s.files;
+    let e = entry_of(table, i);
+    let f = file_of(files, i);
+    let n = open_files(files);
+    let lawful = is_legal(image, s) & sound;
+    judge(
+        Request::GranuleLook(g),
+        facts(false, lawful, n, e, f, 0, 0, 0),
+    )
+}
+
+// Granule g of an entry, in place.
+fn granule(image: &[u8], e: Entry, g: u32) -> &[u8]
+    requires { ⌜ (Fixed e g (Sizes.sector * e .sectors)) × (e .kind ≡ random) × (Sizes.sector * (e .first + e .sectors) ≤ length (now image)) ⌝ }
+    ensures { λ r. ⌜ now r ≡ shown Done e g (now (image .entry)) ⌝ }
+{
+    let k = Geometry::sector_of_record(e.kind, e.length, g);
+    let n = e.length as usize;
+    let at = Geometry::SECTOR * ((e.first as usize) + k);
+    &image[at..at + n]
+}
+
+// Granule g of entry i, in place in the image; an empty part where the look is refused.
+pub fn look(image: &[u8], s: Session, sound: bool, i: usize, g: u32) -> &[u8]
+    ensures { λ r. ⌜ now r ≡ lookPart (now (image .entry)) s sound i g ⌝ }
+{
+    let a = look_answer(image, s, sound, i, g);
+    if number(a) == 0 {
+        let table = s.table;
+        let e = entry_of(table, i);
+        granule(image, e, g)
+    } else {
+        &image[..0]
     }
 }

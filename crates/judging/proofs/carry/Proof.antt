@@ -1,3 +1,4 @@
+-- By the request; a granule's file holds no sector.
 use Rattle.requests.proofs.Request as Request
 use Rattle.requests.specs.declared.Request.the-variants.{Open, Read, Write, GranuleRead, GranuleWrite, GranuleLook, Position}
 use Rattle.requests.specs.declared.Request.{Request}
@@ -18,11 +19,6 @@ use mathlib.Core.Path.{_≡_, refl, sym, ap, subst, _∙_}
 use borrow.Author.Needs.{needs}
 use Rattle.judging.proofs.carry.Statement.{statement}
 use Rattle.judging.proofs.carry.Tie as tie
-use Rattle.judging.proofs.carry.Reads as reads
-use Rattle.judging.proofs.carry.Lts as lts
-use Rattle.judging.proofs.behind_written.Reads as behind-written-reads
-use Rattle.judging.proofs.copy_record.Reads as copy-record-reads
-use Rattle.judging.proofs.start.Reads as start-reads
 
 -- any other request moves nothing
 others : (q : Request) (code : ℕ) (e : Entry) (f : OpenFile) (bytes old : List ℕ) (p : Place) → OneOf (0 ∷ 1 ∷ 4 ∷ 5 ∷ 6 ∷ []) (tagOf (Request.the-type) q) → p ≡ origin
@@ -71,8 +67,11 @@ returns-2 c =
     let a = c .before .before .before .before .before .before .before .before .before .before .before .args in
     let h : CarryOf (GranuleRead (c .before .before .before .before .before .before .q .given .0 .0)) (a .code) (a .e) (a .f) (length (a .bytes .now)) =
     subst (λ (q : Request). CarryOf q (a .code) (a .e) (a .f) (length (a .bytes .now))) (c .before .before .before .before .before .before .q .given .1) (c .before .before .before .before .before .before .before .before .before .before .before .pre) in
-    rw (c .before .before .before .before .before .before .q .given .1) (c .start .ensures, c .before .before .before .copy-record .ensures
-    ∙ ap (λ (b : List ℕ). lay (a .buffer .now) 0 (recordIn (a .e) (c .before .before .before .before .before .before .q .given .0 .0) b)) (sym (seen-random (a .e) (a .f) (a .bytes .now) (a .over .now) (a .held) (h .1) (h .2))))
+    rw (c .before .before .before .before .before .before .q .given .1) (
+      c .start .ensures,
+      c .before .before .before .copy-record .ensures
+          ∙ ap (λ (b : List ℕ). lay (a .buffer .now) 0 (recordIn (a .e) (c .before .before .before .before .before .before .q .given .0 .0) b)) (sym (seen-random (a .e) (a .f) (a .bytes .now) (a .over .now) (a .held) (h .1) (h .2))),
+    )
 
 returns-3 : tie.Need-returns-3
 returns-3 c =

@@ -1,3 +1,4 @@
+-- By the request; an opening finds its file not open, so that no held sector counts.
 use Rattle.requests.proofs.Request as Request
 use Rattle.requests.specs.declared.Request.the-variants.{Open, Read, Write, GranuleRead, GranuleWrite, GranuleLook, Position}
 use Rattle.requests.specs.declared.Request.{Request}
@@ -18,12 +19,6 @@ use mathlib.Core.Path.{_≡_, refl, sym, ap, subst, _∙_}
 use borrow.Author.Needs.{needs}
 use Rattle.judging.proofs.decode.Statement.{statement}
 use Rattle.judging.proofs.decode.Tie as tie
-use Rattle.judging.proofs.decode.Reads as reads
-use Rattle.judging.proofs.decode.Lts as lts
-use Rattle.judging.proofs.end_place.Reads as end-place-reads
-use Rattle.judging.proofs.read_here.Reads as read-here-reads
-use Rattle.judging.proofs.skip_here.Reads as skip-here-reads
-use Rattle.judging.proofs.start.Reads as start-reads
 
 -- any other request decodes nothing
 others : (q : Request) (e : Entry) (f : OpenFile) (bytes old : List ℕ) (p : Place) → OneOf (2 ∷ 3 ∷ 4 ∷ 5 ∷ []) (tagOf (Request.the-type) q) → p ≡ origin

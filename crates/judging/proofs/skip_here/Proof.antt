@@ -1,3 +1,4 @@
+-- At the end nothing is passed over; a compressed record is measured; any other has its place in the extent by its number.
 use Rattle.judging.proofs.Here.{packed-led, fixed-led}
 use Rattle.judging.proofs.Turns.{here-end}
 use borrow.Author.Tests.{le-ltb, eq-eqb, ne-eqb}
@@ -5,9 +6,6 @@ use mathlib.Core.Path.{sym, _∙_}
 use borrow.Author.Needs.{needs}
 use Rattle.judging.proofs.skip_here.Statement.{statement}
 use Rattle.judging.proofs.skip_here.Tie as tie
-use Rattle.judging.proofs.skip_here.Reads as reads
-use Rattle.judging.proofs.skip_here.Lts as lts
-use Rattle.packing.proofs.skip_behind.Reads as skip-behind-reads
 
 returns : tie.Need-returns
 returns c =
