@@ -11,7 +11,7 @@ use Rattle.geometry.specs.Places.{origin, sectorsFor, perSector, capacity}
 use Rattle.geometry.specs.Sizes.{sectorsOf, lawfulLength}
 use Rattle.directory.specs.Entries.{entryFrom, entryBytes, entriesFrom, tableOf, entryAt, isMarked}
 use Rattle.directory.specs.Rules.{kindKnown, freeIsZero, capital, digit, restOfName, isName, nameGood, namesDiffer, extentInside, extentsApart, flagsKnown, longest, lengthGood, countGood, randomBare, tableRules, tableGood}
-use Rattle.requests.proofs.Live.{first-is-12}
+use Rattle.requests.proofs.First.{not-legal}
 use Rattle.sessions.specs.Session.{idle, fresh, bare, isOf, openFiles, ofUsedEntry, ofOther, positionGood, beyondGood, placeGood, placesGood, heldGood, sessionRules, legal, bufferedLegal}
 use Rattle.steps.specs.Next.{factsOf}
 use Rattle.steps.specs.Step.{After, bufferedAnswer}
@@ -20,11 +20,8 @@ use Rattle.demands.specs.Demand1.{Orderly, Proper}
 use Rattle.geometry.specs.declared.Place.{Place}
 use Rattle.directory.specs.declared.Entry.{Entry}
 use Rattle.requests.specs.declared.Answer.the-variants.{Refused}
-use Rattle.requests.specs.declared.Facts.{Facts}
-use Rattle.requests.specs.declared.Order.the-variants.{WriteMark, RewindOnline, RewindOffline, RecordForward, RecordBack, FileForward, FileBack}
 use Rattle.requests.specs.declared.Refusal.the-variants.{NotLegal}
 use Rattle.requests.specs.declared.Request.{Request}
-use Rattle.requests.specs.declared.Request.the-variants.{Open, Read, Write, GranuleRead, GranuleWrite, GranuleLook, Position}
 use Rattle.sessions.specs.declared.BufferedFile.{BufferedFile}
 use Rattle.sessions.specs.declared.BufferedSession.{BufferedSession}
 use Rattle.sessions.specs.declared.OpenFile.{OpenFile}
@@ -40,7 +37,7 @@ module _ (E : Engine) (orderly : Orderly E) (image : List ℕ) (s : E .Session) 
 
   pub answers-12 : r .answer ≡ Refused NotLegal
   unfolding bufferedAnswer factsOf
-  answers-12 = p .ordered ∙ first-is-12 q _ e
+  answers-12 = p .ordered ∙ not-legal q _ e
 
   pub nothing-changed : (r .image ≡ image) × (r .session ≡ s) × (r .buffer ≡ buffer)
   nothing-changed = p .refused NotLegal answers-12

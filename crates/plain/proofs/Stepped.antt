@@ -1,13 +1,13 @@
 -- A request is what its verdict says: nothing is held, so the scene that is judged is the engine's own; and each answer is its own case of the step.
-use mathlib.Core.Path.{_≡_, refl, sym, ap, _∙_}
+use mathlib.Core.Path.{_≡_, refl, ap, _∙_}
 use mathlib.Core.Bool.{Bool, true, false, _&&_, _||_}
 use mathlib.Core.List.{List, []}
-use Prim.Native.Nat.{ℕ, _+_, _≤_, _<_}
+use Prim.Native.Nat.{ℕ, _<_}
 use native.Mathlib.Omega.{arith}
-use lib.ListN.{length, set, take}
-use lib.Seq.{sets, sets-eq, set-getD}
+use lib.ListN.{length, set}
+use lib.Seq.{sets, set-getD}
 use borrow.Author.Tests.{eqb-true, ne-eqb, eqb-false}
-use Rattle.geometry.specs.Bytes.{part, lay}
+use Rattle.geometry.specs.Bytes.{part}
 use Rattle.geometry.specs.Sizes.{entries, free, compressed, blocked}
 use Rattle.geometry.proofs.Tests.{either}
 use Rattle.coding.specs.Encode.{codeOf}
@@ -16,15 +16,15 @@ use Rattle.packing.specs.Reading.{overlaid}
 use Rattle.requests.specs.Judge.{judge}
 use Rattle.sessions.specs.Session.{extent, fileOf, slotOf, openFiles, legal}
 use Rattle.steps.specs.Effects.{effects, plainAll}
-use Rattle.steps.specs.Next.{Scene, factsOf, codeLength, entryDone, fileDone, fileMet}
-use Rattle.steps.specs.Step.{After, plainScene, plainAnswer, plainAfter, plainStep}
+use Rattle.steps.specs.Next.{Scene, factsOf, codeLength}
+use Rattle.steps.specs.Step.{plainScene, plainAnswer, plainAfter, plainStep}
 use Rattle.steps.specs.Verdict.{seenBytes, seenScene, entryNext, fileNext, bufferNext, answerOf, verdictOf}
 use Rattle.steps.proofs.Inside.{lawful}
 use Rattle.straight.specs.Straight.{codeGiven, Encoded}
 use Rattle.straight.proofs.Judged.{right-length, short-coded, room-coded, judgement, judged, buffer-judged}
 use Rattle.directory.proofs.Good.{used-inside}
-use Rattle.requests.proofs.Done.{Allows, Writes, done-allows}
-use Rattle.requests.proofs.Live.{Real, done-real}
+use Rattle.requests.proofs.Done.{Writes, done-allows}
+use Rattle.requests.proofs.Live.{done-real}
 use Rattle.directory.specs.declared.Entry.{Entry}
 use Rattle.requests.specs.declared.Request.{Request}
 use Rattle.requests.specs.declared.Request.the-variants.{Write}

@@ -4,6 +4,7 @@ use directory::entry_of;
 use directory::stamp;
 use geometry::Geometry;
 use geometry::part;
+use judging::verdict;
 use mounting::PlainMounted;
 use requests::Answer;
 use requests::Order;
@@ -16,11 +17,9 @@ use sessions::slot_of;
 use sessions::spot_of;
 use steps::Verdict;
 use straight::encode_given;
-use straight::shown;
 use straight::store;
 use straight::write_blocked;
 use straight::write_coded;
-use verdicts::verdict;
 ghost use mathlib.Core.Path.{_≡_};
 ghost use mathlib.Core.Bool.{true};
 ghost use Prim.Native.Nat.{_<_};
@@ -120,7 +119,15 @@ fn with_next(s: Session, i: usize, v: Verdict) -> Session
 }
 
 // A request, with room for a code.
-fn request_in(image: &mut [u8], s: Session, i: usize, q: Request, given: &[u8], code: &mut [u8; 135], buffer: &mut [u8]) -> Reply
+fn request_in(
+    image: &mut [u8],
+    s: Session,
+    i: usize,
+    q: Request,
+    given: &[u8],
+    code: &mut [u8; 135],
+    buffer: &mut [u8],
+) -> Reply
     ensures { λ r. ⌜ after r (now (image .exit)) (now (buffer .exit)) ≡ plainStep (now (image .entry)) s i q (now (given .entry)) (now (buffer .entry)) ⌝ }
 {
     let t = s.table;
@@ -151,7 +158,14 @@ fn request_in(image: &mut [u8], s: Session, i: usize, q: Request, given: &[u8], 
 }
 
 // One request on entry i: a write takes its bytes from what is given, a read lays them in the buffer.
-pub fn request(image: &mut [u8], s: Session, i: usize, q: Request, given: &[u8], buffer: &mut [u8]) -> Reply
+pub fn request(
+    image: &mut [u8],
+    s: Session,
+    i: usize,
+    q: Request,
+    given: &[u8],
+    buffer: &mut [u8],
+) -> Reply
     ensures { λ r. ⌜ after r (now (image .exit)) (now (buffer .exit)) ≡ plainStep (now (image .entry)) s i q (now (given .entry)) (now (buffer .entry)) ⌝ }
 {
     let mut code = [0u8; 135];
@@ -168,30 +182,18 @@ pub fn mount(image: &[u8]) -> PlainMounted
     mounting::mount(image)
 }
 
-// The answer to a look, with nothing to read into.
-fn look_in(image: &[u8], s: Session, i: usize, g: u32, none: &mut [u8; 0]) -> Answer
-    ensures { λ r. ⌜ r ≡ plainLookAnswer (now (image .entry)) s i g ⌝ }
-{
-    let empty = part(image, 0, 0);
-    let v = verdict(image, s, true, 0, empty, i, Request::GranuleLook(g), empty, 0, none);
-    v.answer
-}
-
 // The answer to a look at granule g of entry i.
 pub fn look_number(image: &[u8], s: Session, i: usize, g: u32) -> Answer
     ensures { λ r. ⌜ r ≡ plainLookAnswer (now (image .entry)) s i g ⌝ }
 {
-    let mut none = [0u8; 0];
-    look_in(image, s, i, g, &mut none)
+    judging::look_answer(image, s, true, i, g)
 }
 
-// Granule g of entry i, shown in place in the image; an empty part where that is refused.
+// Granule g of entry i, shown in place in the image; an empty part where the look is refused.
 pub fn look(image: &[u8], s: Session, i: usize, g: u32) -> &[u8]
     ensures { λ r. ⌜ now r ≡ plainLook (now (image .entry)) s i g ⌝ }
 {
-    let t = s.table;
-    let e = entry_of(t, i);
-    shown(image, look_number(image, s, i, g), e, g)
+    judging::look(image, s, true, i, g)
 }
 
 // Where entry i's file stands.

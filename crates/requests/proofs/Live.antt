@@ -5,10 +5,7 @@ use mathlib.Core.Bool.{true, false}
 use Prim.Native.Nat.{_<_}
 use lib.Dec.{eqb}
 use Rattle.geometry.specs.Sizes.{free, mostOpen}
-use Rattle.requests.specs.Judge.{whether, tests, orElse, firstOf, judge}
 use Rattle.requests.proofs.Done.{Live, Allows, Meets, readsMark, skipsMark, backOver, backAtStart, fileBackToStart}
-use Rattle.requests.specs.declared.Answer.the-variants.{Refused}
-use Rattle.requests.specs.declared.Refusal.the-variants.{NotLegal}
 use Rattle.requests.specs.declared.Edge.{Edge}
 use Rattle.requests.specs.declared.Facts.{Facts}
 use Rattle.requests.specs.declared.Order.the-variants.{WriteMark, RewindOnline, RewindOffline, RecordForward, RecordBack, FileForward, FileBack}
@@ -79,20 +76,3 @@ done-place q f a = go q a (done-live q f a)
     go (GranuleWrite g) a l = inl (l .opened)
     go (GranuleLook g) a l = inl (l .opened)
     go (Position o) a l = inl (l .opened)
-
--- 12 is the first test of every request
-pub first-is-12 : (q : Request) (f : Facts) → f .legal ≡ false → judge q f ≡ Refused NotLegal
-unfolding judge tests firstOf orElse whether
-first-is-12 Open f e = rw e
-first-is-12 Read f e = rw e
-first-is-12 Write f e = rw e
-first-is-12 (GranuleRead g) f e = rw e
-first-is-12 (GranuleWrite g) f e = rw e
-first-is-12 (GranuleLook g) f e = rw e
-first-is-12 (Position WriteMark) f e = rw e
-first-is-12 (Position RewindOnline) f e = rw e
-first-is-12 (Position RewindOffline) f e = rw e
-first-is-12 (Position RecordForward) f e = rw e
-first-is-12 (Position RecordBack) f e = rw e
-first-is-12 (Position FileForward) f e = rw e
-first-is-12 (Position FileBack) f e = rw e

@@ -1,7 +1,7 @@
 -- A verdict with the code that `encode_given` gives is the step's: in a legal session that is the code of the bytes given, and in any other
 -- every request gets 12.
-use mathlib.Core.Path.{_≡_, refl, sym, ap, _∙_}
-use mathlib.Core.Bool.{Bool, true, false, _&&_, false≢true}
+use mathlib.Core.Path.{_≡_, refl, ap, _∙_}
+use mathlib.Core.Bool.{Bool, true, false}
 use mathlib.Core.List.{List}
 use Prim.Native.Nat.{ℕ, _+_, _≤_}
 use native.Mathlib.Omega.{arith}
@@ -14,10 +14,10 @@ use Rattle.geometry.specs.Sizes.{compressed}
 use Rattle.geometry.proofs.Tests.{either, and-both}
 use Rattle.coding.specs.Encode.{codeOf}
 use Rattle.coding.proofs.Sizes.{codeOf-length}
-use Rattle.directory.specs.Entries.{isKind, isFree}
+use Rattle.directory.specs.Entries.{isKind}
 use Rattle.directory.specs.Rules.{longest}
 use Rattle.requests.specs.Judge.{judge}
-use Rattle.requests.proofs.Live.{first-is-12}
+use Rattle.requests.proofs.First.{not-legal}
 use Rattle.steps.specs.Next.{Scene, codeLength, factsWith, factsOf}
 use Rattle.steps.specs.Verdict.{entryNext, fileNext, bufferNext, fileWith, answerOf, verdictOf}
 use Rattle.steps.proofs.Lawful.{Lawful}
@@ -69,11 +69,11 @@ module _ (files buffer : ℕ) (q : Request) where
 
   illegal-with : (n : ℕ) (c : Scene) → verdictOf false files buffer n q c ≡ twelve (c .entry) (c .file)
   unfolding verdictOf entryNext fileWith
-  illegal-with n c = rw (first-is-12 q (factsWith false files buffer n q c) refl)
+  illegal-with n c = rw (not-legal q (factsWith false files buffer n q c) refl)
 
   illegal : (c : Scene) → judgement false files buffer q c ≡ twelve (c .entry) (c .file)
   unfolding entryNext fileNext factsOf
-  illegal c = rw (first-is-12 q (factsOf false files buffer q c) refl)
+  illegal c = rw (not-legal q (factsOf false files buffer q c) refl)
 
   -- with that length, if the session is legal
   pub judged : (legal : Bool) (n : ℕ) (c d : Scene) → c .entry ≡ d .entry → c .file ≡ d .file → (legal ≡ true → c ≡ d)
@@ -86,4 +86,4 @@ module _ (files buffer : ℕ) (q : Request) where
       → bufferNext (answerOf legal files buffer n q c) q c old ≡ bufferNext (judge q (factsOf legal files buffer q d)) q d old
   unfolding bufferNext factsOf
   buffer-judged true n c d h k old = rw (h refl, k refl)
-  buffer-judged false n c d h k old = rw (first-is-12 q (factsWith false files buffer n q c) refl, first-is-12 q (factsOf false files buffer q d) refl)
+  buffer-judged false n c d h k old = rw (not-legal q (factsWith false files buffer n q c) refl, not-legal q (factsOf false files buffer q d) refl)

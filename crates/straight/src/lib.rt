@@ -6,24 +6,20 @@ use geometry::Place;
 use geometry::lay_padded;
 use geometry::part;
 use packing::fits_here;
-use requests::Answer;
 use sessions::OpenFile;
 ghost use mathlib.Core.Path.{_≡_};
 ghost use mathlib.Core.List.{[], map};
-ghost use Prim.Native.Nat.{_+_, _-_, _*_, _≤_, _<_, _^_};
+ghost use Prim.Native.Nat.{_+_, _-_, _≤_, _<_, _^_};
 ghost use lib.ListN.{length};
 ghost use lib.Seq.{sets};
 ghost use Rattle.geometry.specs.Bytes.{padded};
 ghost use Rattle.geometry.specs.Bytes as Bytes;
-ghost use Rattle.geometry.specs.Sizes.{random};
 ghost use Rattle.geometry.specs.Sizes as Sizes;
-ghost use Rattle.geometry.specs.Places.{placeOf, byteOf};
 ghost use Rattle.coding.specs.Encode.{codeOf};
 ghost use Rattle.packing.specs.Placing.{changes};
 ghost use Rattle.sessions.specs.Session.{idle};
 ghost use Rattle.steps.specs.Effects.{sectorAt, storeEffect, blockedEffect, plainDo, plainAll};
 ghost use Rattle.steps.specs.Effects as Effects;
-ghost use Rattle.steps.specs.Look.{shown};
 ghost use Rattle.straight.specs.Straight.{writing, codeGiven};
 
 // The byte of the image at which sector k of an entry's extent begins.
@@ -111,26 +107,5 @@ pub fn encode_given(e: Entry, given: &[u8], code: &mut [u8]) -> usize
         encode_in(&mut record, given, n, code)
     } else {
         0
-    }
-}
-
-// ---- a granule shown in place
-
-// Where granule g of a random file begins in the image.
-fn granule_at(e: Entry, g: u32) -> usize
-    ensures { λ r. ⌜ r ≡ Sizes.sector * e .first + byteOf (placeOf random (e .length) g) ⌝ }
-{
-    let sector = Geometry::sector_of_record(Geometry::RANDOM, e.length, g);
-    let byte = Geometry::byte_of_record(Geometry::RANDOM, e.length, g);
-    Geometry::SECTOR * (e.first as usize) + (Geometry::SECTOR * sector + byte)
-}
-
-// The part of the image that is granule g; an empty part where the look is refused.
-pub fn shown(image: &[u8], a: Answer, e: Entry, g: u32) -> &[u8]
-    ensures { λ r. ⌜ now r ≡ shown a e g (now (image .entry)) ⌝ }
-{
-    match a {
-        Answer::Done => part(image, granule_at(e, g), e.length as usize),
-        _ => part(image, 0, 0),
     }
 }

@@ -1,27 +1,19 @@
+-- `plain::look` meets its contract: what is shown goes by the answer.
+use Rattle.judging.specs.Looks.{lookPart}
+use Rattle.judging.proofs.Looks.{look-plain}
+use Rattle.steps.specs.Look.{plainLook}
 use borrow.Author.Needs.{needs}
 use Rattle.plain.proofs.look.Statement.{statement}
 use Rattle.plain.proofs.look.Tie as tie
-use Rattle.plain.proofs.look.Reads as reads
-use Rattle.plain.proofs.look.Lts as lts
-use Rattle.directory.proofs.entry_of.Reads as entry-of-reads
-use Rattle.plain.proofs.look_number.Reads as look-number-reads
-use Rattle.straight.proofs.shown.Reads as shown-reads
 
--- src/lib.rt:193:9
-entry-of-requires : tie.Need-entry-of-requires
-entry-of-requires c κs = search needs
+look-requires : tie.Need-look-requires
+look-requires c κs = search needs
 
--- src/lib.rt:194:18
-look-number-requires : tie.Need-look-number-requires
-look-number-requires c κs = search needs
-
--- src/lib.rt:194:5
-shown-requires : tie.Need-shown-requires
-shown-requires c κs = search needs
-
--- src/lib.rt:189:1
 returns : tie.Need-returns
-returns c = ?
+unfolding lookPart plainLook
+returns c =
+    let a = c .before .before .args in
+    rw (c .look .ensures, look-plain (a .image .now) (a .s) (a .i) (a .g))
 
 pub look-spec : {M : Type 1} → statement M
-look-spec = tie.close (tie.spec entry-of-requires look-number-requires shown-requires returns)
+look-spec = tie.close (tie.spec look-requires returns)

@@ -1,10 +1,7 @@
 -- `plain::request_in` meets its contract: one way for each answer.
-use native.Mathlib.Omega.{arith}
 use lib.ListN.{length, length-map}
 use Rattle.geometry.specs.Sizes.{entries}
-use Rattle.requests.specs.Judge.{judge}
 use Rattle.sessions.specs.Session.{openFiles, legal}
-use Rattle.steps.specs.Next.{factsOf}
 use Rattle.steps.specs.Step.{plainScene}
 use Rattle.steps.specs.Verdict.{bufferNext}
 use Rattle.straight.proofs.Judged.{judgement}
@@ -13,19 +10,9 @@ use Rattle.requests.specs.declared.Answer.{Answer}
 use Rattle.requests.specs.declared.Answer.the-variants.{Done}
 use mathlib.Core.Path.{_≡_, sym, ap, _∙_}
 use Rattle.steps.specs.declared.Verdict.{Verdict}
-use Rattle.plain.proofs.Stepped.{verdict-is, buffer-is, done-after, met-after, refused-after, there, encoded}
 use borrow.Author.Needs.{needs}
 use Rattle.plain.proofs.request_in.Statement.{statement}
 use Rattle.plain.proofs.request_in.Tie as tie
-use Rattle.plain.proofs.request_in.Reads as reads
-use Rattle.plain.proofs.request_in.Lts as lts
-use Rattle.directory.proofs.entry_of.Reads as entry-of-reads
-use Rattle.geometry.proofs.part.Reads as part-reads
-use Rattle.plain.proofs.act.Reads as act-reads
-use Rattle.plain.proofs.with_next.Reads as with-next-reads
-use Rattle.sessions.proofs.file_of.Reads as file-of-reads
-use Rattle.straight.proofs.encode_given.Reads as encode-given-reads
-use Rattle.verdicts.proofs.verdict.Reads as verdict-reads
 
 -- the table is an array of 18: the session's own relation says so of its values in memory
 entries-of : (c : tie.Start) → length (c .args .s .table) ≡ entries
@@ -70,7 +57,7 @@ part-requires : tie.Need-part-requires
 part-requires c κs = search needs
 
 verdict-requires : tie.Need-verdict-requires
-verdict-requires c κs = ?
+verdict-requires c κs = search needs
 
 enum-told : tie.Need-enum-told
 enum-told c = search needs
@@ -81,9 +68,10 @@ part-requires-2 c κs = search needs
 act-requires : tie.Need-act-requires
 act-requires c κs =
     let a = c .before .before .before .before .before .before .before .before .before .before .before .before .before .before .before .before .before .before .before .before .before .args in
-    let d = answered (c .before .before .before .before .before .before .before .before) Done (c .before .before .before .before .enum-told .given .1) in
-    (there (a .image .now) (a .s) (a .i) (a .q) (a .given .now) (a .buffer .now) (entries-of (c .before .before .before .before .before .before .before .before .before .before .before .before .before .before .before .before .before .before .before .before .before)) d,
-    rw (c .part2 .ensures, c .before .before .before .before .before .before .before .before .before .before .before .before .encode-given .ensures .1, c .before .before .before .before .before .before .before .before .before .before .before .before .encode-given .ensures .0, c .before .before .before .before .before .before .before .before .before .before .before .before .before .before .before .entry-of .ensures) (encoded (a .image .now) (a .s) (a .i) (a .q) (a .given .now) (a .buffer .now) (a .code .now) (room (c .before .before .before .before .before .before .before .before .before .before .before .before .before)) d))
+    let d = answered (c .before .before .before .before .before .before .before .before) Done (c .before .before .before .before .enum-told .given .1) in (
+      there (a .image .now) (a .s) (a .i) (a .q) (a .given .now) (a .buffer .now) (entries-of (c .before .before .before .before .before .before .before .before .before .before .before .before .before .before .before .before .before .before .before .before .before)) d,
+      rw (c .part2 .ensures, c .before .before .before .before .before .before .before .before .before .before .before .before .encode-given .ensures .1, c .before .before .before .before .before .before .before .before .before .before .before .before .encode-given .ensures .0, c .before .before .before .before .before .before .before .before .before .before .before .before .before .before .before .entry-of .ensures) (encoded (a .image .now) (a .s) (a .i) (a .q) (a .given .now) (a .buffer .now) (a .code .now) (room (c .before .before .before .before .before .before .before .before .before .before .before .before .before)) d),
+    )
 
 with-next-requires : tie.Need-with-next-requires
 with-next-requires c κs = search needs

@@ -6,8 +6,6 @@ use lib.Seq.{set-out}
 use borrow.Author.Needs.{needs}
 use Rattle.plain.proofs.with_entry.Statement.{statement}
 use Rattle.plain.proofs.with_entry.Tie as tie
-use Rattle.plain.proofs.with_entry.Reads as reads
-use Rattle.plain.proofs.with_entry.Lts as lts
 
 mul-t : tie.Need-mul-t
 mul-t c = search needs

@@ -6,8 +6,6 @@ use lib.Seq.{set-out}
 use borrow.Author.Needs.{needs}
 use Rattle.plain.proofs.with_file.Statement.{statement}
 use Rattle.plain.proofs.with_file.Tie as tie
-use Rattle.plain.proofs.with_file.Reads as reads
-use Rattle.plain.proofs.with_file.Lts as lts
 
 mul-fs : tie.Need-mul-fs
 mul-fs c = search needs

@@ -2,11 +2,6 @@
 use borrow.Author.Needs.{needs}
 use Rattle.plain.proofs.with_next.Statement.{statement}
 use Rattle.plain.proofs.with_next.Tie as tie
-use Rattle.plain.proofs.with_next.Reads as reads
-use Rattle.plain.proofs.with_next.Lts as lts
-use Rattle.plain.proofs.with_entry.Reads as with-entry-reads
-use Rattle.plain.proofs.with_file.Reads as with-file-reads
-use Rattle.sessions.proofs.slot_of.Reads as slot-of-reads
 
 with-entry-requires : tie.Need-with-entry-requires
 with-entry-requires c κs = search needs
