@@ -7,6 +7,7 @@ The images are made from document 01 alone. A case is a length of four bytes, hi
 """
 import os, subprocess, sys, tempfile
 
+sys.dont_write_bytecode = True
 here = os.path.dirname(os.path.abspath(__file__))
 top = os.path.dirname(os.path.dirname(here))
 sys.path.insert(0, os.path.join(top, "images"))
