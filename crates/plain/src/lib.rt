@@ -15,7 +15,7 @@ ghost use Rattle.geometry.specs.Sizes.{compressed, entries};
 ghost use Rattle.coding.specs.Encode.{codeOf};
 ghost use Rattle.directory.specs.Entries.{isKind};
 ghost use Rattle.steps.specs.Effects.{writeEffects, effects, plainAll};
-ghost use Rattle.straight.specs.Straight.{writing};
+ghost use Rattle.straight.specs.Straight.{writing, Encoded};
 ghost use Rattle.plain.specs.Plain.{sceneIn};
 
 // ---- what a request answered 0 does to the image
@@ -36,9 +36,9 @@ fn write(image: &mut [u8], e: Entry, f: OpenFile, given: &[u8], code: &[u8])
     }
 }
 
-// A request's effects. The code is that of the bytes given, if the file is compressed.
+// A request's effects.
 fn act(image: &mut [u8], i: usize, e: Entry, f: OpenFile, q: Request, given: &[u8], code: &[u8])
-    requires { ⌜ (i < entries) × (isKind compressed e ≡ true → now code ≡ codeOf (e .length) (now given)) ⌝ }
+    requires { ⌜ (i < entries) × Encoded q e (now given) (now code) ⌝ }
     ensures { λ _. ⌜ now (image .exit) ≡ plainAll (sceneIn (now (image .entry)) i e f (now (given .entry)))
         (effects q (sceneIn (now (image .entry)) i e f (now (given .entry)))) (now (image .entry)) ⌝ }
 {

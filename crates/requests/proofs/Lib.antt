@@ -1,3 +1,4 @@
 pub mod InOrder
 pub mod Done
 pub mod Live
+pub mod InTurn

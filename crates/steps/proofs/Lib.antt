@@ -2,3 +2,4 @@ pub mod Lawful
 pub mod Compressed
 pub mod Inside
 pub mod Frame
+pub mod Coded

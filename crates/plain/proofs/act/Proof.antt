@@ -9,7 +9,7 @@ enum-told : tie.Need-enum-told
 enum-told c = search needs
 
 write-requires : tie.Need-write-requires
-write-requires c κs = search needs
+write-requires c κs = c .before .before .before .before .before .before .pre .1 (c .before .enum-told .given .1)
 
 enum-known-q : tie.Need-enum-known-q
 enum-known-q c = search needs

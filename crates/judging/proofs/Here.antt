@@ -1,0 +1,102 @@
+-- The record at the position of an open file: of a compressed one it is read behind the place, of any other it lies in the extent, in which case
+-- the held sector counts for a blocked file alone.
+use mathlib.Core.Path.{_≡_, refl, sym, ap, _∙_}
+use mathlib.Core.Bool.{true, false, _&&_, _||_, false≢true}
+use mathlib.Core.List.{List, _++_, []}
+use Prim.Native.Nat.{ℕ, _+_, _*_, _≤_, _<_}
+use native.Mathlib.Omega.{arith}
+use lib.Dec.{ltb}
+use lib.ListN.{length, take, drop, take-append-drop}
+use borrow.Author.Tests.{lt-ltb, ne-eqb, eqb-false, eqb-true}
+use Rattle.geometry.specs.Bytes.{lay}
+use Rattle.geometry.specs.Sizes.{sector, blocked, compressed, random}
+use Rattle.geometry.specs.Places.{capacity}
+use Rattle.geometry.proofs.Bytes.{lay-fits}
+use Rattle.geometry.proofs.Tests.{either}
+use Rattle.directory.specs.Entries.{isKind}
+use Rattle.directory.specs.Rules.{longest}
+use Rattle.packing.specs.Reading.{overlaid, Got, got, lost, Recorded, readBehind, ledTo, into}
+use Rattle.packing.proofs.One.{told}
+use Rattle.steps.specs.Next.{recordHere, fixedAt}
+use Rattle.steps.specs.Verdict.{seenBytes}
+use Rattle.steps.proofs.Lawful.{Lawful}
+use Rattle.steps.proofs.Compressed.{here-read}
+use Rattle.judging.specs.Turns.{Ready, Fixed, sight, recordIn, blockedBytes, hereLed, laidFirst, hereInto}
+use Rattle.judging.proofs.Turns.{here-there}
+use Rattle.geometry.specs.declared.Place.{Place}
+use Rattle.directory.specs.declared.Entry.{Entry}
+use Rattle.sessions.specs.declared.OpenFile.{OpenFile}
+use Rattle.packing.specs.declared.Led.the-variants.{To}
+
+module _ (e : Entry) (f : OpenFile) (bytes over : List ℕ) (held : ℕ) where
+  abbrev seen : List ℕ
+  seen = seenBytes e f bytes held over
+
+  -- ---- what is seen of the extent
+
+  seen-packed : f .used ≡ true → isKind compressed e ≡ true → seen ≡ overlaid bytes held over
+  unfolding seenBytes
+  seen-packed u k =
+      let n : ¬ (e .kind ≡ blocked) = (let q : e .kind ≡ compressed = eqb-true (e .kind) compressed k in omega arith) in
+      rw (u, ne-eqb (e .kind) blocked n, k, seenBytes)
+
+  pub seen-fixed : f .used ≡ true → isKind compressed e ≡ false → seen ≡ blockedBytes e bytes held over
+  unfolding seenBytes blockedBytes
+  seen-fixed u k = either (isKind blocked e)
+      (λ (b : isKind blocked e ≡ true). rw (u, b, seenBytes, blockedBytes))
+      (λ (b : isKind blocked e ≡ false). rw (u, b, k, seenBytes, blockedBytes))
+
+  -- ---- the record that is read
+
+  abbrev behindHere : Got
+  behindHere = readBehind (e .length) (e .sectors) (overlaid bytes held over) (f .here)
+
+  module _ (u : f .used ≡ true) (h : f .position < e .count) where
+    packed-is : isKind compressed e ≡ true → recordHere (sight e f seen) ≡ behindHere
+    packed-is k = here-read (sight e f seen) k ∙ ap (λ (b : List ℕ). readBehind (e .length) (e .sectors) b (f .here)) (seen-packed u k)
+
+    pub packed-led : isKind compressed e ≡ true → hereLed e f seen ≡ ledTo behindHere
+    packed-led k = here-there e f seen (lt-ltb _ _ h) ∙ ap ledTo (packed-is k)
+
+    fixed-is : isKind compressed e ≡ false → recordHere (sight e f seen) ≡ got (record { bytes = recordIn e (f .position) (blockedBytes e bytes held over); behind = f .here })
+    unfolding recordHere fixedAt recordIn
+    fixed-is k = rw (k, recordHere, seen-fixed u k)
+
+    pub fixed-led : isKind compressed e ≡ false → hereLed e f seen ≡ To (f .here)
+    unfolding ledTo
+    fixed-led k = here-there e f seen (lt-ltb _ _ h) ∙ ap ledTo (fixed-is k)
+
+    pub fixed-into : (old : List ℕ) → isKind compressed e ≡ false
+        → hereInto e f seen old ≡ lay old 0 (recordIn e (f .position) (blockedBytes e bytes held over))
+    unfolding hereInto laidFirst
+    fixed-into old k = rw (lt-ltb _ _ h, hereInto, fixed-is k)
+
+    pub packed-into : (old : List ℕ) → isKind compressed e ≡ true → e .length ≤ length old
+        → hereInto e f seen old ≡ into behindHere (take (e .length) old) ++ drop (e .length) old
+    unfolding hereInto laidFirst into
+    packed-into old k n = rw (lt-ltb _ _ h, hereInto, packed-is k) (go behindHere refl)
+      where
+        go : (g : Got) → behindHere ≡ g → laidFirst g old ≡ into g (take (e .length) old) ++ drop (e .length) old
+        go (got r) q =
+            let l : length (r .bytes) ≡ e .length = told (e .length) (e .sectors) (overlaid bytes held over) (f .here) r q .long in
+            let m : 0 + length (r .bytes) ≡ e .length = omega arith in
+            lay-fits old 0 (r .bytes) (omega arith) ∙ ap (λ (i : ℕ). r .bytes ++ drop i old) m
+        go (lost p) q = sym (take-append-drop (e .length) old)
+
+-- ---- a record of a lawful file that is not compressed
+
+pub fixed-from : (e : Entry) (f : OpenFile) (k n : ℕ) → Lawful e f → n ≡ sector * e .sectors → k < capacity (e .kind) (e .length) (e .sectors) → Fixed e k n
+unfolding longest
+fixed-from e f k n l w t = record {
+  some = omega (arith, l .long);
+  short = λ (b : e .kind ≡ blocked).
+  let s : e .length ≤ longest (e .kind) = l .short in
+  rw (b, longest) at s;
+  there = t;
+  few = l .few;
+  whole = w;
+}
+
+pub fixed-here : (e : Entry) (f : OpenFile) (n : ℕ) → Ready e f n → isKind compressed e ≡ false → isKind random e ≡ false → f .position < e .count
+    → Fixed e (f .position) n
+fixed-here e f n r k d h = fixed-from e f (f .position) n (r .lawful) (r .whole) (omega (arith, r .lawful .counted k d))

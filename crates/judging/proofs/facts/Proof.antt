@@ -1,0 +1,19 @@
+use borrow.Author.Needs.{needs}
+use Rattle.judging.proofs.facts.Statement.{statement}
+use Rattle.judging.proofs.facts.Tie as tie
+use Rattle.judging.proofs.facts.Reads as reads
+use Rattle.judging.proofs.facts.Lts as lts
+use Rattle.directory.proofs.is_marked.Reads as is-marked-reads
+use Rattle.directory.proofs.is_protected.Reads as is-protected-reads
+
+is-protected-requires : tie.Need-is-protected-requires
+is-protected-requires c κs = search needs
+
+is-marked-requires : tie.Need-is-marked-requires
+is-marked-requires c κs = search needs
+
+returns : tie.Need-returns
+returns c = rw (c .before .is-protected .ensures, c .is-marked .ensures)
+
+pub facts-spec : {M : Type 1} → statement M
+facts-spec = tie.close (tie.spec is-protected-requires is-marked-requires returns)

@@ -1,0 +1,40 @@
+use Rattle.geometry.specs.Bytes.{part}
+use native.Mathlib.Omega.{arith}
+use Prim.Native.Nat.{_+_, _-_}
+use mathlib.Core.Path.{_≡_}
+use borrow.Author.Needs.{needs}
+use Rattle.judging.proofs.lay_part.Statement.{statement}
+use Rattle.judging.proofs.lay_part.Tie as tie
+use Rattle.judging.proofs.lay_part.Reads as reads
+use Rattle.judging.proofs.lay_part.Lts as lts
+use Rattle.geometry.proofs.lay.Reads as lay-reads
+
+add-lay : tie.Need-add-lay
+add-lay c = search needs
+
+sub-lay : tie.Need-sub-lay
+sub-lay c = search needs
+
+part-lay-start : tie.Need-part-lay-start
+part-lay-start c = search needs
+
+part-lay-end : tie.Need-part-lay-end
+part-lay-end c = search needs
+
+lay-requires : tie.Need-lay-requires
+lay-requires c κs = search needs
+
+same-length : tie.Need-same-length
+same-length c = search needs
+
+returns : tie.Need-returns
+unfolding part
+returns c =
+    let a = c .before .before .before .before .before .before .before .args in
+    let n : (a .at + a .n) - a .at ≡ a .n = omega arith in
+    rw n at (c .before .before .lay .ensures)
+
+pub lay-part-spec : {M : Type 1} → statement M
+lay-part-spec =
+    tie.close
+    (tie.spec add-lay sub-lay part-lay-start part-lay-end lay-requires same-length returns)

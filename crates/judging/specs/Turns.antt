@@ -1,0 +1,177 @@
+-- How a request is judged with decoding only in its turn: what it is judged by at first, where its decoding leads, and the file's state by that place.
+-- proofs/Turns.antt shows that this comes to `verdictOf`. Definitions only.
+use mathlib.Core.Bool.{Bool, true, false}
+use mathlib.Core.Path.{_≡_}
+use mathlib.Core.List.{List, []}
+use Prim.Native.Nat.{ℕ, _+_, _-_, _*_, _≤_, _<_}
+use lib.Dec.{ltb}
+use Rattle.geometry.specs.Bytes.{part, lay}
+use Rattle.geometry.specs.Places.{capacity, placeOf, byteOf, origin}
+use Rattle.geometry.specs.Sizes.{sector, blocked, compressed, mostSectors}
+use Rattle.directory.specs.Entries.{isKind, isMarked, isProtected}
+use Rattle.packing.specs.Placing.{behindNew}
+use Rattle.packing.specs.Reading.{overlaid, Got, got, lost, walkedTo, ledTo}
+use Rattle.mounting.specs.Mounting.{countedWalk}
+use Rattle.sessions.specs.Session.{idle}
+use Rattle.steps.specs.Next.{Scene, recordHere, fixedAt, moved, fileMet}
+use Rattle.steps.specs.Verdict.{entryNext}
+use Rattle.steps.proofs.Lawful.{Lawful}
+use Rattle.geometry.specs.declared.Place.{Place}
+use Rattle.directory.specs.declared.Entry.{Entry}
+use Rattle.packing.specs.declared.Led.{Led}
+use Rattle.packing.specs.declared.Led.the-variants.{To, Lost}
+use Rattle.requests.specs.declared.Facts.{Facts}
+use Rattle.requests.specs.declared.Order.{Order}
+use Rattle.requests.specs.declared.Order.the-variants.{WriteMark, RewindOnline, RewindOffline, RecordForward, RecordBack, FileForward, FileBack}
+use Rattle.requests.specs.declared.Request.{Request}
+use Rattle.requests.specs.declared.Request.the-variants.{Open, Read, Write, GranuleRead, GranuleWrite, GranuleLook, Position}
+use Rattle.requests.specs.declared.Answer.{Answer}
+use Rattle.requests.specs.declared.Answer.the-variants.{Done, Met, Refused}
+use Rattle.sessions.specs.declared.OpenFile.{OpenFile}
+use Rattle.steps.specs.declared.Verdict.{Verdict}
+
+-- the facts but for the codes, which are supposed to be bad or not
+abbrev pub factsBut : Bool → Bool → ℕ → Entry → OpenFile → ℕ → ℕ → ℕ → Facts
+factsBut bad legal files e f given code buffer = record {
+  legal = legal;
+  files = files;
+  kind = e .kind;
+  length = e .length;
+  sectors = e .sectors;
+  protected = isProtected e;
+  opened = f .used;
+  position = f .position;
+  count = e .count;
+  marked = isMarked e;
+  beyond = f .beyond;
+  here = f .here;
+  bad = bad;
+  given = given;
+  code = code;
+  buffer = buffer;
+}
+
+-- ---- decoding, and copying, in its turn
+
+-- a file and its bytes, as a request finds them
+abbrev pub sight : Entry → OpenFile → List ℕ → Scene
+sight e f bytes = record { number = 0; entry = e; file = f; bytes = bytes; given = [] }
+
+-- record or granule k of a file that is not compressed, in the bytes of its extent
+unfoldable pub recordIn : Entry → ℕ → List ℕ → List ℕ
+recordIn e k bytes = part bytes (byteOf (placeOf (e .kind) (e .length) k)) (e .length)
+
+-- such a file's bytes, with a blocked one's held sector
+unfoldable pub blockedBytes : Entry → List ℕ → ℕ → List ℕ → List ℕ
+blockedBytes e bytes held over = elim (isKind blocked e) [ true ↦ overlaid bytes held over | false ↦ bytes ]
+
+-- there is such a record, in so many bytes
+pub record Fixed (e : Entry) (k n : ℕ) : Type 0 where
+  pub some : 0 < e .length
+  pub short : e .kind ≡ blocked → e .length ≤ sector
+  pub there : k < capacity (e .kind) (e .length) (e .sectors)
+  pub few : e .sectors ≤ mostSectors
+  pub whole : n ≡ sector * e .sectors
+
+-- an open file of a legal session, and its extent of so many bytes
+pub record Ready (e : Entry) (f : OpenFile) (n : ℕ) : Type 0 where
+  pub lawful : Lawful e f
+  pub opened : f .used ≡ true
+  pub whole : n ≡ sector * e .sectors
+
+-- the place behind the records counted
+unfoldable pub endLed : Entry → List ℕ → Led
+endLed e bytes = elim (isKind compressed e) [ true ↦ walkedTo origin (countedWalk e bytes) | false ↦ To origin ]
+
+-- the place behind the record at the position, if there is one
+unfoldable pub hereLed : Entry → OpenFile → List ℕ → Led
+hereLed e f bytes = elim (ltb (f .position) (e .count)) [ true ↦ ledTo (recordHere (sight e f bytes)) | false ↦ To (f .here) ]
+
+-- a record laid over the first bytes of a buffer; a bad code leaves it as it was
+unfoldable pub laidFirst : Got → List ℕ → List ℕ
+laidFirst (got r) old = lay old 0 (r .bytes)
+laidFirst (lost p) old = old
+
+unfoldable pub hereInto : Entry → OpenFile → List ℕ → List ℕ → List ℕ
+hereInto e f bytes old = elim (ltb (f .position) (e .count)) [ true ↦ laidFirst (recordHere (sight e f bytes)) old | false ↦ old ]
+
+-- what a request decodes, where its turn has come
+unfoldable pub turnLed : Request → Entry → OpenFile → List ℕ → Led
+turnLed Open e f bytes = endLed e bytes
+turnLed Read e f bytes = hereLed e f bytes
+turnLed Write e f bytes = To origin
+turnLed (GranuleRead g) e f bytes = To origin
+turnLed (GranuleWrite g) e f bytes = To origin
+turnLed (GranuleLook g) e f bytes = To origin
+turnLed (Position o) e f bytes = hereLed e f bytes
+
+-- and what is then in the buffer
+unfoldable pub turnInto : Request → Entry → OpenFile → List ℕ → List ℕ → List ℕ
+turnInto Open e f bytes old = old
+turnInto Read e f bytes old = hereInto e f bytes old
+turnInto Write e f bytes old = old
+turnInto (GranuleRead g) e f bytes old = old
+turnInto (GranuleWrite g) e f bytes old = old
+turnInto (GranuleLook g) e f bytes old = old
+turnInto (Position o) e f bytes old = old
+
+unfoldable pub isAstray : Led → Bool
+isAstray (To p) = false
+isAstray (Lost p) = true
+
+unfoldable pub placeIn : Led → Place
+placeIn (To p) = p
+placeIn (Lost p) = p
+
+-- the place behind a record written, whose code has so many bytes
+unfoldable pub writtenAt : ℕ → Entry → OpenFile → Place
+writtenAt code e f = elim (isKind compressed e) [ true ↦ behindNew (f .here) code | false ↦ f .here ]
+
+-- a request that decodes nothing, answered 0
+unfoldable pub carriedTo : ℕ → Request → Entry → OpenFile → Place
+carriedTo code Open e f = origin
+carriedTo code Read e f = origin
+carriedTo code Write e f = writtenAt code e f
+carriedTo code (GranuleRead g) e f = origin
+carriedTo code (GranuleWrite g) e f = origin
+carriedTo code (GranuleLook g) e f = origin
+carriedTo code (Position o) e f = origin
+
+unfoldable pub carriedInto : Request → Entry → OpenFile → List ℕ → List ℕ → List ℕ
+carriedInto Open e f bytes old = old
+carriedInto Read e f bytes old = old
+carriedInto Write e f bytes old = old
+carriedInto (GranuleRead g) e f bytes old = lay old 0 (fixedAt (sight e f bytes) g)
+carriedInto (GranuleWrite g) e f bytes old = old
+carriedInto (GranuleLook g) e f bytes old = old
+carriedInto (Position o) e f bytes old = old
+
+-- ---- the next state of the file
+
+-- answer 0, p being the end place of an opening, or the place behind the record read or written
+unfoldable pub orderFrom : Order → Entry → OpenFile → Place → OpenFile
+orderFrom WriteMark e f p = moved f (f .position) true (f .here) (f .here)
+orderFrom RewindOnline e f p = moved f 0 false origin (f .end)
+orderFrom RewindOffline e f p = idle
+orderFrom RecordForward e f p = moved f (f .position + 1) false p (f .end)
+orderFrom RecordBack e f p = moved f (f .position - 1) false (f .here) (f .end)
+orderFrom FileForward e f p = moved f (e .count) true (f .end) (f .end)
+orderFrom FileBack e f p = moved f (f .position) false (f .here) (f .end)
+
+unfoldable pub doneFrom : Request → ℕ → Entry → OpenFile → Place → OpenFile
+doneFrom Open i e f p = record { used = true; entry = i; position = 0; beyond = false; here = origin; end = p }
+doneFrom Read i e f p = moved f (f .position + 1) false p (f .end)
+doneFrom Write i e f p = moved f (f .position + 1) false p p
+doneFrom (GranuleRead g) i e f p = f
+doneFrom (GranuleWrite g) i e f p = f
+doneFrom (GranuleLook g) i e f p = f
+doneFrom (Position o) i e f p = orderFrom o e f p
+
+-- any answer
+unfoldable pub fileFrom : Answer → Request → ℕ → Entry → OpenFile → Place → OpenFile
+fileFrom Done q i e f p = doneFrom q i e f p
+fileFrom (Met x) q i e f p = fileMet x f
+fileFrom (Refused x) q i e f p = f
+
+abbrev pub verdictFrom : Answer → Request → ℕ → Entry → OpenFile → Place → Verdict
+verdictFrom a q i e f p = record { answer = a; entry = entryNext a q (sight e f []); file = fileFrom a q i e f p }

@@ -1,0 +1,360 @@
+// One request, judged once for both engines: document 01's "The tape a file is" and "Answer numbers".
+// Decoding happens only in its turn: a request is first judged as if a bad code were met, and only where that gives 11 is anything decoded.
+use directory::Entry;
+use directory::entry_of;
+use directory::is_marked;
+use directory::is_protected;
+use geometry::Geometry;
+use geometry::Place;
+use geometry::lay;
+use geometry::part;
+use packing::Led;
+use packing::goes_to_byte;
+use packing::goes_to_sector;
+use packing::read_behind;
+use packing::skip_behind;
+use packing::walk;
+use requests::Answer;
+use requests::Edge;
+use requests::Facts;
+use requests::Order;
+use requests::Refusal;
+use requests::Request;
+use requests::judge;
+use requests::number;
+use sessions::OpenFile;
+use sessions::Session;
+use sessions::file_of;
+use sessions::idle;
+use sessions::is_legal;
+use sessions::open_files;
+use steps::Verdict;
+ghost use mathlib.Core.Path.{_≡_};
+ghost use mathlib.Core.Bool.{true, false, _&&_};
+ghost use mathlib.Core.List.{[]};
+ghost use Prim.Native.Nat.{_+_, _-_, _*_, _≤_, _<_, _^_};
+ghost use lib.Dec.{eqb};
+ghost use lib.ListN.{length};
+ghost use Rattle.geometry.specs.Bytes as Bytes;
+ghost use Rattle.geometry.specs.Places.{origin, capacity};
+ghost use Rattle.geometry.specs.Sizes.{blocked, compressed, random};
+ghost use Rattle.geometry.specs.Sizes as Sizes;
+ghost use Rattle.directory.specs.Entries.{isKind};
+ghost use Rattle.steps.specs.Next.{moved, counted, fileMet, entryDone, fixedAt};
+ghost use Rattle.steps.specs.Verdict.{seenBytes};
+ghost use Rattle.steps.proofs.Lawful.{Lawful};
+ghost use Rattle.requests.proofs.InTurn.{supposing};
+ghost use Rattle.judging.specs.Turns.{factsBut, sight, Ready, endLed, hereLed, hereInto, isAstray, placeIn, writtenAt, Fixed, recordIn, blockedBytes, orderFrom, doneFrom, verdictFrom};
+
+// ---- what a request is judged by
+
+// What the tests ask about.
+fn facts(
+    bad: bool,
+    legal: bool,
+    files: u32,
+    e: Entry,
+    f: OpenFile,
+    given: usize,
+    code: usize,
+    buffer: usize,
+) -> Facts
+    ensures { λ r. ⌜ r ≡ factsBut bad legal files e f given code buffer ⌝ }
+{
+    let here = f.here;
+    Facts {
+        legal: legal,
+        files: files,
+        kind: e.kind,
+        length: e.length,
+        sectors: e.sectors,
+        protected: is_protected(e),
+        opened: f.used,
+        position: f.position,
+        count: e.count,
+        marked: is_marked(e),
+        beyond: f.beyond,
+        here: here,
+        bad: bad,
+        given: given,
+        code: code,
+        buffer: buffer,
+    }
+}
+
+// The same facts, but that a record that the request decodes is bad or not.
+fn supposed(f: Facts, bad: bool) -> Facts
+    ensures { λ r. ⌜ r ≡ supposing bad f ⌝ }
+{
+    let mut g = f;
+    g.bad = bad;
+    g
+}
+
+// ---- the next entry and the next state
+
+// The place before the first record.
+fn start() -> Place
+    ensures { λ r. ⌜ r ≡ origin ⌝ }
+{
+    Place {
+        sector: 0,
+        byte: 0,
+    }
+}
+
+// One less, and 0 of 0.
+fn less_one(n: u32) -> u32
+    ensures { λ r. ⌜ r ≡ n - 1 ⌝ }
+{
+    if n == 0 { 0 } else { n - 1 }
+}
+
+// The file at another position and place.
+fn moved(f: OpenFile, position: u32, beyond: bool, here: Place, end: Place) -> OpenFile
+    ensures { λ r. ⌜ r ≡ moved f position beyond here end ⌝ }
+{
+    OpenFile {
+        used: true,
+        entry: f.entry,
+        position: position,
+        beyond: beyond,
+        here: here,
+        end: end,
+    }
+}
+
+// The entry with another count and mark.
+fn counted(e: Entry, n: u32, marked: u16) -> Entry
+    requires { ⌜ marked ≤ 1 ⌝ }
+    ensures { λ r. ⌜ r ≡ counted e n marked ⌝ }
+{
+    let name = e.name;
+    Entry {
+        name: name,
+        kind: e.kind,
+        length: e.length,
+        first: e.first,
+        sectors: e.sectors,
+        count: n,
+        flags: 2 * (e.flags / 2) + marked,
+    }
+}
+
+// The entry behind a request answered 0: a write leaves p + 1 records, unmarked; a write file mark p records, marked.
+fn done_entry(q: Request, e: Entry, f: OpenFile) -> Entry
+    requires { ⌜ f .position + 1 < 2 ^ 32 ⌝ }
+    ensures { λ r. ⌜ r ≡ entryDone q (sight e f []) ⌝ }
+{
+    match q {
+        Request::Write => counted(e, f.position + 1, 0),
+        Request::Position(o) => match o {
+            Order::WriteMark => counted(e, f.position, 1),
+            _ => e,
+        },
+        _ => e,
+    }
+}
+
+// The state behind an answer 1, which crosses the mark, or 2, which stands at the start.
+fn met_file(x: Edge, f: OpenFile) -> OpenFile
+    ensures { λ r. ⌜ r ≡ fileMet x f ⌝ }
+{
+    let here = f.here;
+    let end = f.end;
+    match x {
+        Edge::EndOfFile => moved(f, f.position, !f.beyond, here, end),
+        Edge::BeginningOfTape => moved(f, 0, false, start(), end),
+    }
+}
+
+// The state behind an order answered 0; p is the place behind the record passed over.
+fn done_order(o: Order, e: Entry, f: OpenFile, p: Place) -> OpenFile
+    requires { ⌜ f .position + 1 < 2 ^ 32 ⌝ }
+    ensures { λ r. ⌜ r ≡ orderFrom o e f p ⌝ }
+{
+    let here = f.here;
+    let end = f.end;
+    match o {
+        Order::WriteMark => moved(f, f.position, true, here, here),
+        Order::RewindOnline => moved(f, 0, false, start(), end),
+        Order::RewindOffline => idle(),
+        Order::RecordForward => moved(f, f.position + 1, false, p, end),
+        Order::RecordBack => moved(f, less_one(f.position), false, here, end),
+        Order::FileForward => moved(f, e.count, true, end, end),
+        Order::FileBack => moved(f, f.position, false, here, end),
+    }
+}
+
+// The state of file i behind a request answered 0; p is the end place of an opening, or the place behind the record read or written.
+fn done_file(q: Request, i: usize, e: Entry, f: OpenFile, p: Place) -> OpenFile
+    requires { ⌜ f .position + 1 < 2 ^ 32 ⌝ }
+    ensures { λ r. ⌜ r ≡ doneFrom q i e f p ⌝ }
+{
+    let end = f.end;
+    match q {
+        Request::Open => OpenFile {
+            used: true,
+            entry: i,
+            position: 0,
+            beyond: false,
+            here: start(),
+            end: p,
+        },
+        Request::Read => moved(f, f.position + 1, false, p, end),
+        Request::Write => moved(f, f.position + 1, false, p, p),
+        Request::Position(o) => done_order(o, e, f, p),
+        _ => f,
+    }
+}
+
+// An answer, with the entry and the state behind it; p as above.
+fn next(a: Answer, q: Request, i: usize, e: Entry, f: OpenFile, p: Place) -> Verdict
+    requires { ⌜ f .position + 1 < 2 ^ 32 ⌝ }
+    ensures { λ r. ⌜ r ≡ verdictFrom a q i e f p ⌝ }
+{
+    match a {
+        Answer::Done => {
+            let entry = done_entry(q, e, f);
+            let file = done_file(q, i, e, f, p);
+            Verdict {
+                answer: a,
+                entry: entry,
+                file: file,
+            }
+        }
+        Answer::Met(x) => {
+            let file = met_file(x, f);
+            Verdict {
+                answer: a,
+                entry: e,
+                file: file,
+            }
+        }
+        Answer::Refused(_) => Verdict {
+            answer: a,
+            entry: e,
+            file: f,
+        },
+    }
+}
+
+// ---- decoding and copying
+
+// Whether reading met a bad code.
+fn is_astray(l: Led) -> bool
+    ensures { λ r. ⌜ r ≡ isAstray l ⌝ }
+{
+    match l {
+        Led::To(_) => false,
+        Led::Lost(_) => true,
+    }
+}
+
+// The place that reading led to.
+fn place_in(l: Led) -> Place
+    ensures { λ r. ⌜ r ≡ placeIn l ⌝ }
+{
+    match l {
+        Led::To(p) => p,
+        Led::Lost(p) => p,
+    }
+}
+
+// The end place of a file that is opened.
+fn end_place(bytes: &[u8], e: Entry) -> Led
+    ensures { λ r. ⌜ r ≡ endLed e (now (bytes .entry)) ⌝ }
+{
+    if e.kind == Geometry::COMPRESSED {
+        walk(bytes, e.sectors, e.length, e.count)
+    } else {
+        Led::To(start())
+    }
+}
+
+// The place behind the record written, whose code has so many bytes.
+fn behind_written(e: Entry, f: OpenFile, code: usize) -> Place
+    requires { ⌜ (isKind compressed e ≡ true → (code ≤ Sizes.sector) × (f .here .byte ≤ Sizes.sector) × (f .here .sector < 2 ^ 16)) ⌝ }
+    ensures { λ r. ⌜ r ≡ writtenAt code e f ⌝ }
+{
+    let p = f.here;
+    if e.kind == Geometry::COMPRESSED {
+        Place {
+            sector: goes_to_sector(p, code) as u32,
+            byte: (goes_to_byte(p, code) + code) as u32,
+        }
+    } else {
+        p
+    }
+}
+
+// Lays the n bytes of s from byte at on over the first bytes of the buffer.
+fn lay_part(s: &[u8], at: usize, n: usize, buffer: &mut [u8])
+    requires { ⌜ at + n ≤ length (now s) ⌝ }
+    ensures { λ _. ⌜ now (buffer .exit) ≡ Bytes.lay (now (buffer .entry)) 0 (Bytes.part (now (s .entry)) at n) ⌝ }
+{
+    lay(buffer, 0, &s[at..at + n]);
+}
+
+// Whether blocked record's sector, of that number, is the held one, which lies in over.
+fn is_held(e: Entry, sector: usize, held: u32, over: &[u8]) -> bool
+    ensures { λ r. ⌜ r ≡ (isKind blocked e && eqb (length (now (over .entry))) Sizes.sector) && eqb held sector ⌝ }
+{
+    ((e.kind == Geometry::BLOCKED) & (over.len() == Geometry::SECTOR)) & ((held as usize) == sector)
+}
+
+// Lays record or granule k of a file that is not compressed over the first bytes of the buffer: the sector's part from the record's byte offset,
+// out of over, if the record's sector is the one held there.
+fn copy_record(bytes: &[u8], held: u32, over: &[u8], e: Entry, k: u32, buffer: &mut [u8])
+    requires { ⌜ Fixed e k (length (now bytes)) ⌝ }
+    ensures { λ _. ⌜ now (buffer .exit) ≡ Bytes.lay (now (buffer .entry)) 0 (recordIn e k (blockedBytes e (now (bytes .entry)) held (now (over .entry)))) ⌝ }
+{
+    let s = Geometry::sector_of_record(e.kind, e.length, k);
+    let o = Geometry::byte_of_record(e.kind, e.length, k);
+    let n = e.length as usize;
+    if is_held(e, s, held, over) {
+        lay_part(over, o, n, buffer);
+    } else {
+        lay_part(bytes, Geometry::SECTOR * s + o, n, buffer);
+    }
+}
+
+// Reads the record at the position, if there is one, into the first bytes of the buffer. A bad code leaves the buffer as it was.
+fn read_here(
+    bytes: &[u8],
+    held: u32,
+    over: &[u8],
+    e: Entry,
+    f: OpenFile,
+    buffer: &mut [u8],
+) -> Led
+    requires { ⌜ (Ready e f (length (now bytes))) × (isKind random e ≡ false) × (e .length ≤ length (now buffer)) ⌝ }
+    ensures { λ r. ⌜ (r ≡ hereLed e f (seenBytes e f (now (bytes .entry)) held (now (over .entry))))
+        × (now (buffer .exit) ≡ hereInto e f (seenBytes e f (now (bytes .entry)) held (now (over .entry))) (now (buffer .entry))) ⌝ }
+{
+    let here = f.here;
+    if e.count <= f.position {
+        return Led::To(here);
+    }
+    if e.kind == Geometry::COMPRESSED {
+        let n = e.length as usize;
+        return read_behind(bytes, held, over, e.sectors, here, &mut buffer[..n]);
+    }
+    copy_record(bytes, held, over, e, f.position, buffer);
+    Led::To(here)
+}
+
+// Passes over the record at the position, if there is one.
+fn skip_here(bytes: &[u8], held: u32, over: &[u8], e: Entry, f: OpenFile) -> Led
+    requires { ⌜ f .used ≡ true ⌝ }
+    ensures { λ r. ⌜ r ≡ hereLed e f (seenBytes e f (now (bytes .entry)) held (now (over .entry))) ⌝ }
+{
+    let here = f.here;
+    if e.count <= f.position {
+        return Led::To(here);
+    }
+    if e.kind == Geometry::COMPRESSED {
+        return skip_behind(bytes, held, over, e.sectors, e.length, here);
+    }
+    Led::To(here)
+}
