@@ -1,17 +1,17 @@
 -- A record or granule of a file that is not compressed lies in its extent; a blocked one in one sector, so that it is the held sector's or is apart from it.
-use mathlib.Core.Path.{_≡_, refl, sym, ap, _∙_}
+use mathlib.Core.Path.{_≡_, sym, _∙_}
 use mathlib.Core.Bool.{Bool, true, false, _&&_}
 use mathlib.Core.List.{List}
 use Prim.Native.Nat.{ℕ, _+_, _*_, _≤_, _<_}
 use native.Mathlib.Omega.{arith}
 use lib.Dec.{eqb}
 use lib.ListN.{length}
-use borrow.Author.Tests.{eqb-true, eqb-false, eq-eqb}
+use borrow.Author.Tests.{eqb-true, eqb-false}
 use Rattle.geometry.specs.Bytes.{part, lay}
 use Rattle.geometry.specs.Sizes.{sector, blocked}
 use Rattle.geometry.specs.Places.{placeOf, byteOf}
 use Rattle.geometry.proofs.Bytes.{Apart, part-lay-apart, part-lay-inside}
-use Rattle.geometry.proofs.Places.{byte-blocked, record-inside, sector-below, two-sectors, inside-apart}
+use Rattle.geometry.proofs.Places.{byte-blocked, record-inside, sector-below}
 use Rattle.geometry.proofs.Tests.{either, and-left, and-right}
 use Rattle.directory.specs.Entries.{isKind}
 use Rattle.packing.specs.Reading.{overlaid}

@@ -1,13 +1,12 @@
 -- The record at the position of an open file: of a compressed one it is read behind the place, of any other it lies in the extent, in which case
 -- the held sector counts for a blocked file alone.
 use mathlib.Core.Path.{_≡_, refl, sym, ap, _∙_}
-use mathlib.Core.Bool.{true, false, _&&_, _||_, false≢true}
-use mathlib.Core.List.{List, _++_, []}
+use mathlib.Core.Bool.{true, false}
+use mathlib.Core.List.{List, _++_}
 use Prim.Native.Nat.{ℕ, _+_, _*_, _≤_, _<_}
 use native.Mathlib.Omega.{arith}
-use lib.Dec.{ltb}
 use lib.ListN.{length, take, drop, take-append-drop}
-use borrow.Author.Tests.{lt-ltb, ne-eqb, eqb-false, eqb-true}
+use borrow.Author.Tests.{lt-ltb, ne-eqb, eqb-true}
 use Rattle.geometry.specs.Bytes.{lay}
 use Rattle.geometry.specs.Sizes.{sector, blocked, compressed, random}
 use Rattle.geometry.specs.Places.{capacity}
@@ -15,17 +14,22 @@ use Rattle.geometry.proofs.Bytes.{lay-fits}
 use Rattle.geometry.proofs.Tests.{either}
 use Rattle.directory.specs.Entries.{isKind}
 use Rattle.directory.specs.Rules.{longest}
-use Rattle.packing.specs.Reading.{overlaid, Got, got, lost, Recorded, readBehind, ledTo, into}
-use Rattle.packing.proofs.One.{told}
+use Rattle.packing.specs.Reading.{overlaid, Got, got, lost, readBehind, ledTo, into}
+use Rattle.packing.proofs.One.{Within, told}
+use Rattle.requests.proofs.Done.{Allows}
+use Rattle.requests.proofs.InTurn.{Then}
 use Rattle.steps.specs.Next.{recordHere, fixedAt}
 use Rattle.steps.specs.Verdict.{seenBytes}
 use Rattle.steps.proofs.Lawful.{Lawful}
-use Rattle.steps.proofs.Compressed.{here-read}
-use Rattle.judging.specs.Turns.{Ready, Fixed, sight, recordIn, blockedBytes, hereLed, laidFirst, hereInto}
+use Rattle.steps.proofs.Compressed.{good-within, here-read}
+use Rattle.judging.specs.Turns.{factsBut, TurnOf, CarryOf, Ready, Fixed, sight, recordIn, blockedBytes, hereLed, laidFirst, hereInto}
 use Rattle.judging.proofs.Turns.{here-there}
-use Rattle.geometry.specs.declared.Place.{Place}
 use Rattle.directory.specs.declared.Entry.{Entry}
 use Rattle.sessions.specs.declared.OpenFile.{OpenFile}
+use Rattle.requests.specs.declared.Facts.{Facts}
+use Rattle.requests.specs.declared.Request.{Request}
+use Rattle.requests.specs.declared.Request.the-variants.{Open, Read, Write, GranuleRead, GranuleWrite, GranuleLook, Position}
+use Rattle.requests.specs.declared.Order.the-variants.{WriteMark, RewindOnline, RewindOffline, RecordForward, RecordBack, FileForward, FileBack}
 use Rattle.packing.specs.declared.Led.the-variants.{To}
 
 module _ (e : Entry) (f : OpenFile) (bytes over : List ℕ) (held : ℕ) where
@@ -45,6 +49,13 @@ module _ (e : Entry) (f : OpenFile) (bytes over : List ℕ) (held : ℕ) where
   seen-fixed u k = either (isKind blocked e)
       (λ (b : isKind blocked e ≡ true). rw (u, b, seenBytes, blockedBytes))
       (λ (b : isKind blocked e ≡ false). rw (u, b, k, seenBytes, blockedBytes))
+
+  pub seen-shut : f .used ≡ false → seen ≡ bytes
+  unfolding seenBytes
+  seen-shut u = rw (u, seenBytes)
+
+  pub seen-random : f .used ≡ true → isKind random e ≡ true → seen ≡ blockedBytes e bytes held over
+  seen-random u k = seen-fixed u (let q : e .kind ≡ random = eqb-true (e .kind) random k in ne-eqb (e .kind) compressed (omega arith))
 
   -- ---- the record that is read
 
@@ -90,8 +101,8 @@ unfolding longest
 fixed-from e f k n l w t = record {
   some = omega (arith, l .long);
   short = λ (b : e .kind ≡ blocked).
-  let s : e .length ≤ longest (e .kind) = l .short in
-  rw (b, longest) at s;
+      let s : e .length ≤ longest (e .kind) = l .short in
+      rw (b, longest) at s;
   there = t;
   few = l .few;
   whole = w;
@@ -100,3 +111,35 @@ fixed-from e f k n l w t = record {
 pub fixed-here : (e : Entry) (f : OpenFile) (n : ℕ) → Ready e f n → isKind compressed e ≡ false → isKind random e ≡ false → f .position < e .count
     → Fixed e (f .position) n
 fixed-here e f n r k d h = fixed-from e f (f .position) n (r .lawful) (r .whole) (omega (arith, r .lawful .counted k d))
+
+-- ---- what a request may count on, where it was first taken for a bad code, or done
+
+module _ (files buffer code given n : ℕ) (e : Entry) (f : OpenFile) (l : Lawful e f) (w : n ≡ sector * e .sectors) where
+  abbrev first : Facts
+  first = factsBut true true files e f given code buffer
+
+  pub turn-of : (q : Request) → Then q first → TurnOf q e f n buffer
+  turn-of Open t = t .shut
+  turn-of Read t = (record { lawful = l; opened = t .advances .running .live .opened; whole = w }, t .advances .running .sequential, t .buffered)
+  turn-of Write t = tt
+  turn-of (GranuleRead g) t = tt
+  turn-of (GranuleWrite g) t = tt
+  turn-of (GranuleLook g) t = tt
+  turn-of (Position WriteMark) t = absurd t
+  turn-of (Position RewindOnline) t = absurd t
+  turn-of (Position RewindOffline) t = absurd t
+  turn-of (Position RecordForward) t = t .running .live .opened
+  turn-of (Position RecordBack) t = absurd t
+  turn-of (Position FileForward) t = absurd t
+  turn-of (Position FileBack) t = absurd t
+
+  pub carry-of : (q : Request) → Allows q first → CarryOf q code e f n
+  carry-of Open a = tt
+  carry-of Read a = tt
+  carry-of Write a = λ (k : isKind compressed e ≡ true).
+      let p : Within (e .sectors) (f .here) = good-within e (f .here) (l .places k .0) in
+      (a .coded k, p .1, omega (arith, p .0, l .few))
+  carry-of (GranuleRead g) a = (fixed-from e f g n l w (a .finds .there), a .finds .live .opened, a .finds .random)
+  carry-of (GranuleWrite g) a = tt
+  carry-of (GranuleLook g) a = tt
+  carry-of (Position o) a = tt

@@ -2,3 +2,4 @@ pub mod Turns
 pub mod Written
 pub mod Fixed
 pub mod Here
+pub mod Entered

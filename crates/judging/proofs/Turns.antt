@@ -1,27 +1,26 @@
 -- Judging with decoding in its turn comes to the verdict. An answer other than 11 to the request judged as if a code were bad stands; at 11 the
 -- request is judged again by what its decoding led to.
 use mathlib.Core.Path.{_≡_, refl, sym, ap, ap₂, subst, _∙_}
-use mathlib.Core.Bool.{Bool, true, false, _&&_, not, false≢true}
+use mathlib.Core.Bool.{Bool, true, false, not, false≢true}
 use mathlib.Core.List.{List, []}
 use Prim.Native.Nat.{ℕ, _+_, _<_}
-use native.Mathlib.Omega.{arith}
-use lib.Dec.{eqb, ltb, leb}
+use lib.Dec.{ltb}
 use lib.ListN.{length}
-use borrow.Author.Tests.{lt-ltb, ltb-true, eqb-false}
+use borrow.Author.Tests.{lt-ltb, ltb-true, eqb-false, eq-eqb, ne-eqb}
 use Rattle.geometry.specs.Bytes.{lay}
 use Rattle.geometry.specs.Places.{origin}
 use Rattle.geometry.specs.Sizes.{compressed}
 use Rattle.geometry.proofs.Bytes.{lay-nil}
 use Rattle.geometry.proofs.Tests.{either, both-ways}
 use Rattle.directory.specs.Entries.{isKind}
-use Rattle.packing.specs.Reading.{Got, got, lost, Walk, Recorded, decodes, recordsOf, behind, behindFrom, walk, walkedTo, ledTo}
+use Rattle.packing.specs.Reading.{Got, got, lost, Walk, decodes, recordsOf, behind, behindFrom, walk, walkedTo, ledTo}
 use Rattle.packing.proofs.Walks.{walk-length, decodes-walked, to-decodes, lost-breaks}
 use Rattle.requests.specs.Judge.{judge}
 use Rattle.requests.specs.Numbers.{numberOf}
 use Rattle.requests.proofs.Done.{Allows, done-allows}
-use Rattle.requests.proofs.InTurn.{isBad, stands, turn, Then, ReadsThen, reads-on}
+use Rattle.requests.proofs.InTurn.{supposing, isBad, stands, turn, Then, ReadsThen, reads-on}
 use Rattle.mounting.specs.Mounting.{countedWalk}
-use Rattle.steps.specs.Next.{Scene, recordHere, fixedAt, isLost, bytesGot, behindGot, Decoding, theCounted, theNext, none, decoding, badIn, factsWith, endPlace, moved, fileMet, fileDone, intoBuffer, entryDone}
+use Rattle.steps.specs.Next.{Scene, recordHere, fixedAt, isLost, bytesGot, behindGot, theCounted, theNext, decoding, badIn, endPlace, moved, fileMet, fileDone, intoBuffer, entryDone}
 use Rattle.steps.proofs.Compressed.{end-is}
 use Rattle.steps.specs.Verdict.{entryNext, bufferNext, doneWith, fileWith, verdictOf}
 use Rattle.judging.specs.Turns.{factsBut, sight, endLed, hereLed, laidFirst, hereInto, turnLed, turnInto, isAstray, placeIn, writtenAt, carriedTo, carriedInto, orderFrom, doneFrom, fileFrom, verdictFrom}
@@ -343,3 +342,48 @@ module _ (files buffer code : ℕ) (c : Scene) where
 
     pub turn-buffer : (old : List ℕ) → turnInto q (c .entry) (c .file) (c .bytes) old ≡ bufferNext (ans q) q c old
     turn-buffer old = turn-into q t old
+
+  -- ---- as the program goes: the facts known, what the request is first taken for and its number
+
+  module _ (q : Request) (known : Facts) (a : Answer) (n : ℕ) (k : known ≡ facts true) (j : a ≡ judge q known) (m : n ≡ numberOf a) where
+    abbrev i : ℕ
+    i = c .number
+
+    abbrev led : Led
+    led = turnLed q (c .entry) (c .file) (c .bytes)
+
+    a-first : a ≡ first q
+    a-first = j ∙ ap (judge q) k
+
+    -- 11
+    pub is-bad : n ≡ 11 → isBad (first q) ≡ true
+    is-bad h = eq-eqb (numberOf (first q)) 11 (ap numberOf (sym a-first) ∙ sym m ∙ h)
+
+    pub judged-again : n ≡ 11 → (l : Led) (t : Bool) (g : Facts) (b : Answer) (p : Place) (r : Verdict)
+        → l ≡ led → t ≡ isAstray l → g ≡ supposing t known → b ≡ judge q g → p ≡ placeIn l → r ≡ verdictFrom b q i (c .entry) (c .file) p
+        → r ≡ verdictOf true files buffer code q c
+    judged-again h l t g b p r el et eg eb ep er =
+        er ∙ ap (verdictFrom b q i (c .entry) (c .file)) (ep ∙ ap placeIn el)
+        ∙ turn-verdict q (is-bad h) b (eb ∙ ap (judge q) (eg ∙ ap₂ supposing (et ∙ ap isAstray el) k))
+
+    -- 0
+    pub is-done : n ≡ 0 → first q ≡ Done
+    is-done h = done-is (first q) (ap numberOf (sym a-first) ∙ sym m ∙ h)
+
+    pub judged-done : n ≡ 0 → (p : Place) (r : Verdict) → p ≡ carriedTo code q (c .entry) (c .file) → r ≡ verdictFrom a q i (c .entry) (c .file) p
+        → r ≡ verdictOf true files buffer code q c
+    judged-done h p r ep er = er ∙ ap₂ (λ (x : Answer) (y : Place). verdictFrom x q i (c .entry) (c .file) y) a-first ep ∙ carried-verdict q (is-done h)
+
+    -- any other
+    not-bad : (n ≡ 11 → ⊥) → isBad (first q) ≡ false
+    not-bad h = ne-eqb (numberOf (first q)) 11 (λ e. h (m ∙ ap numberOf a-first ∙ e))
+
+    not-done : (n ≡ 0 → ⊥) → first q ≡ Done → ⊥
+    not-done h d = h (m ∙ ap numberOf (a-first ∙ d))
+
+    pub judged-once : (n ≡ 11 → ⊥) → (n ≡ 0 → ⊥) → (p : Place) (r : Verdict) → r ≡ verdictFrom a q i (c .entry) (c .file) p
+        → r ≡ verdictOf true files buffer code q c
+    judged-once h z p r er = er ∙ ap (λ (x : Answer). verdictFrom x q i (c .entry) (c .file) p) a-first ∙ refused-verdict q (not-bad h) (not-done z) p
+
+    pub buffer-once : (n ≡ 11 → ⊥) → (n ≡ 0 → ⊥) → (old : List ℕ) → old ≡ bufferNext (ans q) q c old
+    buffer-once h z old = refused-buffer q (not-bad h) (not-done z) old

@@ -3,11 +3,11 @@
 use mathlib.Core.Bool.{Bool, true, false}
 use mathlib.Core.Path.{_≡_}
 use mathlib.Core.List.{List, []}
-use Prim.Native.Nat.{ℕ, _+_, _-_, _*_, _≤_, _<_}
+use Prim.Native.Nat.{ℕ, _+_, _-_, _*_, _≤_, _<_, _^_}
 use lib.Dec.{ltb}
 use Rattle.geometry.specs.Bytes.{part, lay}
 use Rattle.geometry.specs.Places.{capacity, placeOf, byteOf, origin}
-use Rattle.geometry.specs.Sizes.{sector, blocked, compressed, mostSectors}
+use Rattle.geometry.specs.Sizes.{sector, blocked, compressed, random, mostSectors}
 use Rattle.directory.specs.Entries.{isKind, isMarked, isProtected}
 use Rattle.packing.specs.Placing.{behindNew}
 use Rattle.packing.specs.Reading.{overlaid, Got, got, lost, walkedTo, ledTo}
@@ -53,9 +53,12 @@ factsBut bad legal files e f given code buffer = record {
 
 -- ---- decoding, and copying, in its turn
 
+abbrev pub sceneOf : ℕ → Entry → OpenFile → List ℕ → List ℕ → Scene
+sceneOf i e f bytes given = record { number = i; entry = e; file = f; bytes = bytes; given = given }
+
 -- a file and its bytes, as a request finds them
 abbrev pub sight : Entry → OpenFile → List ℕ → Scene
-sight e f bytes = record { number = 0; entry = e; file = f; bytes = bytes; given = [] }
+sight e f bytes = sceneOf 0 e f bytes []
 
 -- record or granule k of a file that is not compressed, in the bytes of its extent
 unfoldable pub recordIn : Entry → ℕ → List ℕ → List ℕ
@@ -105,6 +108,16 @@ turnLed (GranuleWrite g) e f bytes = To origin
 turnLed (GranuleLook g) e f bytes = To origin
 turnLed (Position o) e f bytes = hereLed e f bytes
 
+-- what it may count on then; the extent has n bytes, the buffer m
+abbrev pub TurnOf : Request → Entry → OpenFile → ℕ → ℕ → Type 0
+TurnOf Open e f n m = f .used ≡ false
+TurnOf Read e f n m = (Ready e f n) × (isKind random e ≡ false) × (e .length ≤ m)
+TurnOf Write e f n m = Unit {0}
+TurnOf (GranuleRead g) e f n m = Unit {0}
+TurnOf (GranuleWrite g) e f n m = Unit {0}
+TurnOf (GranuleLook g) e f n m = Unit {0}
+TurnOf (Position o) e f n m = f .used ≡ true
+
 -- and what is then in the buffer
 unfoldable pub turnInto : Request → Entry → OpenFile → List ℕ → List ℕ → List ℕ
 turnInto Open e f bytes old = old
@@ -127,6 +140,10 @@ placeIn (Lost p) = p
 unfoldable pub writtenAt : ℕ → Entry → OpenFile → Place
 writtenAt code e f = elim (isKind compressed e) [ true ↦ behindNew (f .here) code | false ↦ f .here ]
 
+-- which is a place
+abbrev pub Reaches : ℕ → Entry → OpenFile → Type 0
+Reaches code e f = isKind compressed e ≡ true → (code ≤ sector) × (f .here .byte ≤ sector) × (f .here .sector < 2 ^ 16)
+
 -- a request that decodes nothing, answered 0
 unfoldable pub carriedTo : ℕ → Request → Entry → OpenFile → Place
 carriedTo code Open e f = origin
@@ -137,6 +154,17 @@ carriedTo code (GranuleWrite g) e f = origin
 carriedTo code (GranuleLook g) e f = origin
 carriedTo code (Position o) e f = origin
 
+-- what it may count on
+abbrev pub CarryOf : Request → ℕ → Entry → OpenFile → ℕ → Type 0
+CarryOf Open code e f n = Unit {0}
+CarryOf Read code e f n = Unit {0}
+CarryOf Write code e f n = Reaches code e f
+CarryOf (GranuleRead g) code e f n = (Fixed e g n) × (f .used ≡ true) × (isKind random e ≡ true)
+CarryOf (GranuleWrite g) code e f n = Unit {0}
+CarryOf (GranuleLook g) code e f n = Unit {0}
+CarryOf (Position o) code e f n = Unit {0}
+
+-- and what is then in the buffer
 unfoldable pub carriedInto : Request → Entry → OpenFile → List ℕ → List ℕ → List ℕ
 carriedInto Open e f bytes old = old
 carriedInto Read e f bytes old = old

@@ -40,11 +40,12 @@ ghost use Rattle.geometry.specs.Places.{origin, capacity};
 ghost use Rattle.geometry.specs.Sizes.{blocked, compressed, random};
 ghost use Rattle.geometry.specs.Sizes as Sizes;
 ghost use Rattle.directory.specs.Entries.{isKind};
+ghost use Rattle.sessions.specs.Session.{openFiles, extent, legal};
 ghost use Rattle.steps.specs.Next.{moved, counted, fileMet, entryDone, fixedAt};
-ghost use Rattle.steps.specs.Verdict.{seenBytes};
+ghost use Rattle.steps.specs.Verdict.{seenBytes, seenScene, bufferNext, answerOf, verdictOf};
 ghost use Rattle.steps.proofs.Lawful.{Lawful};
 ghost use Rattle.requests.proofs.InTurn.{supposing};
-ghost use Rattle.judging.specs.Turns.{factsBut, sight, Ready, endLed, hereLed, hereInto, isAstray, placeIn, writtenAt, Fixed, recordIn, blockedBytes, orderFrom, doneFrom, verdictFrom};
+ghost use Rattle.judging.specs.Turns.{factsBut, sight, Ready, endLed, hereLed, hereInto, isAstray, placeIn, turnLed, turnInto, TurnOf, writtenAt, Reaches, carriedTo, carriedInto, CarryOf, Fixed, recordIn, blockedBytes, orderFrom, doneFrom, sceneOf, verdictFrom};
 
 // ---- what a request is judged by
 
@@ -97,10 +98,7 @@ fn supposed(f: Facts, bad: bool) -> Facts
 fn start() -> Place
     ensures { λ r. ⌜ r ≡ origin ⌝ }
 {
-    Place {
-        sector: 0,
-        byte: 0,
-    }
+    Place { sector: 0, byte: 0 }
 }
 
 // One less, and 0 of 0.
@@ -274,7 +272,7 @@ fn end_place(bytes: &[u8], e: Entry) -> Led
 
 // The place behind the record written, whose code has so many bytes.
 fn behind_written(e: Entry, f: OpenFile, code: usize) -> Place
-    requires { ⌜ (isKind compressed e ≡ true → (code ≤ Sizes.sector) × (f .here .byte ≤ Sizes.sector) × (f .here .sector < 2 ^ 16)) ⌝ }
+    requires { ⌜ Reaches code e f ⌝ }
     ensures { λ r. ⌜ r ≡ writtenAt code e f ⌝ }
 {
     let p = f.here;
@@ -320,14 +318,7 @@ fn copy_record(bytes: &[u8], held: u32, over: &[u8], e: Entry, k: u32, buffer: &
 }
 
 // Reads the record at the position, if there is one, into the first bytes of the buffer. A bad code leaves the buffer as it was.
-fn read_here(
-    bytes: &[u8],
-    held: u32,
-    over: &[u8],
-    e: Entry,
-    f: OpenFile,
-    buffer: &mut [u8],
-) -> Led
+fn read_here(bytes: &[u8], held: u32, over: &[u8], e: Entry, f: OpenFile, buffer: &mut [u8]) -> Led
     requires { ⌜ (Ready e f (length (now bytes))) × (isKind random e ≡ false) × (e .length ≤ length (now buffer)) ⌝ }
     ensures { λ r. ⌜ (r ≡ hereLed e f (seenBytes e f (now (bytes .entry)) held (now (over .entry))))
         × (now (buffer .exit) ≡ hereInto e f (seenBytes e f (now (bytes .entry)) held (now (over .entry))) (now (buffer .entry))) ⌝ }
@@ -357,4 +348,143 @@ fn skip_here(bytes: &[u8], held: u32, over: &[u8], e: Entry, f: OpenFile) -> Led
         return skip_behind(bytes, held, over, e.sectors, e.length, here);
     }
     Led::To(here)
+}
+
+// What a request decodes, where its turn has come: the records counted, or the record at the position.
+fn decode(
+    q: Request,
+    bytes: &[u8],
+    held: u32,
+    over: &[u8],
+    e: Entry,
+    f: OpenFile,
+    buffer: &mut [u8],
+) -> Led
+    requires { ⌜ TurnOf q e f (length (now bytes)) (length (now buffer)) ⌝ }
+    ensures { λ r. ⌜ (r ≡ turnLed q e f (seenBytes e f (now (bytes .entry)) held (now (over .entry))))
+        × (now (buffer .exit) ≡ turnInto q e f (seenBytes e f (now (bytes .entry)) held (now (over .entry))) (now (buffer .entry))) ⌝ }
+{
+    match q {
+        Request::Open => end_place(bytes, e),
+        Request::Read => read_here(bytes, held, over, e, f, buffer),
+        Request::Position(_) => skip_here(bytes, held, over, e, f),
+        _ => Led::To(start()),
+    }
+}
+
+// What a request that decodes nothing and is answered 0 moves: a granule into the buffer, or the place behind a record written.
+fn carry(
+    q: Request,
+    bytes: &[u8],
+    held: u32,
+    over: &[u8],
+    e: Entry,
+    f: OpenFile,
+    code: usize,
+    buffer: &mut [u8],
+) -> Place
+    requires { ⌜ CarryOf q code e f (length (now bytes)) ⌝ }
+    ensures { λ r. ⌜ (r ≡ carriedTo code q e f)
+        × (now (buffer .exit) ≡ carriedInto q e f (seenBytes e f (now (bytes .entry)) held (now (over .entry))) (now (buffer .entry))) ⌝ }
+{
+    match q {
+        Request::Write => behind_written(e, f, code),
+        Request::GranuleRead(g) => {
+            copy_record(bytes, held, over, e, g, buffer);
+            start()
+        }
+        _ => start(),
+    }
+}
+
+// The bytes of an entry's extent.
+fn extent_of(image: &[u8], e: Entry) -> &[u8]
+    ensures { λ r. ⌜ now r ≡ extent e (now (image .entry)) ⌝ }
+{
+    part(
+        image,
+        Geometry::SECTOR * (e.first as usize),
+        Geometry::SECTOR * (e.sectors as usize),
+    )
+}
+
+// The verdict on a used entry of a legal session; bytes is its extent.
+fn lawful_verdict(
+    bytes: &[u8],
+    held: u32,
+    over: &[u8],
+    files: u32,
+    i: usize,
+    e: Entry,
+    f: OpenFile,
+    q: Request,
+    given: &[u8],
+    code: usize,
+    buffer: &mut [u8],
+) -> Verdict
+    requires { ⌜ (Lawful e f) × (length (now bytes) ≡ Sizes.sector * e .sectors) ⌝ }
+    ensures { λ r. ⌜ (r ≡ verdictOf true files (length (now (buffer .entry))) code q
+        (sceneOf i e f (seenBytes e f (now (bytes .entry)) held (now (over .entry))) (now (given .entry))))
+        × (now (buffer .exit) ≡ bufferNext (answerOf true files (length (now (buffer .entry))) code q
+        (sceneOf i e f (seenBytes e f (now (bytes .entry)) held (now (over .entry))) (now (given .entry)))) q
+        (sceneOf i e f (seenBytes e f (now (bytes .entry)) held (now (over .entry))) (now (given .entry))) (now (buffer .entry))) ⌝ }
+{
+    let known = facts(true, true, files, e, f, given.len(), code, buffer.len());
+    let first = judge(q, known);
+    let n = number(first);
+    let here = f.here;
+    if n == 11 {
+        let led = decode(q, bytes, held, over, e, f, buffer);
+        let a = judge(q, supposed(known, is_astray(led)));
+        return next(a, q, i, e, f, place_in(led));
+    }
+    if n == 0 {
+        let p = carry(q, bytes, held, over, e, f, code, buffer);
+        return next(first, q, i, e, f, p);
+    }
+    next(first, q, i, e, f, here)
+}
+
+// The verdict on a request on entry i, and the caller's buffer behind it. sound: what an engine asks of its sessions beyond the rules of every
+// session. The held sector of this file, if there is one, is lent as over; code is the length of the code of the bytes given.
+pub fn verdict(
+    image: &[u8],
+    s: Session,
+    sound: bool,
+    held: u32,
+    over: &[u8],
+    i: usize,
+    q: Request,
+    given: &[u8],
+    code: usize,
+    buffer: &mut [u8],
+) -> Verdict
+    ensures { λ r. ⌜ (r ≡ verdictOf (legal (now (image .entry)) s && sound) (openFiles (s .files)) (length (now (buffer .entry))) code q
+        (seenScene (now (image .entry)) s held (now (over .entry)) i (now (given .entry))))
+        × (now (buffer .exit) ≡ bufferNext (answerOf (legal (now (image .entry)) s && sound) (openFiles (s .files)) (length (now (buffer .entry))) code q
+        (seenScene (now (image .entry)) s held (now (over .entry)) i (now (given .entry)))) q
+        (seenScene (now (image .entry)) s held (now (over .entry)) i (now (given .entry))) (now (buffer .entry))) ⌝ }
+{
+    let table = s.table;
+    let files = s.files;
+    let e = entry_of(table, i);
+    let f = file_of(files, i);
+    let lawful = is_legal(image, s) & sound;
+    if !lawful {
+        return Verdict {
+            answer: Answer::Refused(Refusal::NotLegal),
+            entry: e,
+            file: f,
+        };
+    }
+    if e.kind == Geometry::FREE {
+        return Verdict {
+            answer: Answer::Refused(Refusal::NotThere),
+            entry: e,
+            file: f,
+        };
+    }
+    let n = open_files(files);
+    let bytes = extent_of(image, e);
+    lawful_verdict(bytes, held, over, n, i, e, f, q, given, code, buffer)
 }

@@ -2,3 +2,4 @@ pub mod InOrder
 pub mod Done
 pub mod Live
 pub mod InTurn
+pub mod First

@@ -8,10 +8,6 @@ use Rattle.judging.proofs.Written.{goes-near, written-packed, written-f
 use borrow.Author.Needs.{needs}
 use Rattle.judging.proofs.behind_written.Statement.{statement}
 use Rattle.judging.proofs.behind_written.Tie as tie
-use Rattle.judging.proofs.behind_written.Reads as reads
-use Rattle.judging.proofs.behind_written.Lts as lts
-use Rattle.packing.proofs.goes_to_byte.Reads as goes-to-byte-reads
-use Rattle.packing.proofs.goes_to_sector.Reads as goes-to-sector-reads
 
 goes-to-sector-requires : tie.Need-goes-to-sector-requires
 goes-to-sector-requires c κs = search needs

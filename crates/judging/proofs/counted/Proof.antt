@@ -3,8 +3,6 @@ use Rattle.steps.specs.Next.{counted}
 use borrow.Author.Needs.{needs}
 use Rattle.judging.proofs.counted.Statement.{statement}
 use Rattle.judging.proofs.counted.Tie as tie
-use Rattle.judging.proofs.counted.Reads as reads
-use Rattle.judging.proofs.counted.Lts as lts
 
 mul-t6 : tie.Need-mul-t6
 mul-t6 c = search needs

@@ -15,9 +15,6 @@ use Rattle.steps.specs.Next.{entryDone}
 use borrow.Author.Needs.{needs}
 use Rattle.judging.proofs.done_entry.Statement.{statement}
 use Rattle.judging.proofs.done_entry.Tie as tie
-use Rattle.judging.proofs.done_entry.Reads as reads
-use Rattle.judging.proofs.done_entry.Lts as lts
-use Rattle.judging.proofs.counted.Reads as counted-reads
 
 enum-told : tie.Need-enum-told
 enum-told c = search needs

@@ -13,12 +13,6 @@ use Rattle.judging.specs.Turns.{doneFrom}
 use borrow.Author.Needs.{needs}
 use Rattle.judging.proofs.done_file.Statement.{statement}
 use Rattle.judging.proofs.done_file.Tie as tie
-use Rattle.judging.proofs.done_file.Reads as reads
-use Rattle.judging.proofs.done_file.Lts as lts
-use Rattle.judging.proofs.done_order.Reads as done-order-reads
-use Rattle.judging.proofs.moved.Reads as moved-reads
-use Rattle.judging.proofs.start.Reads as start-reads
-
 
 -- a granule's requests leave the state as it is
 granules : (q : Request) (i : ℕ) (e : Entry) (f : OpenFile) (p : Place) → OneOf (3 ∷ 4 ∷ 5 ∷ []) (tagOf (Request.the-type) q) → f ≡ doneFrom q i e f p

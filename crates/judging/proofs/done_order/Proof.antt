@@ -2,11 +2,6 @@ use Rattle.judging.specs.Turns.{orderFrom}
 use borrow.Author.Needs.{needs}
 use Rattle.judging.proofs.done_order.Statement.{statement}
 use Rattle.judging.proofs.done_order.Tie as tie
-use Rattle.judging.proofs.done_order.Reads as reads
-use Rattle.judging.proofs.done_order.Lts as lts
-use Rattle.judging.proofs.less_one.Reads as less-one-reads
-use Rattle.judging.proofs.moved.Reads as moved-reads
-use Rattle.judging.proofs.start.Reads as start-reads
 
 enum-told : tie.Need-enum-told
 enum-told c = search needs

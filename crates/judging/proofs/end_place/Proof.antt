@@ -6,10 +6,6 @@ use Rattle.judging.proofs.Turns.{end-packed, end-fixed}
 use borrow.Author.Needs.{needs}
 use Rattle.judging.proofs.end_place.Statement.{statement}
 use Rattle.judging.proofs.end_place.Tie as tie
-use Rattle.judging.proofs.end_place.Reads as reads
-use Rattle.judging.proofs.end_place.Lts as lts
-use Rattle.judging.proofs.start.Reads as start-reads
-use Rattle.packing.proofs.walk.Reads as walk-reads
 
 walk-requires : tie.Need-walk-requires
 walk-requires c κs = search needs

@@ -1,10 +1,6 @@
 use borrow.Author.Needs.{needs}
 use Rattle.judging.proofs.facts.Statement.{statement}
 use Rattle.judging.proofs.facts.Tie as tie
-use Rattle.judging.proofs.facts.Reads as reads
-use Rattle.judging.proofs.facts.Lts as lts
-use Rattle.directory.proofs.is_marked.Reads as is-marked-reads
-use Rattle.directory.proofs.is_protected.Reads as is-protected-reads
 
 is-protected-requires : tie.Need-is-protected-requires
 is-protected-requires c κs = search needs

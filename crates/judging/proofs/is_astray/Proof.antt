@@ -2,8 +2,6 @@ use Rattle.judging.specs.Turns.{isAstray}
 use borrow.Author.Needs.{needs}
 use Rattle.judging.proofs.is_astray.Statement.{statement}
 use Rattle.judging.proofs.is_astray.Tie as tie
-use Rattle.judging.proofs.is_astray.Reads as reads
-use Rattle.judging.proofs.is_astray.Lts as lts
 
 enum-told : tie.Need-enum-told
 enum-told c = search needs

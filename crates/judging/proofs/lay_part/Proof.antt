@@ -5,9 +5,6 @@ use mathlib.Core.Path.{_≡_}
 use borrow.Author.Needs.{needs}
 use Rattle.judging.proofs.lay_part.Statement.{statement}
 use Rattle.judging.proofs.lay_part.Tie as tie
-use Rattle.judging.proofs.lay_part.Reads as reads
-use Rattle.judging.proofs.lay_part.Lts as lts
-use Rattle.geometry.proofs.lay.Reads as lay-reads
 
 add-lay : tie.Need-add-lay
 add-lay c = search needs

@@ -2,10 +2,6 @@ use Rattle.steps.specs.Next.{fileMet}
 use borrow.Author.Needs.{needs}
 use Rattle.judging.proofs.met_file.Statement.{statement}
 use Rattle.judging.proofs.met_file.Tie as tie
-use Rattle.judging.proofs.met_file.Reads as reads
-use Rattle.judging.proofs.met_file.Lts as lts
-use Rattle.judging.proofs.moved.Reads as moved-reads
-use Rattle.judging.proofs.start.Reads as start-reads
 
 enum-told : tie.Need-enum-told
 enum-told c = search needs

@@ -3,11 +3,6 @@ use Rattle.steps.specs.Verdict.{entryNext}
 use Rattle.judging.specs.Turns.{fileFrom}
 use Rattle.judging.proofs.next.Statement.{statement}
 use Rattle.judging.proofs.next.Tie as tie
-use Rattle.judging.proofs.next.Reads as reads
-use Rattle.judging.proofs.next.Lts as lts
-use Rattle.judging.proofs.done_entry.Reads as done-entry-reads
-use Rattle.judging.proofs.done_file.Reads as done-file-reads
-use Rattle.judging.proofs.met_file.Reads as met-file-reads
 
 enum-told : tie.Need-enum-told
 enum-told c = search needs

@@ -2,8 +2,6 @@ use Rattle.judging.specs.Turns.{placeIn}
 use borrow.Author.Needs.{needs}
 use Rattle.judging.proofs.place_in.Statement.{statement}
 use Rattle.judging.proofs.place_in.Tie as tie
-use Rattle.judging.proofs.place_in.Reads as reads
-use Rattle.judging.proofs.place_in.Lts as lts
 
 enum-known-l : tie.Need-enum-known-l
 enum-known-l c = search needs

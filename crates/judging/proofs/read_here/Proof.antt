@@ -13,10 +13,6 @@ use mathlib.Core.Path.{_≡_, sym, ap, _∙_}
 use borrow.Author.Needs.{needs}
 use Rattle.judging.proofs.read_here.Statement.{statement}
 use Rattle.judging.proofs.read_here.Tie as tie
-use Rattle.judging.proofs.read_here.Reads as reads
-use Rattle.judging.proofs.read_here.Lts as lts
-use Rattle.judging.proofs.copy_record.Reads as copy-record-reads
-use Rattle.packing.proofs.read_behind.Reads as read-behind-reads
 
 returns : tie.Need-returns
 returns c =
@@ -46,9 +42,10 @@ returns-2 c =
     let a = c .before .before .before .before .before .before .before .before .before .before .before .before .before .before .args in
     let p = c .before .before .before .before .before .before .before .before .before .before .before .before .before .before .pre in
     let n : length (take (a .e .length) (a .buffer .now)) ≡ a .e .length = length-take-le (a .e .length) (a .buffer .now) (p .2) in
-    let k : isKind compressed (a .e) ≡ true = eq-eqb (a .e .kind) 3 (c .before .before .before .before .before .if2 .taken) in
-    ((rw n at (c .before .before .read-behind .ensures .0)) ∙ sym (packed-led (a .e) (a .f) (a .bytes .now) (a .over .now) (a .held) (p .0 .opened) (c .before .before .before .before .before .before .before .if1 .left) k),
-     ap (λ (l : List ℕ). l ++ drop (a .e .length) (a .buffer .now)) (rw n at (c .before .before .read-behind .ensures .1)) ∙ sym (packed-into (a .e) (a .f) (a .bytes .now) (a .over .now) (a .held) (p .0 .opened) (c .before .before .before .before .before .before .before .if1 .left) (a .buffer .now) k (p .2)))
+    let k : isKind compressed (a .e) ≡ true = eq-eqb (a .e .kind) 3 (c .before .before .before .before .before .if2 .taken) in (
+      (rw n at (c .before .before .read-behind .ensures .0)) ∙ sym (packed-led (a .e) (a .f) (a .bytes .now) (a .over .now) (a .held) (p .0 .opened) (c .before .before .before .before .before .before .before .if1 .left) k),
+      ap (λ (l : List ℕ). l ++ drop (a .e .length) (a .buffer .now)) (rw n at (c .before .before .read-behind .ensures .1)) ∙ sym (packed-into (a .e) (a .f) (a .bytes .now) (a .over .now) (a .held) (p .0 .opened) (c .before .before .before .before .before .before .before .if1 .left) (a .buffer .now) k (p .2)),
+    )
 
 copy-record-requires : tie.Need-copy-record-requires
 copy-record-requires c κs =

@@ -5,9 +5,6 @@ use mathlib.Core.Path.{sym, _∙_}
 use borrow.Author.Needs.{needs}
 use Rattle.judging.proofs.skip_here.Statement.{statement}
 use Rattle.judging.proofs.skip_here.Tie as tie
-use Rattle.judging.proofs.skip_here.Reads as reads
-use Rattle.judging.proofs.skip_here.Lts as lts
-use Rattle.packing.proofs.skip_behind.Reads as skip-behind-reads
 
 returns : tie.Need-returns
 returns c =
