@@ -28,6 +28,9 @@ overlaid-none : (bytes over : List ℕ) (held : ℕ) → eqb (length over) secto
 unfolding overlaid
 overlaid-none bytes over held h = rw (h, overlaid)
 
+pub ends-in : (e : Entry) (k n : ℕ) → Fixed e k n → byteOf (placeOf (e .kind) (e .length) k) + e .length ≤ n
+ends-in e k n x = rw (x .whole) (record-inside (e .kind) (e .length) (x .some) (x .short) k (e .sectors) (x .there))
+
 module _ (e : Entry) (k : ℕ) (bytes over : List ℕ) (held : ℕ) (x : Fixed e k (length bytes)) where
   abbrev p : Place
   p = placeOf (e .kind) (e .length) k
@@ -41,7 +44,7 @@ module _ (e : Entry) (k : ℕ) (bytes over : List ℕ) (held : ℕ) (x : Fixed e
   tested s r t h q k = rw (← h) (sym q ∙ k)
 
   pub ends : byteOf p + e .length ≤ length bytes
-  ends = rw (x .whole) (record-inside (e .kind) (e .length) (x .some) (x .short) k (e .sectors) (x .there))
+  ends = ends-in e k (length bytes) x
 
   below : p .sector < e .sectors
   below = sector-below (e .kind) (e .length) (x .some) (x .short) k (e .sectors) (x .there)

@@ -36,12 +36,15 @@ ghost use Prim.Native.Nat.{_+_, _-_, _*_, _≤_, _<_, _^_};
 ghost use lib.Dec.{eqb};
 ghost use lib.ListN.{length};
 ghost use Rattle.geometry.specs.Bytes as Bytes;
-ghost use Rattle.geometry.specs.Places.{origin, capacity};
+ghost use Rattle.geometry.specs.Places.{origin};
 ghost use Rattle.geometry.specs.Sizes.{blocked, compressed, random};
 ghost use Rattle.geometry.specs.Sizes as Sizes;
 ghost use Rattle.directory.specs.Entries.{isKind};
 ghost use Rattle.sessions.specs.Session.{openFiles, extent, legal};
-ghost use Rattle.steps.specs.Next.{moved, counted, fileMet, entryDone, fixedAt};
+ghost use Rattle.steps.specs.Look.{shown};
+ghost use Rattle.requests.specs.declared.Answer.the-variants.{Done};
+ghost use Rattle.judging.specs.Looks.{lookNumber, lookPart};
+ghost use Rattle.steps.specs.Next.{moved, counted, fileMet, entryDone};
 ghost use Rattle.steps.specs.Verdict.{seenBytes, seenScene, bufferNext, answerOf, verdictOf};
 ghost use Rattle.steps.proofs.Lawful.{Lawful};
 ghost use Rattle.requests.proofs.InTurn.{supposing};
@@ -144,8 +147,9 @@ fn done_entry(q: Request, e: Entry, f: OpenFile) -> Entry
     requires { ⌜ f .position + 1 < 2 ^ 32 ⌝ }
     ensures { λ r. ⌜ r ≡ entryDone q (sight e f []) ⌝ }
 {
+    let past = f.position + 1;
     match q {
-        Request::Write => counted(e, f.position + 1, 0),
+        Request::Write => counted(e, past, 0),
         Request::Position(o) => match o {
             Order::WriteMark => counted(e, f.position, 1),
             _ => e,
@@ -171,13 +175,14 @@ fn done_order(o: Order, e: Entry, f: OpenFile, p: Place) -> OpenFile
     requires { ⌜ f .position + 1 < 2 ^ 32 ⌝ }
     ensures { λ r. ⌜ r ≡ orderFrom o e f p ⌝ }
 {
+    let past = f.position + 1;
     let here = f.here;
     let end = f.end;
     match o {
         Order::WriteMark => moved(f, f.position, true, here, here),
         Order::RewindOnline => moved(f, 0, false, start(), end),
         Order::RewindOffline => idle(),
-        Order::RecordForward => moved(f, f.position + 1, false, p, end),
+        Order::RecordForward => moved(f, past, false, p, end),
         Order::RecordBack => moved(f, less_one(f.position), false, here, end),
         Order::FileForward => moved(f, e.count, true, end, end),
         Order::FileBack => moved(f, f.position, false, here, end),
@@ -189,6 +194,7 @@ fn done_file(q: Request, i: usize, e: Entry, f: OpenFile, p: Place) -> OpenFile
     requires { ⌜ f .position + 1 < 2 ^ 32 ⌝ }
     ensures { λ r. ⌜ r ≡ doneFrom q i e f p ⌝ }
 {
+    let past = f.position + 1;
     let end = f.end;
     match q {
         Request::Open => OpenFile {
@@ -199,8 +205,8 @@ fn done_file(q: Request, i: usize, e: Entry, f: OpenFile, p: Place) -> OpenFile
             here: start(),
             end: p,
         },
-        Request::Read => moved(f, f.position + 1, false, p, end),
-        Request::Write => moved(f, f.position + 1, false, p, p),
+        Request::Read => moved(f, past, false, p, end),
+        Request::Write => moved(f, past, false, p, p),
         Request::Position(o) => done_order(o, e, f, p),
         _ => f,
     }
@@ -294,7 +300,7 @@ fn lay_part(s: &[u8], at: usize, n: usize, buffer: &mut [u8])
     lay(buffer, 0, &s[at..at + n]);
 }
 
-// Whether blocked record's sector, of that number, is the held one, which lies in over.
+// Whether a blocked record's sector, of that number, is the held one, which lies in over.
 fn is_held(e: Entry, sector: usize, held: u32, over: &[u8]) -> bool
     ensures { λ r. ⌜ r ≡ (isKind blocked e && eqb (length (now (over .entry))) Sizes.sector) && eqb held sector ⌝ }
 {
@@ -487,4 +493,47 @@ pub fn verdict(
     let n = open_files(files);
     let bytes = extent_of(image, e);
     lawful_verdict(bytes, held, over, n, i, e, f, q, given, code, buffer)
+}
+
+// ---- looks
+
+// The answer to a look at granule g of entry i.
+pub fn look_answer(image: &[u8], s: Session, sound: bool, i: usize, g: u32) -> Answer
+    ensures { λ r. ⌜ r ≡ lookNumber (now (image .entry)) s sound i g ⌝ }
+{
+    let table = s.table;
+    let files = s.files;
+    let e = entry_of(table, i);
+    let f = file_of(files, i);
+    let n = open_files(files);
+    let lawful = is_legal(image, s) & sound;
+    judge(
+        Request::GranuleLook(g),
+        facts(false, lawful, n, e, f, 0, 0, 0),
+    )
+}
+
+// Granule g of an entry, in place.
+fn granule(image: &[u8], e: Entry, g: u32) -> &[u8]
+    requires { ⌜ (Fixed e g (Sizes.sector * e .sectors)) × (e .kind ≡ random) × (Sizes.sector * (e .first + e .sectors) ≤ length (now image)) ⌝ }
+    ensures { λ r. ⌜ now r ≡ shown Done e g (now (image .entry)) ⌝ }
+{
+    let k = Geometry::sector_of_record(e.kind, e.length, g);
+    let n = e.length as usize;
+    let at = Geometry::SECTOR * ((e.first as usize) + k);
+    &image[at..at + n]
+}
+
+// Granule g of entry i, in place in the image; an empty part where the look is refused.
+pub fn look(image: &[u8], s: Session, sound: bool, i: usize, g: u32) -> &[u8]
+    ensures { λ r. ⌜ now r ≡ lookPart (now (image .entry)) s sound i g ⌝ }
+{
+    let a = look_answer(image, s, sound, i, g);
+    if number(a) == 0 {
+        let table = s.table;
+        let e = entry_of(table, i);
+        granule(image, e, g)
+    } else {
+        &image[..0]
+    }
 }

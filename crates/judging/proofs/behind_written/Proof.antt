@@ -1,3 +1,4 @@
+-- A coded record goes into this sector or the next, which is why its place has room in its numbers.
 use mathlib.Core.Path.{_≡_, sym}
 use mathlib.Core.Bool.{true}
 use native.Mathlib.Omega.{arith}

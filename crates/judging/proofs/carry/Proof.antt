@@ -1,3 +1,4 @@
+-- By the request; a granule's file holds no sector.
 use Rattle.requests.proofs.Request as Request
 use Rattle.requests.specs.declared.Request.the-variants.{Open, Read, Write, GranuleRead, GranuleWrite, GranuleLook, Position}
 use Rattle.requests.specs.declared.Request.{Request}

@@ -1,3 +1,4 @@
+-- A blocked record whose sector is the held one lies in over at its byte offset; any other lies in the extent at its byte.
 use Rattle.judging.proofs.Fixed.{ends, tested, held-ends, from-held, from-bytes}
 use Rattle.geometry.specs.Sizes.{sector}
 use Rattle.geometry.specs.Bytes.{part, lay}

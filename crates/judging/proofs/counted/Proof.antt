@@ -1,3 +1,4 @@
+-- The definition, field by field.
 use mathlib.Core.Path.{refl}
 use Rattle.steps.specs.Next.{counted}
 use borrow.Author.Needs.{needs}

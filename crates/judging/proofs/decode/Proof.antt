@@ -1,3 +1,4 @@
+-- By the request; an opening finds its file not open, so that no held sector counts.
 use Rattle.requests.proofs.Request as Request
 use Rattle.requests.specs.declared.Request.the-variants.{Open, Read, Write, GranuleRead, GranuleWrite, GranuleLook, Position}
 use Rattle.requests.specs.declared.Request.{Request}

@@ -1,3 +1,7 @@
+-- By the request: a write and a write file mark count anew, any other leaves the entry as it is.
+use borrow.Author.Needs.{needs}
+use Rattle.judging.proofs.done_entry.Statement.{statement}
+use Rattle.judging.proofs.done_entry.Tie as tie
 use mathlib.Core.Path.{_≡_, refl}
 use mathlib.Core.List.{[], _∷_}
 use types.Run.{OneOf, miss}
@@ -12,27 +16,6 @@ use Rattle.requests.specs.declared.Order.the-variants.{WriteMark, RewindOnline,
 use Rattle.requests.proofs.Request as Request
 use Rattle.requests.proofs.Order as Order
 use Rattle.steps.specs.Next.{entryDone}
-use borrow.Author.Needs.{needs}
-use Rattle.judging.proofs.done_entry.Statement.{statement}
-use Rattle.judging.proofs.done_entry.Tie as tie
-
-enum-told : tie.Need-enum-told
-enum-told c = search needs
-
-add-counted : tie.Need-add-counted
-add-counted c = search needs
-
-counted-requires : tie.Need-counted-requires
-counted-requires c κs = search needs
-
-enum-known-q : tie.Need-enum-known-q
-enum-known-q c = search needs
-
-enum-told-2 : tie.Need-enum-told-2
-enum-told-2 c = search needs
-
-counted-requires-2 : tie.Need-counted-requires-2
-counted-requires-2 c κs = search needs
 
 -- any other request, and any other order, leaves the entry as it is
 other-request : (e : Entry) (f : OpenFile) (q : Request) → OneOf (0 ∷ 1 ∷ 3 ∷ 4 ∷ 5 ∷ []) (tagOf (Request.the-type) q) → e ≡ entryDone q (sight e f [])
@@ -55,9 +38,27 @@ other-order e f RecordBack k = refl
 other-order e f FileForward k = refl
 other-order e f FileBack k = refl
 
+add-past : tie.Need-add-past
+add-past c = search needs
+
+enum-told : tie.Need-enum-told
+enum-told c = search needs
+
+counted-requires : tie.Need-counted-requires
+counted-requires c κs = search needs
+
+enum-known-q : tie.Need-enum-known-q
+enum-known-q c = search needs
+
+enum-told-2 : tie.Need-enum-told-2
+enum-told-2 c = search needs
+
+counted-requires-2 : tie.Need-counted-requires-2
+counted-requires-2 c κs = search needs
+
 returns : tie.Need-returns
 unfolding entryDone
-returns c = rw (c .before .before .enum-told .given .1, c .counted .ensures)
+returns c = rw (c .before .enum-told .given .1, c .counted .ensures)
 
 returns-2 : tie.Need-returns-2
 unfolding entryDone
@@ -65,17 +66,17 @@ returns-2 c = rw (c .before .before .before .before .q .given .1, c .before .enu
 
 returns-3 : tie.Need-returns-3
 unfolding entryDone
-returns-3 c = rw (c .before .before .q .given .1) (other-order (c .before .before .before .before .args .e) (c .before .before .before .before .args .f) (c .before .before .q .given .0 .0) (c .match2 .keys2))
+returns-3 c = rw (c .before .before .q .given .1) (other-order (c .before .before .before .before .before .args .e) (c .before .before .before .before .before .args .f) (c .before .before .q .given .0 .0) (c .match2 .keys2))
 
 returns-4 : tie.Need-returns-4
-returns-4 c = other-request (c .before .args .e) (c .before .args .f) (c .before .args .q) (c .match .keys3)
+returns-4 c = other-request (c .before .before .args .e) (c .before .before .args .f) (c .before .before .args .q) (c .match .keys3)
 
 pub done-entry-spec : {M : Type 1} → statement M
 done-entry-spec =
     tie.close
     (tie.spec
+    add-past
     enum-told
-    add-counted
     counted-requires
     enum-known-q
     enum-told-2

@@ -1,3 +1,7 @@
+-- By the request, as the definition goes; a granule's requests leave the state as it is.
+use borrow.Author.Needs.{needs}
+use Rattle.judging.proofs.done_file.Statement.{statement}
+use Rattle.judging.proofs.done_file.Tie as tie
 use mathlib.Core.Path.{_≡_, refl}
 use mathlib.Core.List.{[], _∷_}
 use Prim.Native.Nat.{ℕ}
@@ -10,9 +14,6 @@ use Rattle.requests.specs.declared.Request.{Request}
 use Rattle.requests.specs.declared.Request.the-variants.{Open, Read, Write, GranuleRead, GranuleWrite, GranuleLook, Position}
 use Rattle.requests.proofs.Request as Request
 use Rattle.judging.specs.Turns.{doneFrom}
-use borrow.Author.Needs.{needs}
-use Rattle.judging.proofs.done_file.Statement.{statement}
-use Rattle.judging.proofs.done_file.Tie as tie
 
 -- a granule's requests leave the state as it is
 granules : (q : Request) (i : ℕ) (e : Entry) (f : OpenFile) (p : Place) → OneOf (3 ∷ 4 ∷ 5 ∷ []) (tagOf (Request.the-type) q) → f ≡ doneFrom q i e f p
@@ -25,6 +26,9 @@ granules (GranuleWrite g) i e f p k = refl
 granules (GranuleLook g) i e f p k = refl
 granules (Position o) i e f p k = absurd (miss (3 ∷ 4 ∷ 5 ∷ []) 6 tt k)
 
+add-past : tie.Need-add-past
+add-past c = search needs
+
 enum-told : tie.Need-enum-told
 enum-told c = search needs
 
@@ -34,17 +38,11 @@ start-requires c κs = search needs
 enum-told-2 : tie.Need-enum-told-2
 enum-told-2 c = search needs
 
-add-moved : tie.Need-add-moved
-add-moved c = search needs
-
 moved-requires : tie.Need-moved-requires
 moved-requires c κs = search needs
 
 enum-told-3 : tie.Need-enum-told-3
 enum-told-3 c = search needs
-
-add-moved-2 : tie.Need-add-moved-2
-add-moved-2 c = search needs
 
 moved-requires-2 : tie.Need-moved-requires-2
 moved-requires-2 c κs = search needs
@@ -61,11 +59,11 @@ returns c = rw (c .before .enum-told .given .1, c .start .ensures)
 
 returns-2 : tie.Need-returns-2
 unfolding doneFrom
-returns-2 c = rw (c .before .before .enum-told2 .given .1, c .moved .ensures)
+returns-2 c = rw (c .before .enum-told2 .given .1, c .moved .ensures)
 
 returns-3 : tie.Need-returns-3
 unfolding doneFrom
-returns-3 c = rw (c .before .before .enum-told3 .given .1, c .moved2 .ensures)
+returns-3 c = rw (c .before .enum-told3 .given .1, c .moved2 .ensures)
 
 returns-4 : tie.Need-returns-4
 unfolding doneFrom
@@ -73,20 +71,19 @@ returns-4 c = rw (c .before .before .q .given .1, c .done-order .ensures)
 
 returns-5 : tie.Need-returns-5
 returns-5 c =
-    let a = c .before .before .args in
+    let a = c .before .before .before .args in
     granules (a .q) (a .i) (a .e) (a .f) (a .p) (c .match .keys5)
 
 pub done-file-spec : {M : Type 1} → statement M
 done-file-spec =
     tie.close
     (tie.spec
+    add-past
     enum-told
     start-requires
     enum-told-2
-    add-moved
     moved-requires
     enum-told-3
-    add-moved-2
     moved-requires-2
     enum-known-q
     done-order-requires

@@ -1,7 +1,11 @@
-use Rattle.judging.specs.Turns.{orderFrom}
+-- By the order, as the definition goes.
 use borrow.Author.Needs.{needs}
 use Rattle.judging.proofs.done_order.Statement.{statement}
 use Rattle.judging.proofs.done_order.Tie as tie
+use Rattle.judging.specs.Turns.{orderFrom}
+
+add-past : tie.Need-add-past
+add-past c = search needs
 
 enum-told : tie.Need-enum-told
 enum-told c = search needs
@@ -26,9 +30,6 @@ idle-requires c κs = search needs
 
 enum-told-4 : tie.Need-enum-told-4
 enum-told-4 c = search needs
-
-add-moved : tie.Need-add-moved
-add-moved c = search needs
 
 moved-requires-3 : tie.Need-moved-requires-3
 moved-requires-3 c κs = search needs
@@ -68,7 +69,7 @@ returns-3 c = rw (c .before .enum-told3 .given .1, c .idle .ensures)
 
 returns-4 : tie.Need-returns-4
 unfolding orderFrom
-returns-4 c = rw (c .before .before .enum-told4 .given .1, c .moved3 .ensures)
+returns-4 c = rw (c .before .enum-told4 .given .1, c .moved3 .ensures)
 
 returns-5 : tie.Need-returns-5
 unfolding orderFrom
@@ -86,6 +87,7 @@ pub done-order-spec : {M : Type 1} → statement M
 done-order-spec =
     tie.close
     (tie.spec
+    add-past
     enum-told
     moved-requires
     enum-told-2
@@ -94,7 +96,6 @@ done-order-spec =
     enum-told-3
     idle-requires
     enum-told-4
-    add-moved
     moved-requires-3
     enum-told-5
     less-one-requires

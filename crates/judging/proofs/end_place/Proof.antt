@@ -1,3 +1,4 @@
+-- A compressed file's count records are walked; any other file ends at its start.
 use mathlib.Core.Path.{sym, ap, _∙_}
 use borrow.Author.Tests.{eq-eqb, ne-eqb}
 use Rattle.mounting.specs.Mounting.{countedWalk}

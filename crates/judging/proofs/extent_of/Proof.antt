@@ -1,3 +1,4 @@
+-- The definition.
 use Rattle.sessions.specs.Session.{extent}
 use borrow.Author.Needs.{needs}
 use Rattle.judging.proofs.extent_of.Statement.{statement}

@@ -1,3 +1,4 @@
+-- Each field as it stands; the two tests on flags are what the directory says of them.
 use borrow.Author.Needs.{needs}
 use Rattle.judging.proofs.facts.Statement.{statement}
 use Rattle.judging.proofs.facts.Tie as tie

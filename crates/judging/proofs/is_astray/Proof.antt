@@ -1,3 +1,4 @@
+-- By where reading led.
 use Rattle.judging.specs.Turns.{isAstray}
 use borrow.Author.Needs.{needs}
 use Rattle.judging.proofs.is_astray.Statement.{statement}

@@ -1,3 +1,4 @@
+-- 11 to the request taken as if a code were bad: its turn has come, and it is judged again by what decoding led to. Any other answer stands.
 use Rattle.judging.proofs.Turns.{is-bad, is-done, judged-again, turn-buffer, judged-done, carried-buffer, judged-once, buffer-once}
 use Rattle.judging.proofs.Here.{turn-of, carry-of}
 use Rattle.judging.specs.Turns.{sceneOf}

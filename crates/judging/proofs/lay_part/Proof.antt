@@ -1,3 +1,4 @@
+-- The part taken has n bytes.
 use Rattle.geometry.specs.Bytes.{part}
 use native.Mathlib.Omega.{arith}
 use Prim.Native.Nat.{_+_, _-_}

@@ -1,3 +1,4 @@
+-- By the edge, as the definition goes.
 use Rattle.steps.specs.Next.{fileMet}
 use borrow.Author.Needs.{needs}
 use Rattle.judging.proofs.met_file.Statement.{statement}

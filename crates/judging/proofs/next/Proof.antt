@@ -1,3 +1,4 @@
+-- By the answer, as the definitions go.
 use borrow.Author.Needs.{needs}
 use Rattle.steps.specs.Verdict.{entryNext}
 use Rattle.judging.specs.Turns.{fileFrom}

@@ -1,3 +1,4 @@
+-- By where reading led.
 use Rattle.judging.specs.Turns.{placeIn}
 use borrow.Author.Needs.{needs}
 use Rattle.judging.proofs.place_in.Statement.{statement}

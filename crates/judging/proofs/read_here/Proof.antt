@@ -1,3 +1,4 @@
+-- At the end nothing is read; a compressed record is read behind the place, into the buffer's first R bytes; any other is copied.
 use Rattle.judging.proofs.Here.{packed-led, packed-into, fixed-led, fixed-into, fixed-here}
 use Rattle.judging.proofs.Turns.{here-end, here-kept}
 use Rattle.directory.specs.Entries.{isKind}

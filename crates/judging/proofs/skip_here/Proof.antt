@@ -1,3 +1,4 @@
+-- At the end nothing is passed over; a compressed record is measured; any other has its place in the extent by its number.
 use Rattle.judging.proofs.Here.{packed-led, fixed-led}
 use Rattle.judging.proofs.Turns.{here-end}
 use borrow.Author.Tests.{le-ltb, eq-eqb, ne-eqb}

@@ -1,3 +1,4 @@
+-- 12 and 8 are given at once; behind them the entry and its state are lawful.
 use Rattle.judging.proofs.Entered.{twelve, eight, enters, comes}
 use borrow.Author.Needs.{needs}
 use Rattle.judging.proofs.verdict.Statement.{statement}
