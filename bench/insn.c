@@ -1,6 +1,6 @@
 /* A plugin for qemu-user: counts guest instructions, and says `insns N` on standard error at the end.
    Each instruction is counted by itself. To add the length of a block where it is entered would be
-   quicker, but qemu before 8.1 tells one too many for a block that ends because its next instruction
+   quicker, but qemu 7.2 tells one too many for a block that ends because its next instruction
    lies across a page's end, and that depends on where the linker puts things.
    These are the few calls used of QEMU's plugin interface, version 1. */
 #include <stddef.h>
