@@ -506,11 +506,8 @@ pub fn look_answer(image: &[u8], s: Session, sound: bool, i: usize, g: u32) -> A
     let e = entry_of(table, i);
     let f = file_of(files, i);
     let n = open_files(files);
-    let lawful = is_legal(image, s) & sound;
-    judge(
-        Request::GranuleLook(g),
-        facts(false, lawful, n, e, f, 0, 0, 0),
-    )
+    let all = is_legal(image, s) & sound;
+    judge(Request::GranuleLook(g), facts(false, all, n, e, f, 0, 0, 0))
 }
 
 // Granule g of an entry, in place.
