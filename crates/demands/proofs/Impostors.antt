@@ -7,21 +7,20 @@ use Prim.Native.Nat.{ℕ}
 use native.Mathlib.Omega.{arith}
 use lib.ListN.{length, replicate, getD, set}
 use Rattle.geometry.specs.Bytes.{part, lay, wordAt, word, padded}
-use Rattle.geometry.specs.Lists.{all, every, pairwise, firstWith, howMany, same}
-use Rattle.geometry.specs.Places.{sectorsFor, perSector, capacity, placeOf}
+use Rattle.geometry.specs.Lists.{all, every, pairwise, firstWith, howMany}
+use Rattle.geometry.specs.Places.{perSector, capacity, placeOf}
 use Rattle.geometry.specs.Sizes.{sectorsOf, lawfulLength}
 use Rattle.directory.specs.Entries.{entryFrom, entryBytes, entriesFrom, tableOf, entryAt, isMarked, isProtected}
 use Rattle.directory.specs.Rules.{kindKnown, freeIsZero, capital, digit, restOfName, isName, nameGood, namesDiffer, extentInside, extentsApart, flagsKnown, longest, lengthGood, countGood, randomBare, tableRules, tableGood}
 use Rattle.directory.specs.Stamp.{stampBytes}
-use Rattle.packing.specs.Reading.{behind, behindFrom}
 use Rattle.requests.specs.Judge.{isFull, tests, whether, orElse, firstOf, judge}
 use Rattle.sessions.specs.Session.{unheld, isOf, fileOf, slotOf, openFiles, spotOf, extent, ofUsedEntry, ofOther, positionGood, beyondGood, placesGood, sessionRules, legal}
 use Rattle.mounting.specs.Mounting.{countDecodes, mounts, startWith, plainMount}
 use Rattle.steps.specs.Effects.{readEffects, blockedEffect, writeEffects, effects, plainDo, plainAll}
 use Rattle.steps.specs.Look.{plainLook}
-use Rattle.steps.specs.Next.{fixedAt, recordHere, isLost, bytesGot, behindGot, decoding, badIn, codeLength, factsOf, behindWritten, endPlace, fileDone, counted, entryDone, intoBuffer}
+use Rattle.steps.specs.Next.{fixedAt, recordHere, isLost, bytesGot, decoding, badIn, factsOf, fileDone, counted, entryDone, intoBuffer}
 use Rattle.steps.specs.Step.{After, plainScene, plainAnswer, plainAfter, plainStep}
-use Rattle.tapes.specs.Tape.{fixedRecord, fixedRecords, recordsIn, tapeOf, recordCode, tapeFacts, padByte, newRecord, tapeDone, tapeMet, tapeNext, tapeRecord}
+use Rattle.tapes.specs.Tape.{fixedRecord, fixedRecords, recordsIn, tapeOf, tapeFacts, padByte, newRecord, tapeDone, tapeNext, tapeRecord}
 use Rattle.tapes.specs.Model.{Asked, Report, shapeOf, modelOf, modelsOf, isOpenModel, modelFacts, modelNext, modelRecord, modelInto, openModels, modelAnswer, modelStep, ifDone, modelReport, modelReports}
 use Rattle.demands.specs.Engine.{Engine, answered, stepOf, reportOf, reports, mounted}
 use Rattle.demands.specs.Demand2.{Faithful}
@@ -35,7 +34,7 @@ use Rattle.sessions.specs.declared.Session.{Session}
 -- ---- what the runs are computed by: to unfold one of these four is to unfold all that its line names
 
 directory : Unit {0}
-unfolding part lay wordAt word padded all every pairwise firstWith howMany same sectorsFor perSector capacity placeOf sectorsOf lawfulLength entryFrom entryBytes entriesFrom tableOf isMarked isProtected kindKnown freeIsZero capital digit restOfName isName nameGood namesDiffer extentInside extentsApart flagsKnown longest lengthGood countGood randomBare tableRules tableGood countDecodes mounts
+unfolding part lay wordAt word padded all every pairwise firstWith howMany perSector capacity placeOf sectorsOf lawfulLength entryFrom entryBytes entriesFrom tableOf isMarked isProtected kindKnown freeIsZero capital digit restOfName isName nameGood namesDiffer extentInside extentsApart flagsKnown longest lengthGood countGood randomBare tableRules tableGood countDecodes mounts
 directory = tt
 
 judging : Unit {0}
@@ -43,11 +42,11 @@ unfolding isFull tests whether orElse firstOf judge
 judging = tt
 
 tapes : Unit {0}
-unfolding extent fixedRecord fixedRecords recordsIn tapeOf recordCode tapeFacts padByte newRecord tapeDone tapeMet tapeNext tapeRecord behind behindFrom shapeOf modelOf modelsOf isOpenModel modelFacts modelNext modelRecord modelInto openModels modelAnswer modelStep ifDone modelReport modelReports
+unfolding extent fixedRecord fixedRecords recordsIn tapeOf tapeFacts padByte newRecord tapeDone tapeNext tapeRecord shapeOf modelOf modelsOf isOpenModel modelFacts modelNext modelRecord modelInto openModels modelAnswer modelStep ifDone modelReport modelReports
 tapes = tt
 
 plainly : Unit {0}
-unfolding extent isOf fileOf slotOf openFiles ofUsedEntry ofOther positionGood beyondGood placesGood sessionRules legal startWith plainMount readEffects blockedEffect writeEffects effects plainDo plainAll stampBytes fixedAt recordHere isLost bytesGot behindGot decoding badIn codeLength factsOf behindWritten endPlace fileDone counted entryDone intoBuffer plainScene plainAnswer plainAfter plainStep
+unfolding extent isOf fileOf slotOf openFiles ofUsedEntry ofOther positionGood beyondGood placesGood sessionRules legal startWith plainMount readEffects blockedEffect writeEffects effects plainDo plainAll stampBytes fixedAt recordHere isLost bytesGot decoding badIn factsOf fileDone counted entryDone intoBuffer plainScene plainAnswer plainAfter plainStep
 plainly = tt
 
 -- ---- the image and the run

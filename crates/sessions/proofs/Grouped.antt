@@ -64,6 +64,7 @@ module _ (table : List Entry) (f : OpenFile) where
   pub file-told : (g : Entry) (r : Bool) → g ≡ e → r ≡ openGood g f → f .used ≡ true → fileGood table f ≡ r
   file-told g r p q u = file-used u ∙ ap (λ (h : Entry). openGood h f) (sym p) ∙ sym q
 
+module _ (f : OpenFile) where
   pub others-unused : f .used ≡ false → (gs : List OpenFile) → every (ofOther f) gs ≡ true
   unfolding ofOther
   others-unused u gs = every-from (ofOther f) gs idle λ i l. rw u

@@ -5,3 +5,4 @@ pub mod Distinct
 pub mod Kept
 pub mod Counted
 pub mod Grouped
+pub mod Four

@@ -11,7 +11,7 @@ ghost use mathlib.Core.List.{map};
 ghost use lib.ListN.{drop};
 ghost use Rattle.geometry.specs.Lists.{every, firstWith};
 ghost use Rattle.directory.specs.Entries.{entryAt};
-ghost use Rattle.sessions.specs.Session.{idle, fresh, bare, isOf, fileOf, slotOf, openFiles, spotOf, placeGood, heldGood, legal, bufferedLegal};
+ghost use Rattle.sessions.specs.Session.{idle, fresh, bare, unheld, isOf, fileOf, slotOf, openFiles, spotOf, placeGood, heldGood, legal, bufferedLegal};
 ghost use Rattle.sessions.specs.Grouped.{filesGood, openGood, holdGood};
 
 // An open file: its entry, its position, and for a compressed file the current place and the end place.
@@ -96,6 +96,17 @@ pub fn bare_files(files: [BufferedFile; 4]) -> [OpenFile; 4]
     [fa, fb, fc, fd]
 }
 
+// The open files with a fresh buffer each.
+fn fresh_files(files: [OpenFile; 4]) -> [BufferedFile; 4]
+    ensures { λ r. ⌜ r ≡ map fresh files ⌝ }
+{
+    let a = fresh(files[0]);
+    let b = fresh(files[1]);
+    let c = fresh(files[2]);
+    let d = fresh(files[3]);
+    [a, b, c, d]
+}
+
 // The session without its buffers.
 pub fn bare(s: BufferedSession) -> Session
     ensures { λ r. ⌜ r ≡ bare s ⌝ }
@@ -106,6 +117,19 @@ pub fn bare(s: BufferedSession) -> Session
     Session {
         table: table,
         files: open,
+    }
+}
+
+// A session with no buffers as one with a fresh buffer for each state.
+pub fn with_buffers(s: Session) -> BufferedSession
+    ensures { λ r. ⌜ r ≡ unheld s ⌝ }
+{
+    let table = s.table;
+    let files = s.files;
+    let held = fresh_files(files);
+    BufferedSession {
+        table: table,
+        files: held,
     }
 }
 

@@ -111,7 +111,7 @@ table-plain c low (store k ys ∷ xs) u image = table-plain c low xs u _ ∙ tab
 table-plain c low (stamp ys ∷ xs) u image = absurd u
 table-plain c low (putBack ∷ xs) u image = table-plain c low xs u image
 
-all-changes : (xs : List Change) → Unstamped (map change xs)
+pub all-changes : (xs : List Change) → Unstamped (map change xs)
 all-changes [] = record {}
 all-changes (x ∷ xs) = all-changes xs
 
@@ -120,11 +120,11 @@ choice : (P : List Effect → Type 0) (b : Bool) {xs ys : List Effect} → P xs 
 choice P true p q = p
 choice P false p q = q
 
-read-unstamped : (c : Scene) → Unstamped (readEffects c)
+pub read-unstamped : (c : Scene) → Unstamped (readEffects c)
 unfolding readEffects
 read-unstamped c = choice Unstamped (isKind blocked (c .entry)) (record {}) (choice Unstamped (isKind compressed (c .entry)) (choice Unstamped (goesOn (c .bytes) (c .file .here) && ltb (c .file .here .byte) sector) (record {}) (record {})) (record {}))
 
-write-unstamped : (c : Scene) → Unstamped (writeEffects c)
+pub write-unstamped : (c : Scene) → Unstamped (writeEffects c)
 unfolding writeEffects blockedEffect storeEffect
 write-unstamped c = choice Unstamped (isKind blocked (c .entry)) (record {}) (choice Unstamped (isKind compressed (c .entry)) (all-changes (changes (c .file .here) (codeOf (c .entry .length) (c .given)))) (record {}))
 

@@ -1,20 +1,10 @@
 -- `sessions::bare_files` meets its contract: the four states, one by one.
-use mathlib.Core.List.{List, [], _∷_, map}
-use native.Mathlib.Omega.{arith}
-use lib.ListN.{length, getD}
-use mathlib.Core.Path.{_≡_, refl}
+use lib.ListN.{length}
+use mathlib.Core.Path.{_≡_}
+use Rattle.sessions.proofs.Four.{four}
 use borrow.Author.Needs.{needs}
 use Rattle.sessions.proofs.bare_files.Statement.{statement}
 use Rattle.sessions.proofs.bare_files.Tie as tie
-
-four : {A B : Type 0} (f : A → B) (xs : List A) (d : A) → length xs ≡ 4
-    → f (getD xs 0 d) ∷ f (getD xs 1 d) ∷ f (getD xs 2 d) ∷ f (getD xs 3 d) ∷ [] ≡ map f xs
-four f [] d h = absurd (omega arith)
-four f (a ∷ []) d h = absurd (omega arith)
-four f (a ∷ b ∷ []) d h = absurd (omega arith)
-four f (a ∷ b ∷ c ∷ []) d h = absurd (omega arith)
-four f (a ∷ b ∷ c ∷ e ∷ []) d h = refl
-four f (a ∷ b ∷ c ∷ e ∷ x ∷ xs) d h = absurd (omega arith)
 
 array-copy-out-a : tie.Need-array-copy-out-a
 array-copy-out-a c = search needs

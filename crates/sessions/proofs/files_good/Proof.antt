@@ -57,7 +57,7 @@ returns-2 c =
     let a = l .before .args in
     let n : length (a .t2) ≡ 4 = search needs in
     let k = l .loop .k in
-    let bad = others-used (a .t) (getD (a .t2) k idle) (c .before .before .before .before .before .if1 .taken) (drop (k + 1) (a .t2)) ∙ sym (c .before .none-from .ensures) ∙ not-true _ (c .if3 .taken) in
+    let bad = others-used (getD (a .t2) k idle) (c .before .before .before .before .before .if1 .taken) (drop (k + 1) (a .t2)) ∙ sym (c .before .none-from .ensures) ∙ not-true _ (c .if3 .taken) in
     sym (l .loop .inv .0 ∙ left-two (fileGood (a .t)) ofOther (a .t2) k idle (omega arith) bad)
 
 add-k : tie.Need-add-k Inv-loop μ-loop
@@ -77,8 +77,8 @@ loop-again c =
     let t = a .t in
     let on = left-on (fileGood t) ofOther (a .t2) k idle h in (
       l .loop .inv .0 ∙ ⊎-elim
-          (λ w. on (file-told t f _ _ (w .1 .ensures) (w .2 .ensures) (w .0 .taken) ∙ not-false _ (w .3 .left)) (others-used t f (w .0 .taken) (drop (k + 1) (a .t2)) ∙ sym (w .4 .ensures) ∙ not-false _ (w .5 .left)))
-          (λ w. on (file-unused t f (w .left)) (others-unused t f (w .left) (drop (k + 1) (a .t2))))
+          (λ w. on (file-told t f _ _ (w .1 .ensures) (w .2 .ensures) (w .0 .taken) ∙ not-false _ (w .3 .left)) (others-used f (w .0 .taken) (drop (k + 1) (a .t2)) ∙ sym (w .4 .ensures) ∙ not-false _ (w .5 .left)))
+          (λ w. on (file-unused t f (w .left)) (others-unused f (w .left) (drop (k + 1) (a .t2))))
           (c .if1 .came),
       omega arith,
     )

@@ -1,0 +1,82 @@
+/* The baseline's side. */
+#include "side.h"
+
+#include "../base.h"
+
+_Static_assert(sizeof(struct buffered_session) <= sizeof(struct side_session), "room");
+
+static unsigned plain_mount(const uint8_t *image, size_t size, struct side_session *s)
+{
+    return base_mount(image, size, (struct session *)s);
+}
+
+static unsigned plain_request(uint8_t *image, size_t size, struct side_session *s, size_t entry,
+                              unsigned code, uint32_t granule, const uint8_t *given,
+                              size_t given_size, uint8_t *buffer, size_t buffer_size)
+{
+    return base_request(image, size, (struct session *)s, entry, (enum request)code, granule, given,
+                        given_size, buffer, buffer_size);
+}
+
+static size_t plain_look(const uint8_t *image, size_t size, const struct side_session *s,
+                         size_t entry, uint32_t granule)
+{
+    return base_look(image, size, (const struct session *)s, entry, granule).size;
+}
+
+static bool plain_position(const struct side_session *s, size_t entry, uint32_t *record,
+                           bool *beyond)
+{
+    struct spot spot = base_position((const struct session *)s, entry);
+    *record = spot.record;
+    *beyond = spot.beyond;
+    return spot.open;
+}
+
+static unsigned buffered_mount(const uint8_t *image, size_t size, struct side_session *s)
+{
+    return base_buffered_mount(image, size, (struct buffered_session *)s);
+}
+
+static unsigned buffered_request(uint8_t *image, size_t size, struct side_session *s, size_t entry,
+                                 unsigned code, uint32_t granule, const uint8_t *given,
+                                 size_t given_size, uint8_t *buffer, size_t buffer_size)
+{
+    return base_buffered_request(image, size, (struct buffered_session *)s, entry,
+                                 (enum request)code, granule, given, given_size, buffer,
+                                 buffer_size);
+}
+
+static size_t buffered_look(const uint8_t *image, size_t size, const struct side_session *s,
+                            size_t entry, uint32_t granule)
+{
+    return base_buffered_look(image, size, (const struct buffered_session *)s, entry, granule).size;
+}
+
+static bool buffered_position(const struct side_session *s, size_t entry, uint32_t *record,
+                              bool *beyond)
+{
+    struct spot spot = base_buffered_position((const struct buffered_session *)s, entry);
+    *record = spot.record;
+    *beyond = spot.beyond;
+    return spot.open;
+}
+
+const struct side_engine side_plain = {plain_mount, plain_request, plain_look, plain_position};
+const struct side_engine side_buffered = {buffered_mount, buffered_request, buffered_look,
+                                          buffered_position};
+
+size_t side_decode(const uint8_t *code, size_t size, uint8_t *record, size_t length)
+{
+    return base_decode(code, size, record, length);
+}
+
+size_t side_encode(const uint8_t *record, size_t length, uint8_t *code, size_t room)
+{
+    return room < LONGEST_CODE ? 0 : base_encode(record, length, code);
+}
+
+size_t side_list(const uint8_t *image, size_t size, uint8_t *out, size_t room)
+{
+    return base_list(image, size, (char *)out, room);
+}

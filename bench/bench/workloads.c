@@ -1,0 +1,424 @@
+#include "workloads.h"
+
+#include <stdlib.h>
+#include <string.h>
+
+#include "../base.h"
+#include "images.h"
+#include "side.h"
+
+static _Alignas(64) uint8_t image[(size_t)MOST_SECTORS * SECTOR];
+static _Alignas(64) uint8_t before[(size_t)MOST_SECTORS * SECTOR];
+static struct side_session session;
+static _Alignas(64) uint8_t buffer[3600];
+static size_t size; /* of the image */
+static const struct side_engine *engine;
+
+/* One request without a granule. */
+static unsigned ask(size_t entry, enum request code, const uint8_t *given, size_t given_size,
+                    size_t buffer_size)
+{
+    return engine->request(image, size, &session, entry, code, 0, given, given_size, buffer,
+                           buffer_size);
+}
+
+/* A step of preparation that must be answered 0. */
+static void must(unsigned answer)
+{
+    if (answer != DONE)
+        abort();
+}
+
+static uint32_t mix(uint32_t sum, uint32_t x)
+{
+    return (sum << 5 | sum >> 27) ^ x;
+}
+
+/* What a read left: its answer, and three bytes of the record. */
+static uint32_t mix_read(uint32_t sum, unsigned answer, size_t length)
+{
+    return mix(sum, answer << 24 | (uint32_t)buffer[0] << 16 | (uint32_t)buffer[length / 2] << 8 |
+                        buffer[length - 1]);
+}
+
+/* A sum over all bytes of the image, once at the end of a writing iteration would cost more than
+   the writing: a few bytes of each eighth sector. */
+static uint32_t mix_image(uint32_t sum)
+{
+    for (size_t i = 0; i < size; i += 8 * SECTOR)
+        sum = mix(sum, (uint32_t)image[i] << 8 | image[i + 100]);
+    return sum;
+}
+
+/* ---- mounting ---- */
+
+static size_t prepare_mount(void)
+{
+    size = (size_t)FULL_SECTORS * SECTOR;
+    make_full(image);
+    return 1;
+}
+
+static uint32_t run_mount(const struct side_engine *e)
+{
+    return e->mount(image, size, &session);
+}
+
+static uint32_t mount_plain(void)
+{
+    return run_mount(&side_plain);
+}
+
+static uint32_t mount_buffered(void)
+{
+    return run_mount(&side_buffered);
+}
+
+/* ---- streams ---- */
+
+static size_t prepare_stream(const struct side_engine *e, size_t entry)
+{
+    engine = e;
+    size = (size_t)STATION_SECTORS * SECTOR;
+    make_station(image);
+    must(engine->mount(image, size, &session));
+    must(ask(entry, OPEN, NULL, 0, 0));
+    return STREAM;
+}
+
+static size_t prepare_blocked_plain(void)
+{
+    return prepare_stream(&side_plain, BUSLOG);
+}
+
+static size_t prepare_blocked_buffered(void)
+{
+    return prepare_stream(&side_buffered, BUSLOG);
+}
+
+static size_t prepare_packed_plain(void)
+{
+    return prepare_stream(&side_plain, PASSA);
+}
+
+static size_t prepare_packed_buffered(void)
+{
+    return prepare_stream(&side_buffered, PASSA);
+}
+
+/* Rewinds and writes STREAM records. */
+static uint32_t write_stream(size_t entry, const uint8_t *records, size_t length)
+{
+    uint32_t sum = ask(entry, REWIND_ONLINE, NULL, 0, 0);
+    for (size_t i = 0; i < STREAM; i++)
+        sum = mix(sum, ask(entry, WRITE, records + length * (i % LINES), length, 0));
+    return mix_image(sum);
+}
+
+/* Rewinds and reads STREAM records. */
+static uint32_t read_stream(size_t entry, size_t length)
+{
+    uint32_t sum = ask(entry, REWIND_ONLINE, NULL, 0, 0);
+    for (size_t i = 0; i < STREAM; i++)
+        sum = mix_read(sum, ask(entry, READ, NULL, 0, length), length);
+    return sum;
+}
+
+static uint32_t write_blocked(void)
+{
+    return write_stream(BUSLOG, frames[0], 60);
+}
+
+static uint32_t read_blocked(void)
+{
+    return read_stream(BUSLOG, 60);
+}
+
+static uint32_t write_packed(void)
+{
+    return write_stream(PASSA, lines[0], 80);
+}
+
+static uint32_t read_packed(void)
+{
+    return read_stream(PASSA, 80);
+}
+
+/* ---- granules ---- */
+
+enum { GRANULE_STEPS = 1000 };
+
+static size_t prepare_granules(const struct side_engine *e)
+{
+    prepare_stream(e, TABLES);
+    return GRANULE_STEPS;
+}
+
+static size_t prepare_granules_plain(void)
+{
+    return prepare_granules(&side_plain);
+}
+
+static size_t prepare_granules_buffered(void)
+{
+    return prepare_granules(&side_buffered);
+}
+
+static uint32_t granule_of(size_t i)
+{
+    return (uint32_t)(i * 211 % TABLES_GRANULES);
+}
+
+static uint32_t read_granules(void)
+{
+    uint32_t sum = 0;
+    for (size_t i = 0; i < GRANULE_STEPS; i++)
+        sum = mix_read(sum,
+                       engine->request(image, size, &session, TABLES, GRANULE_READ, granule_of(i),
+                                       NULL, 0, buffer, 360),
+                       360);
+    return sum;
+}
+
+static uint32_t write_granules(void)
+{
+    uint32_t sum = 0;
+    for (size_t i = 0; i < GRANULE_STEPS; i++)
+        sum = mix(sum, engine->request(image, size, &session, TABLES, GRANULE_WRITE, granule_of(i),
+                                       frames[0] + 60 * (i % (LINES - 6)), 360, NULL, 0));
+    return mix_image(sum);
+}
+
+static uint32_t look_granules(void)
+{
+    uint32_t sum = 0;
+    for (size_t i = 0; i < GRANULE_STEPS; i++)
+        sum = mix(sum, (uint32_t)engine->look(image, size, &session, TABLES, granule_of(i)));
+    return sum;
+}
+
+/* ---- one record ---- */
+
+static uint8_t codes[LINES][LONGEST_CODE];
+
+static size_t prepare_codes(void)
+{
+    for (size_t i = 0; i < LINES; i++)
+        base_encode(lines[i], 80, codes[i]);
+    return LINES;
+}
+
+static uint32_t decode_lines(void)
+{
+    uint32_t sum = 0;
+    for (size_t i = 0; i < LINES; i++)
+        sum = mix_read(sum, (unsigned)side_decode(codes[i], LONGEST_CODE, buffer, 80), 80);
+    return sum;
+}
+
+static uint32_t encode_lines(void)
+{
+    uint32_t sum = 0;
+    for (size_t i = 0; i < LINES; i++) {
+        size_t n = side_encode(lines[i], 80, buffer, LONGEST_CODE);
+        sum = mix_read(sum, (unsigned)n, n);
+    }
+    return sum;
+}
+
+/* ---- the listing ---- */
+
+static size_t prepare_list(void)
+{
+    size = (size_t)LISTED_SECTORS * SECTOR;
+    make_listed(image);
+    return 1;
+}
+
+static uint32_t list_image(void)
+{
+    size_t n = side_list(image, size, buffer, sizeof buffer);
+    uint32_t sum = (uint32_t)n;
+    for (size_t i = 0; i < n && i < sizeof buffer; i++)
+        sum = mix(sum, buffer[i]);
+    return sum;
+}
+
+/* ---- refusals ---- */
+
+enum { REFUSALS = 1000, REFUSED_OPENINGS = 20 };
+
+/* A read of an open random file, with four files in the directory. */
+static size_t prepare_refused_plain(void)
+{
+    prepare_stream(&side_plain, TABLES);
+    return REFUSALS;
+}
+
+static size_t prepare_refused_buffered(void)
+{
+    prepare_stream(&side_buffered, TABLES);
+    return REFUSALS;
+}
+
+static uint32_t refuse_reads(void)
+{
+    uint32_t sum = 0;
+    for (size_t i = 0; i < REFUSALS; i++)
+        sum = mix(sum, ask(TABLES, READ, NULL, 0, 360));
+    return sum;
+}
+
+/* The same with eighteen files in the directory, four of them open. */
+enum { FULL_TABLES = 17 };
+
+static size_t prepare_full(const struct side_engine *e)
+{
+    engine = e;
+    size = (size_t)FULL_SECTORS * SECTOR;
+    make_full(image);
+    must(engine->mount(image, size, &session));
+    must(ask(0, OPEN, NULL, 0, 0));
+    must(ask(2, OPEN, NULL, 0, 0));
+    must(ask(4, OPEN, NULL, 0, 0));
+    must(ask(FULL_TABLES, OPEN, NULL, 0, 0));
+    return REFUSALS;
+}
+
+static size_t prepare_full_plain(void)
+{
+    return prepare_full(&side_plain);
+}
+
+static size_t prepare_full_buffered(void)
+{
+    return prepare_full(&side_buffered);
+}
+
+static uint32_t refuse_full_reads(void)
+{
+    uint32_t sum = 0;
+    for (size_t i = 0; i < REFUSALS; i++)
+        sum = mix(sum, ask(FULL_TABLES, READ, NULL, 0, 360));
+    return sum;
+}
+
+/* Opening the compressed file, as full as it can be, once more. */
+static size_t prepare_reopen(const struct side_engine *e)
+{
+    engine = e;
+    size = (size_t)STATION_SECTORS * SECTOR;
+    make_full_station(image);
+    must(engine->mount(image, size, &session));
+    must(ask(PASSA, OPEN, NULL, 0, 0));
+    return REFUSED_OPENINGS;
+}
+
+static size_t prepare_reopen_plain(void)
+{
+    return prepare_reopen(&side_plain);
+}
+
+static size_t prepare_reopen_buffered(void)
+{
+    return prepare_reopen(&side_buffered);
+}
+
+static uint32_t refuse_openings(void)
+{
+    uint32_t sum = 0;
+    for (size_t i = 0; i < REFUSED_OPENINGS; i++)
+        sum = mix(sum, ask(PASSA, OPEN, NULL, 0, 0));
+    return sum;
+}
+
+/* ---- sector writes: no instructions are counted here; the sum is the number of sectors that
+   differ in the image behind a request from before it, over all requests of a stream ---- */
+
+enum { SECTOR_STREAM = 500 };
+
+static uint32_t changed_sectors(void)
+{
+    uint32_t n = 0;
+    for (size_t i = 0; i < size; i += SECTOR)
+        if (memcmp(image + i, before + i, SECTOR) != 0) {
+            memcpy(before + i, image + i, SECTOR);
+            n++;
+        }
+    return n;
+}
+
+/* A rewind, SECTOR_STREAM writes of records that differ from what stands there, and a close. */
+static uint32_t count_sectors(size_t entry, const uint8_t *records, size_t length)
+{
+    uint32_t n = 0;
+    memcpy(before, image, size);
+    must(ask(entry, REWIND_ONLINE, NULL, 0, 0));
+    n += changed_sectors();
+    for (size_t i = 0; i < SECTOR_STREAM; i++) {
+        must(ask(entry, WRITE, records + length * ((i + 7) % LINES), length, 0));
+        n += changed_sectors();
+    }
+    must(ask(entry, REWIND_OFFLINE, NULL, 0, 0));
+    n += changed_sectors();
+    must(ask(entry, OPEN, NULL, 0, 0));
+    return n;
+}
+
+static uint32_t count_blocked(void)
+{
+    make_station(image);
+    return count_sectors(BUSLOG, frames[0], 60);
+}
+
+static uint32_t count_packed(void)
+{
+    make_station(image);
+    return count_sectors(PASSA, lines[0], 80);
+}
+
+/* ---- all of them ---- */
+
+const struct workload workloads[] = {
+    {"mount-plain", "mounting 4,096 sectors, 18 full files", prepare_mount, mount_plain},
+    {"mount-buffered", "the same, buffered", prepare_mount, mount_buffered},
+    {"blocked-write-plain", "writing 10,000 records of 60 bytes", prepare_blocked_plain,
+     write_blocked},
+    {"blocked-write-buffered", "the same, buffered", prepare_blocked_buffered, write_blocked},
+    {"blocked-read-plain", "reading 10,000 records of 60 bytes", prepare_blocked_plain,
+     read_blocked},
+    {"blocked-read-buffered", "the same, buffered", prepare_blocked_buffered, read_blocked},
+    {"packed-write-plain", "writing 10,000 compressed records of 80", prepare_packed_plain,
+     write_packed},
+    {"packed-write-buffered", "the same, buffered", prepare_packed_buffered, write_packed},
+    {"packed-read-plain", "reading 10,000 compressed records of 80", prepare_packed_plain,
+     read_packed},
+    {"packed-read-buffered", "the same, buffered", prepare_packed_buffered, read_packed},
+    {"granule-read-plain", "reading 1,000 granules of 360", prepare_granules_plain, read_granules},
+    {"granule-read-buffered", "the same, buffered", prepare_granules_buffered, read_granules},
+    {"granule-write-plain", "writing 1,000 granules of 360", prepare_granules_plain,
+     write_granules},
+    {"granule-write-buffered", "the same, buffered", prepare_granules_buffered, write_granules},
+    {"granule-look-plain", "looking at 1,000 granules of 360", prepare_granules_plain,
+     look_granules},
+    {"granule-look-buffered", "the same, buffered", prepare_granules_buffered, look_granules},
+    {"decode", "decoding 1,000 records of 80", prepare_codes, decode_lines},
+    {"encode", "encoding 1,000 records of 80", prepare_codes, encode_lines},
+    {"list", "listing 180 sectors, 18 files", prepare_list, list_image},
+    {"refused-plain", "1,000 reads of an open random file (7), 4 files", prepare_refused_plain,
+     refuse_reads},
+    {"refused-buffered", "the same, buffered", prepare_refused_buffered, refuse_reads},
+    {"refused-full-plain", "the same, 18 files and 4 of them open", prepare_full_plain,
+     refuse_full_reads},
+    {"refused-full-buffered", "the same, buffered", prepare_full_buffered, refuse_full_reads},
+    {"reopen-plain", "20 openings of an open full compressed file (9)", prepare_reopen_plain,
+     refuse_openings},
+    {"reopen-buffered", "the same, buffered", prepare_reopen_buffered, refuse_openings},
+    {"sectors-blocked-plain", "sum: sectors changed by 500 blocked writes", prepare_blocked_plain,
+     count_blocked},
+    {"sectors-blocked-buffered", "the same, buffered", prepare_blocked_buffered, count_blocked},
+    {"sectors-packed-plain", "sum: sectors changed by 500 compressed writes", prepare_packed_plain,
+     count_packed},
+    {"sectors-packed-buffered", "the same, buffered", prepare_packed_buffered, count_packed},
+};
+const size_t workload_count = sizeof workloads / sizeof *workloads;

@@ -1,0 +1,73 @@
+-- `held::order` meets its contract: a record skip, a close, and any other order.
+use mathlib.Core.Path.{_∙_, ap, refl}
+use Rattle.directory.specs.Stamp.{stamped}
+use Rattle.held.proofs.Cases.{onward, skips-forward, skips-back, closes, goes-back}
+use Rattle.held.specs.Held.{bench}
+use borrow.Author.Needs.{needs}
+use Rattle.held.proofs.order.Statement.{statement}
+use Rattle.held.proofs.order.Tie as tie
+
+enum-told : tie.Need-enum-told
+enum-told c = search needs
+
+enum-told-2 : tie.Need-enum-told-2
+enum-told-2 c = search needs
+
+enum-told-3 : tie.Need-enum-told-3
+enum-told-3 c = search needs
+
+put-back-requires : tie.Need-put-back-requires
+put-back-requires c κs = search needs
+
+stamp-requires : tie.Need-stamp-requires
+stamp-requires c κs = search needs
+
+put-back-requires-2 : tie.Need-put-back-requires-2
+put-back-requires-2 c κs = search needs
+
+returns : tie.Need-returns
+returns c =
+    let a = c .before .before .before .args in
+    let q = skips-forward (a .i) (a .e) (bench (a .image .now) (a .b)) in
+    rw (c .enum-told .given .1) (onward (refl, refl) q)
+
+returns-2 : tie.Need-returns-2
+returns-2 c =
+    let a = c .before .before .before .args in
+    let q = skips-back (a .i) (a .e) (bench (a .image .now) (a .b)) in
+    rw (c .enum-told2 .given .1) (onward (refl, refl) q)
+
+same-length : tie.Need-same-length
+same-length c = search needs
+
+returns-3 : tie.Need-returns-3
+returns-3 c =
+    let a = c .before .before .before .before .before .before .before .before .before .before .before .args in
+    let q = closes (a .i) (a .e) (bench (a .image .now) (a .b)) in
+    rw (c .before .before .before .before .before .before .before .before .enum-told3 .given .1) (onward (c .before .before .before .before .before .before .put-back .ensures .0, c .before .before .stamp .ensures ∙ ap (λ v. stamped v (a .i) (a .e .count) (a .e .flags)) (c .before .before .before .before .before .before .put-back .ensures .1)) q)
+
+same-length-2 : tie.Need-same-length-2
+same-length-2 c = search needs
+
+returns-4 : tie.Need-returns-4
+returns-4 c =
+    let a = c .before .before .before .before .before .before .args in
+    let q = goes-back (a .i) (a .e) (bench (a .image .now) (a .b)) (a .o) (c .before .before .before .before .match .keys4) in
+    onward (c .before .before .put-back2 .ensures) q
+
+pub order-spec : {M : Type 1} → statement M
+order-spec =
+    tie.close
+    (tie.spec
+    enum-told
+    enum-told-2
+    enum-told-3
+    put-back-requires
+    stamp-requires
+    put-back-requires-2
+    returns
+    returns-2
+    same-length
+    returns-3
+    same-length-2
+    returns-4)

@@ -1,0 +1,58 @@
+-- `held::write` meets its contract: one way for each kind.
+use mathlib.Core.Path.{refl}
+use Rattle.held.proofs.Cases as cases
+use Rattle.held.proofs.Cases.{onward}
+use Rattle.held.specs.Held.{bench}
+use borrow.Author.Needs.{needs}
+use Rattle.held.proofs.write.Statement.{statement}
+use Rattle.held.proofs.write.Tie as tie
+
+write-blocked-requires : tie.Need-write-blocked-requires
+write-blocked-requires c κs = search needs
+
+write-coded-requires : tie.Need-write-coded-requires
+write-coded-requires c κs = search needs
+
+store-requires : tie.Need-store-requires
+store-requires c κs = search needs
+
+same-length : tie.Need-same-length
+same-length c = search needs
+
+returns : tie.Need-returns
+returns c =
+    let a = c .before .before .before .before .before .before .before .before .before .args in
+    let q = cases.write-blocked (a .e) (a .f) (a .given .now) (a .code .now) (bench (a .image .now) (a .b)) (c .before .before .before .before .if1 .taken) in
+    onward (c .before .before .write-blocked .ensures) q
+
+same-length-2 : tie.Need-same-length-2
+same-length-2 c = search needs
+
+returns-2 : tie.Need-returns-2
+returns-2 c =
+    let a = c .before .before .before .before .before .before .before .before .before .before .before .before .args in
+    let q = cases.write-coded (a .e) (a .f) (a .given .now) (a .code .now) (bench (a .image .now) (a .b)) (c .before .before .before .before .before .before .before .if1 .left) (c .before .before .before .before .before .if2 .taken) in
+    onward (c .before .before .write-coded .ensures) q
+
+same-length-3 : tie.Need-same-length-3
+same-length-3 c = search needs
+
+returns-3 : tie.Need-returns-3
+returns-3 c =
+    let a = c .before .before .before .before .before .before .before .before .before .before .before .args in
+    let q = cases.write-stored (a .e) (a .f) (a .given .now) (a .code .now) (bench (a .image .now) (a .b)) (c .before .before .before .before .before .before .if1 .left) (c .before .before .before .before .if2 .left) in
+    onward (refl, c .before .before .store .ensures) q
+
+pub write-spec : {M : Type 1} → statement M
+write-spec =
+    tie.close
+    (tie.spec
+    write-blocked-requires
+    write-coded-requires
+    store-requires
+    same-length
+    returns
+    same-length-2
+    returns-2
+    same-length-3
+    returns-3)

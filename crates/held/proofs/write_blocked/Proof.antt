@@ -1,0 +1,34 @@
+-- `held::write_blocked` meets its contract: the record goes where geometry says that it lies.
+use Rattle.held.proofs.Cases.{onward, blocked-at}
+use Rattle.held.specs.Held.{bench}
+use borrow.Author.Needs.{needs}
+use Rattle.held.proofs.write_blocked.Statement.{statement}
+use Rattle.held.proofs.write_blocked.Tie as tie
+
+sector-of-record-requires : tie.Need-sector-of-record-requires
+sector-of-record-requires c κs = search needs
+
+byte-of-record-requires : tie.Need-byte-of-record-requires
+byte-of-record-requires c κs = search needs
+
+change-requires : tie.Need-change-requires
+change-requires c κs = search needs
+
+same-length : tie.Need-same-length
+same-length c = search needs
+
+returns : tie.Need-returns
+returns c =
+    let a = c .before .before .before .before .before .before .before .before .args in
+    let q = blocked-at (a .e) (a .f) (a .given .now) _ _ (bench (a .image .now) (a .b)) (c .before .before .before .before .before .sector-of-record .ensures) (c .before .before .before .before .byte-of-record .ensures) in
+    onward (c .before .before .change .ensures) q
+
+pub write-blocked-spec : {M : Type 1} → statement M
+write-blocked-spec =
+    tie.close
+    (tie.spec
+    sector-of-record-requires
+    byte-of-record-requires
+    change-requires
+    same-length
+    returns)

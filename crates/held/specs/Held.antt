@@ -1,0 +1,67 @@
+-- What the functions of this crate do to the image and a file's buffer, in the words of steps/specs/Effects.antt. Definitions only.
+use mathlib.Core.Bool.{Bool, true, false, _&&_}
+use mathlib.Core.List.{List, [], _∷_, map}
+use Prim.Native.Nat.{ℕ, _+_}
+use lib.ListN.{length}
+use lib.Dec.{leb, ltb}
+use Rattle.geometry.specs.Places.{placeOf}
+use Rattle.geometry.specs.Sizes.{sector, entries, blocked, compressed}
+use Rattle.directory.specs.Entries.{isKind}
+use Rattle.packing.specs.Placing.{changes}
+use Rattle.sessions.specs.Session.{idle}
+use Rattle.steps.specs.Effects.{Effect, hold, change, store, stamp, putBack, storeEffect, blockedEffect, sectorAt, Bench, bufferedDo}
+use Rattle.steps.specs.Next.{Scene}
+use Rattle.straight.specs.Straight.{writing}
+use Rattle.directory.specs.declared.Entry.{Entry}
+use Rattle.sessions.specs.declared.BufferedFile.{BufferedFile}
+use Rattle.sessions.specs.declared.OpenFile.{OpenFile}
+
+abbrev pub bench : List ℕ → BufferedFile → Bench
+bench image b = record { image = image; file = b }
+
+-- a scene as far as an effect goes by it: the entry's number and the entry
+abbrev pub scene : ℕ → Entry → Scene
+scene i e = record { number = i; entry = e; file = idle; bytes = []; given = [] }
+
+-- ---- an effect on what is not there is left out
+
+-- whether sector k is one of the extent's, and lies in an image of n bytes
+unfoldable pub isThere : Entry → ℕ → ℕ → Bool
+isThere e k n = ltb k (e .sectors) && leb (sectorAt e k + sector) n
+
+-- whether there is such a sector, or entry, for an effect by way of the buffer
+unfoldable pub canDo : Scene → Effect → Bench → Bool
+canDo c (hold k) w = isThere (c .entry) k (length (w .image))
+canDo c (change x) w = isThere (c .entry) (x .place .sector) (length (w .image))
+canDo c (store k xs) w = true
+canDo c (stamp xs) w = ltb (c .number) entries
+canDo c putBack w = true
+
+unfoldable pub heldDo : Scene → Effect → Bench → Bench
+heldDo c x w = elim (canDo c x w) [ true ↦ bufferedDo c x w | false ↦ w ]
+
+unfoldable pub heldAll : Scene → List Effect → Bench → Bench
+heldAll c [] w = w
+heldAll c (x ∷ xs) w = heldAll c xs (heldDo c x w)
+
+-- ---- the effects of a read and a write
+
+-- as `readEffects`: whether the place before a compressed record says go on, and the sector in which the record starts, are given
+unfoldable pub readWith : Entry → OpenFile → Bool → ℕ → List Effect
+readWith e f goes start = elim (isKind blocked e) [
+  | true ↦ hold (placeOf blocked (e .length) (f .position) .sector) ∷ []
+  | false ↦ elim (isKind compressed e) [
+    | true ↦ elim (goes && ltb (f .here .byte) sector) [ true ↦ hold (f .here .sector) ∷ hold start ∷ [] | false ↦ hold start ∷ [] ]
+    | false ↦ []
+  ]
+]
+
+-- as `writeEffects`: the code of the bytes given is given too
+unfoldable pub writeWith : Entry → OpenFile → List ℕ → List ℕ → List Effect
+writeWith e f given code = elim (isKind blocked e) [
+  | true ↦ blockedEffect (writing e f given) ∷ []
+  | false ↦ elim (isKind compressed e) [
+    | true ↦ map change (changes (f .here) code)
+    | false ↦ storeEffect (writing e f given) (f .position) ∷ []
+  ]
+]

@@ -1,0 +1,22 @@
+-- `listing::put_number` meets its contract: the byte stands behind the digits.
+use borrow.Author.Needs.{needs}
+use Rattle.listing.specs.Listing.{decimal}
+use Rattle.listing.proofs.Writing.{then}
+use Rattle.listing.proofs.put_number.Statement.{statement}
+use Rattle.listing.proofs.put_number.Tie as tie
+
+put-digits-requires : tie.Need-put-digits-requires
+put-digits-requires c κs = search needs
+
+put-byte-requires : tie.Need-put-byte-requires
+put-byte-requires c κs = search needs
+
+same-length : tie.Need-same-length
+same-length c = search needs
+
+returns : tie.Need-returns
+unfolding decimal
+returns c = (then (c .before .before .before .before .before .before .put-digits .ensures .0) (c .before .before .put-byte .ensures .0), search needs)
+
+pub put-number-spec : {M : Type 1} → statement M
+put-number-spec = tie.close (tie.spec put-digits-requires put-byte-requires same-length returns)

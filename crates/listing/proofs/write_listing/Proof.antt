@@ -1,0 +1,78 @@
+-- `listing::write_listing` meets its contract: the header and the lines, or that the image is bad.
+use mathlib.Core.Path.{_≡_}
+use mathlib.Core.Bool.{true, false, _&&_}
+use lib.Dec.{leb}
+use Rattle.geometry.specs.Sizes.{sectorsOf}
+use Rattle.mounting.specs.Mounting.{mounts}
+use Rattle.listing.specs.Listing.{header, badImage}
+use Rattle.listing.proofs.Writing.{then, ends-at}
+use Rattle.listing.proofs.Texts.{good-listing, bad-listing}
+use borrow.Author.Needs.{needs}
+use Rattle.listing.proofs.write_listing.Statement.{statement}
+use Rattle.listing.proofs.write_listing.Tie as tie
+
+sectors-of-requires : tie.Need-sectors-of-requires
+sectors-of-requires c κs = search needs
+
+mounts-requires : tie.Need-mounts-requires
+mounts-requires c κs = search needs
+
+table-of-requires : tie.Need-table-of-requires
+table-of-requires c κs = search needs
+
+slice-aggregate-put-all : tie.Need-slice-aggregate-put-all
+slice-aggregate-put-all c = search needs
+
+put-all-requires : tie.Need-put-all-requires
+put-all-requires c κs = search needs
+
+put-lines-requires : tie.Need-put-lines-requires
+put-lines-requires c κs = search needs
+
+slice-aggregate-put-all-2 : tie.Need-slice-aggregate-put-all-2
+slice-aggregate-put-all-2 c = search needs
+
+put-all-requires-2 : tie.Need-put-all-requires-2
+put-all-requires-2 c κs = search needs
+
+same-length : tie.Need-same-length
+same-length c = search needs
+
+returns : tie.Need-returns
+unfolding header
+returns c =
+    let p = c .before .before .before .before .before .before in
+    let i = p .before .before .before .before in
+    let image = i .before .before .before .before .before .args .image .now in
+    let g : (leb (sectorsOf image) 180 && mounts image) ≡ true = rw (i .before .before .sectors-of .ensures, i .before .mounts .ensures) at (i .if1 .taken) in
+    let w = then (p .put-all .ensures .0) (c .before .before .put-lines .ensures .0) in
+    rw (good-listing image g, ← p .before .before .before .table-of .ensures) (ends-at w, (w .puts, search needs))
+
+same-length-2 : tie.Need-same-length-2
+same-length-2 c = search needs
+
+returns-2 : tie.Need-returns-2
+unfolding badImage
+returns-2 c =
+    let i = c .before .before .before .before .before in
+    let image = i .before .before .before .before .before .args .image .now in
+    let g : (leb (sectorsOf image) 180 && mounts image) ≡ false = rw (i .before .before .sectors-of .ensures, i .before .mounts .ensures) at (i .if1 .left) in
+    let w = c .before .before .put-all2 .ensures .0 in
+    rw (bad-listing image g) (ends-at w, (w .puts, search needs))
+
+pub write-listing-spec : {M : Type 1} → statement M
+write-listing-spec =
+    tie.close
+    (tie.spec
+    sectors-of-requires
+    mounts-requires
+    table-of-requires
+    slice-aggregate-put-all
+    put-all-requires
+    put-lines-requires
+    slice-aggregate-put-all-2
+    put-all-requires-2
+    same-length
+    returns
+    same-length-2
+    returns-2)

@@ -1,0 +1,82 @@
+// What a request writes straight in the image: document 01's "Where a record lies" and "Compressed records".
+use directory::Entry;
+use geometry::Geometry;
+use geometry::Place;
+use geometry::lay_padded;
+use packing::fits_here;
+use sessions::OpenFile;
+ghost use mathlib.Core.Path.{_≡_};
+ghost use mathlib.Core.List.{[], map};
+ghost use Prim.Native.Nat.{_+_, _-_, _≤_, _<_, _^_};
+ghost use Rattle.geometry.specs.Bytes.{padded};
+ghost use Rattle.geometry.specs.Bytes as Bytes;
+ghost use Rattle.geometry.specs.Sizes as Sizes;
+ghost use Rattle.packing.specs.Placing.{changes};
+ghost use Rattle.sessions.specs.Session.{idle};
+ghost use Rattle.steps.specs.Effects.{sectorAt, storeEffect, blockedEffect, plainDo, plainAll};
+ghost use Rattle.steps.specs.Effects as Effects;
+ghost use Rattle.straight.specs.Straight.{writing};
+
+// The byte of the image at which sector k of an entry's extent begins.
+pub fn sector_at(e: Entry, k: u32) -> usize
+    ensures { λ r. ⌜ r ≡ sectorAt e k ⌝ }
+{
+    Geometry::SECTOR * ((e.first as usize) + (k as usize))
+}
+
+// How many bytes a sector has from that byte on.
+pub fn room_behind(byte: usize) -> usize
+    ensures { λ r. ⌜ r ≡ Sizes.sector - byte ⌝ }
+{
+    if byte <= Geometry::SECTOR {
+        Geometry::SECTOR - byte
+    } else {
+        0
+    }
+}
+
+// Record or granule k in whole sectors, with zeros behind it.
+pub fn store(image: &mut [u8], e: Entry, k: u32, given: &[u8])
+    ensures { λ _. ⌜ now (image .exit)
+        ≡ plainDo (writing e idle (now (given .entry))) (storeEffect (writing e idle (now (given .entry))) k) (now (image .entry)) ⌝ }
+{
+    let n = Geometry::SECTOR * (Geometry::sectors_for(e.length) as usize);
+    let at = Geometry::SECTOR
+        * ((e.first as usize) + Geometry::sector_of_record(e.kind, e.length, k));
+    lay_padded(image, at, given, n, 0);
+}
+
+// Lays xs over a sector of the extent, from one of its bytes on, with b behind them up to the sector's end.
+fn change(image: &mut [u8], e: Entry, sector: usize, byte: usize, xs: &[u8], b: u8)
+    requires { ⌜ (sector ≤ 2 ^ 32) × (byte < 2 ^ 48) ⌝ }
+    ensures { λ _. ⌜ now (image .exit) ≡ Bytes.lay (now (image .entry)) (sectorAt e sector + byte) (padded b (Sizes.sector - byte) (now (xs .entry))) ⌝ }
+{
+    let at = Geometry::SECTOR * ((e.first as usize) + sector) + byte;
+    lay_padded(image, at, xs, room_behind(byte), b);
+}
+
+// The blocked record at the file's position, with zeros behind it up to its sector's end.
+pub fn write_blocked(image: &mut [u8], e: Entry, f: OpenFile, given: &[u8])
+    ensures { λ _. ⌜ now (image .exit)
+        ≡ plainDo (writing e f (now (given .entry))) (blockedEffect (writing e f (now (given .entry)))) (now (image .entry)) ⌝ }
+{
+    let sector = Geometry::sector_of_record(Geometry::BLOCKED, e.length, f.position);
+    let byte = Geometry::byte_of_record(Geometry::BLOCKED, e.length, f.position);
+    change(image, e, sector, byte, given, 0);
+}
+
+// A coded record, at the place p or in the next sector, with 128 behind it; before it goes on, the rest of the old sector becomes 128.
+pub fn write_coded(image: &mut [u8], e: Entry, p: Place, code: &[u8])
+    ensures { λ _. ⌜ now (image .exit) ≡ plainAll (writing e idle []) (map Effects.change (changes p (now (code .entry)))) (now (image .entry)) ⌝ }
+{
+    let sector = p.sector as usize;
+    let byte = p.byte as usize;
+    if fits_here(p, code.len()) {
+        change(image, e, sector, byte, code, 128);
+    } else if Geometry::SECTOR <= byte {
+        change(image, e, sector + 1, 0, code, 128);
+    } else {
+        change(image, e, sector, byte, &code[..0], 128);
+        change(image, e, sector + 1, 0, code, 128);
+    }
+}
