@@ -1,16 +1,16 @@
 -- A record or granule of a file that is not compressed lies in its extent; a blocked one in one sector, so that it is the held sector's or is apart from it.
-use mathlib.Core.Path.{_≡_, sym, _∙_}
+use mathlib.Core.Path.{_≡_, refl, sym, ap, _∙_}
 use mathlib.Core.Bool.{Bool, true, false, _&&_}
 use mathlib.Core.List.{List}
-use Prim.Native.Nat.{ℕ, _+_, _*_, _≤_, _<_}
+use Prim.Native.Nat.{ℕ, _+_, _-_, _*_, _≤_, _<_}
 use native.Mathlib.Omega.{arith}
 use lib.Dec.{eqb}
-use lib.ListN.{length}
+use lib.ListN.{length, take, drop}
 use borrow.Author.Tests.{eqb-true, eqb-false}
 use Rattle.geometry.specs.Bytes.{part, lay}
 use Rattle.geometry.specs.Sizes.{sector, blocked}
 use Rattle.geometry.specs.Places.{placeOf, byteOf}
-use Rattle.geometry.proofs.Bytes.{Apart, part-lay-apart, part-lay-inside}
+use Rattle.geometry.proofs.Bytes.{Apart, length-part, part-part, part-lay-apart, part-lay-inside}
 use Rattle.geometry.proofs.Places.{byte-blocked, record-inside, sector-below}
 use Rattle.geometry.proofs.Tests.{either, and-left, and-right}
 use Rattle.directory.specs.Entries.{isKind}
@@ -81,7 +81,7 @@ module _ (e : Entry) (k : ℕ) (bytes over : List ℕ) (held : ℕ) (x : Fixed e
         rw (blocked-is b, overlaid-with bytes over held l, ← s) (sym (part-lay-inside bytes (sector * held) over f (p .byte) (e .length) held-ends))
 
   -- else its bytes are the extent's own
-  pub from-bytes : isHeld ≡ false → part bytes (byteOf p) (e .length) ≡ recordIn e k (blockedBytes e bytes held over)
+  from-bytes : isHeld ≡ false → part bytes (byteOf p) (e .length) ≡ recordIn e k (blockedBytes e bytes held over)
   unfolding recordIn
   from-bytes h = either (isKind blocked e) (λ (b : isKind blocked e ≡ true). either (eqb (length over) sector)
       (λ (l : eqb (length over) sector ≡ true).
@@ -91,3 +91,26 @@ module _ (e : Entry) (k : ℕ) (bytes over : List ℕ) (held : ℕ) (x : Fixed e
       rw (blocked-is b, overlaid-with bytes over held l) (sym (part-lay-apart bytes (sector * held) over (byteOf p) (e .length) a)))
       (λ (l : eqb (length over) sector ≡ false). rw (blocked-is b, overlaid-none bytes over held l)))
       (λ (b : isKind blocked e ≡ false). rw (blocked-none b))
+
+  -- and so are those of its sector's part from its byte offset on, as a program takes it
+  module _ (s o : ℕ) (es : s ≡ p .sector) (eo : o ≡ p .byte) where
+    abbrev tail : List ℕ
+    tail = take (length bytes - sector * s) (drop (sector * s) bytes)
+
+    pub starts : sector * s ≤ length bytes
+    starts = omega (arith, ends)
+
+    tail-part : tail ≡ part bytes (sector * s) (length bytes - sector * s)
+    unfolding part
+    tail-part = refl
+
+    pub tail-ends : o + e .length ≤ length tail
+    tail-ends =
+        let n : length (part bytes (sector * s) (length bytes - sector * s)) ≡ length bytes - sector * s = length-part bytes (sector * s) _ (omega (arith, starts)) in
+        rw tail-part (omega (arith, ends))
+
+    pub from-tail : isHeld ≡ false → part tail o (e .length) ≡ recordIn e k (blockedBytes e bytes held over)
+    from-tail h =
+        let z : sector * s + o ≡ byteOf p = omega arith in
+        ap (λ (l : List ℕ). part l o (e .length)) tail-part ∙ part-part bytes (sector * s) (length bytes - sector * s) o (e .length) (omega (arith, ends))
+        ∙ ap (λ (i : ℕ). part bytes i (e .length)) z ∙ from-bytes h

@@ -53,10 +53,11 @@ factsBut bad legal files e f given code buffer = record {
 
 -- ---- decoding, and copying, in its turn
 
+-- what a request finds
 abbrev pub sceneOf : ℕ → Entry → OpenFile → List ℕ → List ℕ → Scene
 sceneOf i e f bytes given = record { number = i; entry = e; file = f; bytes = bytes; given = given }
 
--- a file and its bytes, as a request finds them
+-- its file and the file's bytes alone
 abbrev pub sight : Entry → OpenFile → List ℕ → Scene
 sight e f bytes = sceneOf 0 e f bytes []
 
@@ -108,16 +109,6 @@ turnLed (GranuleWrite g) e f bytes = To origin
 turnLed (GranuleLook g) e f bytes = To origin
 turnLed (Position o) e f bytes = hereLed e f bytes
 
--- what it may count on then; the extent has n bytes, the buffer m
-abbrev pub TurnOf : Request → Entry → OpenFile → ℕ → ℕ → Type 0
-TurnOf Open e f n m = f .used ≡ false
-TurnOf Read e f n m = (Ready e f n) × (isKind random e ≡ false) × (e .length ≤ m)
-TurnOf Write e f n m = Unit {0}
-TurnOf (GranuleRead g) e f n m = Unit {0}
-TurnOf (GranuleWrite g) e f n m = Unit {0}
-TurnOf (GranuleLook g) e f n m = Unit {0}
-TurnOf (Position o) e f n m = f .used ≡ true
-
 -- and what is then in the buffer
 unfoldable pub turnInto : Request → Entry → OpenFile → List ℕ → List ℕ → List ℕ
 turnInto Open e f bytes old = old
@@ -127,6 +118,16 @@ turnInto (GranuleRead g) e f bytes old = old
 turnInto (GranuleWrite g) e f bytes old = old
 turnInto (GranuleLook g) e f bytes old = old
 turnInto (Position o) e f bytes old = old
+
+-- what it may count on then; the extent has n bytes, the buffer m
+abbrev pub TurnOf : Request → Entry → OpenFile → ℕ → ℕ → Type 0
+TurnOf Open e f n m = f .used ≡ false
+TurnOf Read e f n m = (Ready e f n) × (isKind random e ≡ false) × (e .length ≤ m)
+TurnOf Write e f n m = Unit {0}
+TurnOf (GranuleRead g) e f n m = Unit {0}
+TurnOf (GranuleWrite g) e f n m = Unit {0}
+TurnOf (GranuleLook g) e f n m = Unit {0}
+TurnOf (Position o) e f n m = f .used ≡ true
 
 unfoldable pub isAstray : Led → Bool
 isAstray (To p) = false
@@ -140,7 +141,7 @@ placeIn (Lost p) = p
 unfoldable pub writtenAt : ℕ → Entry → OpenFile → Place
 writtenAt code e f = elim (isKind compressed e) [ true ↦ behindNew (f .here) code | false ↦ f .here ]
 
--- which is a place
+-- where that is a place: the code fits a sector, and the place before lies in an extent
 abbrev pub Reaches : ℕ → Entry → OpenFile → Type 0
 Reaches code e f = isKind compressed e ≡ true → (code ≤ sector) × (f .here .byte ≤ sector) × (f .here .sector < 2 ^ 16)
 
@@ -154,16 +155,6 @@ carriedTo code (GranuleWrite g) e f = origin
 carriedTo code (GranuleLook g) e f = origin
 carriedTo code (Position o) e f = origin
 
--- what it may count on
-abbrev pub CarryOf : Request → ℕ → Entry → OpenFile → ℕ → Type 0
-CarryOf Open code e f n = Unit {0}
-CarryOf Read code e f n = Unit {0}
-CarryOf Write code e f n = Reaches code e f
-CarryOf (GranuleRead g) code e f n = (Fixed e g n) × (f .used ≡ true) × (isKind random e ≡ true)
-CarryOf (GranuleWrite g) code e f n = Unit {0}
-CarryOf (GranuleLook g) code e f n = Unit {0}
-CarryOf (Position o) code e f n = Unit {0}
-
 -- and what is then in the buffer
 unfoldable pub carriedInto : Request → Entry → OpenFile → List ℕ → List ℕ → List ℕ
 carriedInto Open e f bytes old = old
@@ -173,6 +164,16 @@ carriedInto (GranuleRead g) e f bytes old = lay old 0 (fixedAt (sight e f bytes)
 carriedInto (GranuleWrite g) e f bytes old = old
 carriedInto (GranuleLook g) e f bytes old = old
 carriedInto (Position o) e f bytes old = old
+
+-- what it may count on
+abbrev pub CarryOf : Request → ℕ → Entry → OpenFile → ℕ → Type 0
+CarryOf Open code e f n = Unit {0}
+CarryOf Read code e f n = Unit {0}
+CarryOf Write code e f n = Reaches code e f
+CarryOf (GranuleRead g) code e f n = (Fixed e g n) × (f .used ≡ true) × (isKind random e ≡ true)
+CarryOf (GranuleWrite g) code e f n = Unit {0}
+CarryOf (GranuleLook g) code e f n = Unit {0}
+CarryOf (Position o) code e f n = Unit {0}
 
 -- ---- the next state of the file
 

@@ -292,12 +292,12 @@ fn behind_written(e: Entry, f: OpenFile, code: usize) -> Place
     }
 }
 
-// Lays the n bytes of s from byte at on over the first bytes of the buffer.
-fn lay_part(s: &[u8], at: usize, n: usize, buffer: &mut [u8])
-    requires { ⌜ at + n ≤ length (now s) ⌝ }
-    ensures { λ _. ⌜ now (buffer .exit) ≡ Bytes.lay (now (buffer .entry)) 0 (Bytes.part (now (s .entry)) at n) ⌝ }
+// Lays the n bytes of a sector, and of those behind it, from byte o on over the first bytes of the buffer.
+fn lay_part(sector: &[u8], o: usize, n: usize, buffer: &mut [u8])
+    requires { ⌜ o + n ≤ length (now sector) ⌝ }
+    ensures { λ _. ⌜ now (buffer .exit) ≡ Bytes.lay (now (buffer .entry)) 0 (Bytes.part (now (sector .entry)) o n) ⌝ }
 {
-    lay(buffer, 0, &s[at..at + n]);
+    lay(buffer, 0, &sector[o..o + n]);
 }
 
 // Whether a blocked record's sector, of that number, is the held one, which lies in over.
@@ -307,8 +307,8 @@ fn is_held(e: Entry, sector: usize, held: u32, over: &[u8]) -> bool
     ((e.kind == Geometry::BLOCKED) & (over.len() == Geometry::SECTOR)) & ((held as usize) == sector)
 }
 
-// Lays record or granule k of a file that is not compressed over the first bytes of the buffer: the sector's part from the record's byte offset,
-// out of over, if the record's sector is the one held there.
+// Lays record or granule k of a file that is not compressed over the first bytes of the buffer: its sector's part from the record's byte offset,
+// out of over, if that sector is the one held there.
 fn copy_record(bytes: &[u8], held: u32, over: &[u8], e: Entry, k: u32, buffer: &mut [u8])
     requires { ⌜ Fixed e k (length (now bytes)) ⌝ }
     ensures { λ _. ⌜ now (buffer .exit) ≡ Bytes.lay (now (buffer .entry)) 0 (recordIn e k (blockedBytes e (now (bytes .entry)) held (now (over .entry)))) ⌝ }
@@ -319,7 +319,8 @@ fn copy_record(bytes: &[u8], held: u32, over: &[u8], e: Entry, k: u32, buffer: &
     if is_held(e, s, held, over) {
         lay_part(over, o, n, buffer);
     } else {
-        lay_part(bytes, Geometry::SECTOR * s + o, n, buffer);
+        let at = Geometry::SECTOR * s;
+        lay_part(&bytes[at..], o, n, buffer);
     }
 }
 
@@ -506,11 +507,8 @@ pub fn look_answer(image: &[u8], s: Session, sound: bool, i: usize, g: u32) -> A
     let e = entry_of(table, i);
     let f = file_of(files, i);
     let n = open_files(files);
-    let lawful = is_legal(image, s) & sound;
-    judge(
-        Request::GranuleLook(g),
-        facts(false, lawful, n, e, f, 0, 0, 0),
-    )
+    let all = is_legal(image, s) & sound;
+    judge(Request::GranuleLook(g), facts(false, all, n, e, f, 0, 0, 0))
 }
 
 // Granule g of an entry, in place.

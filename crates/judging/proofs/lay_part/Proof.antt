@@ -29,7 +29,7 @@ returns : tie.Need-returns
 unfolding part
 returns c =
     let a = c .before .before .before .before .before .before .before .args in
-    let n : (a .at + a .n) - a .at ≡ a .n = omega arith in
+    let n : (a .o + a .n) - a .o ≡ a .n = omega arith in
     rw n at (c .before .before .lay .ensures)
 
 pub lay-part-spec : {M : Type 1} → statement M
