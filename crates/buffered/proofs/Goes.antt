@@ -1,6 +1,6 @@
 -- What a request answered 0 goes by, in either engine: its session is legal and its entry is used, so the extent lies in the image, every effect
 -- suits the file, and the code of the bytes given is in the room lent for it.
-use mathlib.Core.Path.{_≡_, refl, ap}
+use mathlib.Core.Path.{_≡_, refl}
 use mathlib.Core.Bool.{Bool, true, false}
 use mathlib.Core.List.{List}
 use Prim.Native.Nat.{ℕ, _+_, _*_, _≤_, _<_}
@@ -13,11 +13,11 @@ use Rattle.geometry.specs.Bytes.{part}
 use Rattle.geometry.specs.Sizes.{sector, entries, free, compressed, sectorsOf}
 use Rattle.geometry.proofs.Places.{lawful-whole}
 use Rattle.geometry.proofs.Tests.{either, both-ways}
-use Rattle.coding.specs.Decode.{Decoded, good, bad, decode}
+use Rattle.coding.specs.Decode.{Decoded, good, bad}
 use Rattle.coding.specs.Encode.{codeOf}
 use Rattle.directory.specs.Entries.{entryAt, isFree, isKind}
 use Rattle.directory.proofs.Good.{Lies, lies, used-inside}
-use Rattle.packing.specs.Reading.{Got, got, lost, gotFrom, startOf, readAt, readBehind}
+use Rattle.packing.specs.Reading.{gotFrom, startOf, readAt, readBehind}
 use Rattle.requests.specs.Judge.{judge}
 use Rattle.requests.proofs.Done.{Writes, Reads, done-allows}
 use Rattle.requests.proofs.Live.{Real, done-real}
@@ -32,10 +32,8 @@ use Rattle.straight.proofs.Judged.{right-length, short-coded, room-coded}
 use Rattle.geometry.specs.declared.Place.{Place}
 use Rattle.directory.specs.declared.Entry.{Entry}
 use Rattle.requests.specs.declared.Answer.the-variants.{Done}
-use Rattle.requests.specs.declared.Facts.{Facts}
 use Rattle.requests.specs.declared.Request.{Request}
 use Rattle.requests.specs.declared.Request.the-variants.{Read, Write}
-use Rattle.sessions.specs.declared.OpenFile.{OpenFile}
 use Rattle.sessions.specs.declared.Session.{Session}
 
 -- ---- a record read lies in the sector in which it starts
@@ -92,9 +90,9 @@ module _ (image : List ℕ) (s : Session) (ok : Bool) (sound : ok ≡ true → l
     suits = suit files buffer q c is-lawful (rw (real .0) at d)
 
     -- the sector that a compressed record read lies in
-    pub found : q ≡ Read → isKind compressed e ≡ true → fileDone q c .here .sector ≡ startOf bytes (fileOf (s .files) i .here) .sector
+    pub lies-in : q ≡ Read → isKind compressed e ≡ true → fileDone q c .here .sector ≡ startOf bytes (fileOf (s .files) i .here) .sector
     unfolding fileDone
-    found w z =
+    lies-in w z =
         let y : judge Read (factsOf ok files buffer Read c) ≡ Done = rw w at d in
         rw w (go (done-allows Read _ y))
       where

@@ -3,13 +3,13 @@
 use mathlib.Core.Path.{_≡_, refl, sym, ap, _∙_}
 use mathlib.Core.Logic.{_⊎_, inl, inr}
 use mathlib.Core.Bool.{Bool, true, false, _&&_, _||_, not}
-use mathlib.Core.List.{List, [], map}
+use mathlib.Core.List.{List, []}
 use Prim.Native.Nat.{ℕ, _+_, _*_, _≤_, _<_}
 use native.Mathlib.Omega.{arith}
 use native.Mathlib.Decide.{decLt}
 use lib.Dec.{eqb}
 use lib.Seq.{sets}
-use lib.ListN.{length, getD, set, length-map, List·getD-map, List·getD-eq-default}
+use lib.ListN.{length, getD, set, List·getD-map, List·getD-eq-default}
 use borrow.Author.Tests.{eq-eqb, not-true}
 use Rattle.geometry.specs.Bytes.{part, lay}
 use Rattle.geometry.specs.Lists.{every, firstWith}
@@ -25,14 +25,14 @@ use Rattle.sessions.proofs.Files.{Finds, opened, closed, finds}
 use Rattle.sessions.proofs.Legal.{bare-legal, held-inside}
 use Rattle.steps.specs.Effects.{Bench, effects, bufferedAll}
 use Rattle.steps.specs.Next.{Scene, codeLength, factsOf}
-use Rattle.steps.specs.Step.{After, heldOf, kept, bufferedScene, bufferedAnswer, bufferedAfter, bufferedStep}
+use Rattle.steps.specs.Step.{heldOf, kept, bufferedScene, bufferedAnswer, bufferedAfter, bufferedStep}
 use Rattle.steps.proofs.Inside.{AllSuit}
 use Rattle.steps.specs.Verdict.{seenBytes, seenScene, entryNext, fileNext, bufferNext, answerOf, verdictOf}
 use Rattle.straight.specs.Straight.{codeGiven, Encoded}
 use Rattle.straight.proofs.Judged.{judgement, judged, buffer-judged}
 use Rattle.held.specs.Held.{bench}
 use Rattle.buffered.specs.Buffered.{sceneWith, Found, stateAt, lentBy}
-use Rattle.buffered.proofs.Goes.{right, there, room, suits, found as found-at, encoded}
+use Rattle.buffered.proofs.Goes.{right, there, room, suits, lies-in, encoded}
 use Rattle.directory.specs.declared.Entry.{Entry}
 use Rattle.requests.specs.declared.Request.{Request}
 use Rattle.requests.specs.declared.Answer.{Answer}
@@ -255,7 +255,7 @@ module _ (image : List ℕ) (s : BufferedSession) (i : ℕ) (q : Request) (given
     unfolding bufferedScene bare fileNext
     goes-found k h w z =
         h ∙ ap (λ (x : Answer). fileNext x q c .here .sector) d
-        ∙ found-at image (bare s) ok (bare-legal image s) i (extentWith E held image) given files (length buffer) q d w z
+        ∙ lies-in image (bare s) ok (bare-legal image s) i (extentWith E held image) given files (length buffer) q d w z
         ∙ ap (λ (f : OpenFile). startOf (extentWith E held image) (f .here) .sector) (sym (held-file s i))
 
     goes-encoded : (room : List ℕ) → length room ≡ 135 → Encoded q E given (part (sets room 0 (codeGiven E given)) 0 n)

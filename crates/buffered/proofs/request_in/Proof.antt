@@ -1,16 +1,11 @@
 -- `buffered::request_in` meets its contract: one way for each answer.
 use mathlib.Core.Path.{_≡_, sym, ap, _∙_}
-use Prim.Native.Nat.{_+_, _*_, _≤_, _<_}
 use lib.ListN.{length, length-map}
 use Rattle.geometry.specs.Sizes.{sector, entries}
-use Rattle.sessions.specs.Session.{bare, slotOf, openFiles, legal, bufferedLegal}
-use Rattle.sessions.proofs.Legal.{bare-legal}
-use Rattle.steps.specs.Effects.{Bench, effects, bufferedAll}
+use Rattle.sessions.specs.Session.{bare, slotOf, openFiles, bufferedLegal}
 use Rattle.steps.specs.Step.{heldOf, bufferedScene}
 use Rattle.steps.specs.Verdict.{bufferNext}
 use Rattle.straight.proofs.Judged.{judgement}
-use Rattle.held.specs.Held.{bench}
-use Rattle.buffered.specs.Buffered.{sceneWith}
 use Rattle.buffered.proofs.Stepped.{slot-told, state-told, verdict-told, buffer-told, act-told, done-told, met-told, refused-told}
 use Rattle.requests.specs.declared.Answer.{Answer}
 use Rattle.requests.specs.declared.Answer.the-variants.{Done}
