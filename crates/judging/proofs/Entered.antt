@@ -1,5 +1,5 @@
 -- The first two tests, 12 and 8, are made before anything else; behind them the entry and its state are lawful, and the extent is whole.
-use mathlib.Core.Path.{_≡_, sym, ap, _∙_}
+use mathlib.Core.Path.{_≡_}
 use mathlib.Core.Bool.{Bool, true, false, _&&_, not}
 use mathlib.Core.List.{List}
 use Prim.Native.Nat.{ℕ, _*_}
@@ -9,7 +9,6 @@ use borrow.Author.Tests.{eqb-false, eq-eqb, ne-eqb, not-true, not-false}
 use Rattle.geometry.specs.Sizes.{sector, sectorsOf}
 use Rattle.geometry.proofs.Bytes.{length-part}
 use Rattle.geometry.proofs.Places.{lawful-whole}
-use Rattle.geometry.proofs.Tests.{and-left}
 use Rattle.directory.specs.Entries.{entryAt, isFree}
 use Rattle.directory.proofs.Good.{Lies, lies}
 use Rattle.requests.proofs.First.{not-legal, not-there}
@@ -19,7 +18,7 @@ use Rattle.steps.specs.Next.{Scene, factsWith}
 use Rattle.steps.specs.Verdict.{seenBytes, seenScene, entryNext, fileWith, bufferNext, answerOf, verdictOf}
 use Rattle.steps.proofs.Lawful.{Lawful}
 use Rattle.steps.proofs.Inside.{lawful}
-use Rattle.judging.specs.Turns.{sceneOf}
+use Rattle.judging.specs.Turns.{Stands, sceneOf}
 use Rattle.directory.specs.declared.Entry.{Entry}
 use Rattle.sessions.specs.declared.OpenFile.{OpenFile}
 use Rattle.sessions.specs.declared.Session.{Session}
@@ -47,47 +46,45 @@ extent-long image s i ok used =
     let l : Lies (sectorsOf image) (entryAt (s .table) i) = lies (sectorsOf image) (s .table) (good-table image s ok) i (eqb-false (entryAt (s .table) i .kind) 0 used) in
     length-part image _ _ (omega (arith, l .ends, lawful-whole image (lawful-length image s ok)))
 
--- as the program goes: the session, the entry and its state
-module _ (image : List ℕ) (s : Session) (sound : Bool) (held : ℕ) (over : List ℕ) (i : ℕ) (q : Request) (given : List ℕ) (code : ℕ) (buffer : List ℕ)
-    (e : Entry) (f : OpenFile) (l : Bool) (ee : e ≡ entryAt (s .table) i) (ef : f ≡ fileOf (s .files) i) (el : l ≡ legal image s) where
+-- as the program goes: the session is legal or not, the entry is used or not
+module _ (image : List ℕ) (ok : Bool) (files : ℕ) (e : Entry) (f : OpenFile) (held : ℕ) (over : List ℕ) (i : ℕ) (q : Request) (given : List ℕ) (code : ℕ) (buffer : List ℕ) where
   abbrev scene : Scene
-  scene = seenScene image s held over i given
-
-  abbrev ok : Bool
-  ok = legal image s && sound
+  scene = sceneOf i e f (seenBytes e f (extent e image) held over) given
 
   abbrev Comes : Verdict → List ℕ → Type 0
-  Comes v b = (v ≡ verdictOf ok (openFiles (s .files)) (length buffer) code q scene)
-      × (b ≡ bufferNext (answerOf ok (openFiles (s .files)) (length buffer) code q scene) q scene buffer)
+  Comes v b = (v ≡ verdictOf ok files (length buffer) code q scene) × (b ≡ bufferNext (answerOf ok files (length buffer) code q scene) q scene buffer)
 
-  refused : (x : Refusal) → answerOf ok (openFiles (s .files)) (length buffer) code q scene ≡ Refused x
-      → Comes (record { answer = Refused x; entry = e; file = f }) buffer
-  unfolding seenScene
-  refused x h = rw (ee, ef) (refused-is ok (openFiles (s .files)) (length buffer) code q scene x h, refused-buffer ok (openFiles (s .files)) (length buffer) code q scene x h buffer)
+  refused : (x : Refusal) → answerOf ok files (length buffer) code q scene ≡ Refused x → Comes (record { answer = Refused x; entry = e; file = f }) buffer
+  refused x h = (refused-is ok files (length buffer) code q scene x h, refused-buffer ok files (length buffer) code q scene x h buffer)
 
-  is-ok : (b : Bool) → l && sound ≡ b → ok ≡ b
-  is-ok b h = ap (λ (t : Bool). t && sound) (sym el) ∙ h
+  pub twelve : not ok ≡ true → Comes (record { answer = Refused NotLegal; entry = e; file = f }) buffer
+  twelve h = refused NotLegal (not-legal q (factsWith ok files (length buffer) code q scene) (not-true ok h))
 
-  pub twelve : not (l && sound) ≡ true → Comes (record { answer = Refused NotLegal; entry = e; file = f }) buffer
-  twelve h = refused NotLegal (not-legal q (factsWith ok (openFiles (s .files)) (length buffer) code q scene) (is-ok false (not-true _ h)))
-
-  module _ (h : not (l && sound) ≡ false) where
-    all : ok ≡ true
-    all = is-ok true (not-false _ h)
-
+  module _ (h : not ok ≡ false) where
     pub eight : e .kind ≡ 0 → Comes (record { answer = Refused NotThere; entry = e; file = f }) buffer
-    unfolding seenScene
-    eight k = refused NotThere (not-there q (factsWith ok (openFiles (s .files)) (length buffer) code q scene) all (eq-eqb (entryAt (s .table) i .kind) 0 (ap (λ (x : Entry). x .kind) (sym ee) ∙ k)))
+    eight k = refused NotThere (not-there q (factsWith ok files (length buffer) code q scene) (not-false ok h) (eq-eqb (e .kind) 0 k))
 
-    used : (e .kind ≡ 0 → ⊥) → isFree (entryAt (s .table) i) ≡ false
-    used k = ne-eqb (entryAt (s .table) i .kind) 0 (λ z. k (ap (λ (x : Entry). x .kind) ee ∙ z))
+    pub enters : Stands image ok e f → (e .kind ≡ 0 → ⊥) → (bytes : List ℕ) → bytes ≡ extent e image → (Lawful e f) × (length bytes ≡ sector * e .sectors)
+    enters s k bytes eb = rw eb (s (not-false ok h) (ne-eqb (e .kind) 0 k))
 
-    pub enters : (e .kind ≡ 0 → ⊥) → (bytes : List ℕ) → bytes ≡ extent e image → (Lawful e f) × (length bytes ≡ sector * e .sectors)
-    enters k bytes h = rw (h, ee, ef) (lawful image s (and-left _ _ all) i (used k), extent-long image s i (and-left _ _ all) (used k))
-
-    pub comes : (n : ℕ) (bytes : List ℕ) (v : Verdict) (b : List ℕ) → n ≡ openFiles (s .files) → bytes ≡ extent e image
-        → (v ≡ verdictOf true n (length buffer) code q (sceneOf i e f (seenBytes e f bytes held over) given))
-        × (b ≡ bufferNext (answerOf true n (length buffer) code q (sceneOf i e f (seenBytes e f bytes held over) given)) q (sceneOf i e f (seenBytes e f bytes held over) given) buffer)
+    pub comes : (bytes : List ℕ) (v : Verdict) (b : List ℕ) → bytes ≡ extent e image
+        → (v ≡ verdictOf true files (length buffer) code q (sceneOf i e f (seenBytes e f bytes held over) given))
+        × (b ≡ bufferNext (answerOf true files (length buffer) code q (sceneOf i e f (seenBytes e f bytes held over) given)) q (sceneOf i e f (seenBytes e f bytes held over) given) buffer)
         → Comes v b
-    unfolding seenScene
-    comes n bytes v b en eb h = rw all (rw (en, eb, ee, ef) at h)
+    comes bytes v b eb h2 = rw (not-false ok h) (rw eb at h2)
+
+-- a legal session's entry and state stand
+pub stands : (image : List ℕ) (s : Session) (i : ℕ) (e : Entry) (f : OpenFile) (ok : Bool)
+    → e ≡ entryAt (s .table) i → f ≡ fileOf (s .files) i → (ok ≡ true → legal image s ≡ true) → Stands image ok e f
+stands image s i e f ok ee ef el l used =
+    let u : isFree (entryAt (s .table) i) ≡ false = rw ee at used in
+    rw (ee, ef) (lawful image s (el l) i u, extent-long image s i (el l) u)
+
+-- what a session's entry and state are judged to be is the session's verdict
+pub by-session : (image : List ℕ) (s : Session) (sound : Bool) (held : ℕ) (over : List ℕ) (i : ℕ) (q : Request) (given : List ℕ) (code : ℕ) (buffer : List ℕ)
+    (l : Bool) (files : ℕ) (e : Entry) (f : OpenFile) → l ≡ legal image s → files ≡ openFiles (s .files) → e ≡ entryAt (s .table) i → f ≡ fileOf (s .files) i
+    → (v : Verdict) (b : List ℕ) → Comes image (l && sound) files e f held over i q given code buffer v b
+    → (v ≡ verdictOf (legal image s && sound) (openFiles (s .files)) (length buffer) code q (seenScene image s held over i given))
+    × (b ≡ bufferNext (answerOf (legal image s && sound) (openFiles (s .files)) (length buffer) code q (seenScene image s held over i given)) q (seenScene image s held over i given) buffer)
+unfolding seenScene
+by-session image s sound held over i q given code buffer l files e f el en ee ef v b h = rw (el, en, ee, ef) at h

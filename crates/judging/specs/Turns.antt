@@ -4,15 +4,16 @@ use mathlib.Core.Bool.{Bool, true, false}
 use mathlib.Core.Path.{_≡_}
 use mathlib.Core.List.{List, []}
 use Prim.Native.Nat.{ℕ, _+_, _-_, _*_, _≤_, _<_, _^_}
+use lib.ListN.{length}
 use lib.Dec.{ltb}
 use Rattle.geometry.specs.Bytes.{part, lay}
 use Rattle.geometry.specs.Places.{capacity, placeOf, byteOf, origin}
 use Rattle.geometry.specs.Sizes.{sector, blocked, compressed, random, mostSectors}
-use Rattle.directory.specs.Entries.{isKind, isMarked, isProtected}
+use Rattle.directory.specs.Entries.{isFree, isKind, isMarked, isProtected}
 use Rattle.packing.specs.Placing.{behindNew}
 use Rattle.packing.specs.Reading.{overlaid, Got, got, lost, walkedTo, ledTo}
 use Rattle.mounting.specs.Mounting.{countedWalk}
-use Rattle.sessions.specs.Session.{idle}
+use Rattle.sessions.specs.Session.{idle, extent}
 use Rattle.steps.specs.Next.{Scene, recordHere, fixedAt, moved, fileMet}
 use Rattle.steps.specs.Verdict.{entryNext}
 use Rattle.steps.proofs.Lawful.{Lawful}
@@ -82,6 +83,10 @@ pub record Ready (e : Entry) (f : OpenFile) (n : ℕ) : Type 0 where
   pub lawful : Lawful e f
   pub opened : f .used ≡ true
   pub whole : n ≡ sector * e .sectors
+
+-- a used entry of a legal session and its state are lawful, and its extent lies in the image
+abbrev pub Stands : List ℕ → Bool → Entry → OpenFile → Type 0
+Stands image legal e f = legal ≡ true → isFree e ≡ false → (Lawful e f) × (length (extent e image) ≡ sector * e .sectors)
 
 -- the place behind the records counted
 unfoldable pub endLed : Entry → List ℕ → Led

@@ -48,7 +48,7 @@ ghost use Rattle.steps.specs.Next.{moved, counted, fileMet, entryDone};
 ghost use Rattle.steps.specs.Verdict.{seenBytes, seenScene, bufferNext, answerOf, verdictOf};
 ghost use Rattle.steps.proofs.Lawful.{Lawful};
 ghost use Rattle.requests.proofs.InTurn.{supposing};
-ghost use Rattle.judging.specs.Turns.{factsBut, sight, Ready, endLed, hereLed, hereInto, isAstray, placeIn, turnLed, turnInto, TurnOf, writtenAt, Reaches, carriedTo, carriedInto, CarryOf, Fixed, recordIn, blockedBytes, orderFrom, doneFrom, sceneOf, verdictFrom};
+ghost use Rattle.judging.specs.Turns.{factsBut, sight, Ready, Stands, endLed, hereLed, hereInto, isAstray, placeIn, turnLed, turnInto, TurnOf, writtenAt, Reaches, carriedTo, carriedInto, CarryOf, Fixed, recordIn, blockedBytes, orderFrom, doneFrom, sceneOf, verdictFrom};
 
 // ---- what a request is judged by
 
@@ -452,8 +452,48 @@ fn lawful_verdict(
     next(first, q, i, e, f, here)
 }
 
-// The verdict on a request on entry i, and the caller's buffer behind it. sound: what an engine asks of its sessions beyond the rules of every
-// session. The held sector of this file, if there is one, is lent as over; code is the length of the code of the bytes given.
+// The verdict on a request on entry i, and the caller's buffer behind it, where it is known whether the session is legal: e is the entry, f its
+// state, and so many files are open. The held sector of this file, if there is one, is lent as over; code is the length of the code of the bytes given.
+fn verdict_on(
+    image: &[u8],
+    lawful: bool,
+    files: u32,
+    e: Entry,
+    f: OpenFile,
+    held: u32,
+    over: &[u8],
+    i: usize,
+    q: Request,
+    given: &[u8],
+    code: usize,
+    buffer: &mut [u8],
+) -> Verdict
+    requires { ⌜ Stands (now image) lawful e f ⌝ }
+    ensures { λ r. ⌜ (r ≡ verdictOf lawful files (length (now (buffer .entry))) code q
+        (sceneOf i e f (seenBytes e f (extent e (now (image .entry))) held (now (over .entry))) (now (given .entry))))
+        × (now (buffer .exit) ≡ bufferNext (answerOf lawful files (length (now (buffer .entry))) code q
+        (sceneOf i e f (seenBytes e f (extent e (now (image .entry))) held (now (over .entry))) (now (given .entry)))) q
+        (sceneOf i e f (seenBytes e f (extent e (now (image .entry))) held (now (over .entry))) (now (given .entry))) (now (buffer .entry))) ⌝ }
+{
+    if !lawful {
+        return Verdict {
+            answer: Answer::Refused(Refusal::NotLegal),
+            entry: e,
+            file: f,
+        };
+    }
+    if e.kind == Geometry::FREE {
+        return Verdict {
+            answer: Answer::Refused(Refusal::NotThere),
+            entry: e,
+            file: f,
+        };
+    }
+    let bytes = extent_of(image, e);
+    lawful_verdict(bytes, held, over, files, i, e, f, q, given, code, buffer)
+}
+
+// The verdict on a request, the session being given by value. sound: what an engine asks of its sessions beyond the rules of every session.
 pub fn verdict(
     image: &[u8],
     s: Session,
@@ -477,23 +517,21 @@ pub fn verdict(
     let e = entry_of(table, i);
     let f = file_of(files, i);
     let lawful = is_legal(image, s) & sound;
-    if !lawful {
-        return Verdict {
-            answer: Answer::Refused(Refusal::NotLegal),
-            entry: e,
-            file: f,
-        };
-    }
-    if e.kind == Geometry::FREE {
-        return Verdict {
-            answer: Answer::Refused(Refusal::NotThere),
-            entry: e,
-            file: f,
-        };
-    }
     let n = open_files(files);
-    let bytes = extent_of(image, e);
-    lawful_verdict(bytes, held, over, n, i, e, f, q, given, code, buffer)
+    verdict_on(
+        image,
+        lawful,
+        n,
+        e,
+        f,
+        held,
+        over,
+        i,
+        q,
+        given,
+        code,
+        buffer,
+    )
 }
 
 // ---- looks
