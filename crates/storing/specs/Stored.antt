@@ -162,3 +162,11 @@ layFile b k f = elim (ltb k mostOpen) [ true ↦ lay b (filesAt + fileWidth * k)
 
 unfoldable pub layHeld : List ℕ → ℕ → BufferedFile → List ℕ
 layHeld b k f = elim (ltb k mostOpen) [ true ↦ lay b (filesAt + heldWidth * k) (heldStored f) | false ↦ b ]
+
+-- ---- laying a whole session, over bytes that are as many as it takes
+
+unfoldable pub laySession : List ℕ → Session → List ℕ
+laySession b s = elim (eqb (length b) sessionSize) [ true ↦ stored s | false ↦ b ]
+
+unfoldable pub layBuffered : List ℕ → BufferedSession → List ℕ
+layBuffered b s = elim (eqb (length b) bufferedSize) [ true ↦ bufferedStored s | false ↦ b ]
