@@ -329,7 +329,7 @@ fn random_bare(e: Entry) -> bool
 }
 
 // Whether an entry keeps the rules of one entry, in an image of n sectors.
-fn entry_good(e: Entry, n: u32) -> bool
+pub fn entry_good(e: Entry, n: u32) -> bool
     ensures { λ r. ⌜ r ≡ entryGood n e ⌝ }
 {
     if e.kind == Geometry::FREE {
@@ -351,7 +351,7 @@ fn same_name(x: [u8; 8], y: [u8; 8]) -> bool
 }
 
 // Whether two entries keep the rules of two. The extents are looked at before the names, since that is quick.
-fn two_good(a: Entry, b: Entry) -> bool
+pub fn two_good(a: Entry, b: Entry) -> bool
     ensures { λ r. ⌜ r ≡ twoGood a b ⌝ }
 {
     if (a.kind == Geometry::FREE) | (b.kind == Geometry::FREE) {
