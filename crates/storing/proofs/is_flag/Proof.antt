@@ -1,0 +1,20 @@
+use Prim.Native.Nat.{ℕ}
+use native.Mathlib.Omega.{arith}
+use mathlib.Core.Path.{refl}
+use Rattle.storing.proofs.Read.{bytes}
+use borrow.Author.Needs.{needs}
+use Rattle.storing.proofs.is_flag.Statement.{statement}
+use Rattle.storing.proofs.is_flag.Tie as tie
+use Rattle.storing.proofs.is_flag.Reads as reads
+use Rattle.storing.proofs.is_flag.Lts as lts
+
+-- src/lib.rt:108:5
+shared-slice-read-result : tie.Need-shared-slice-read-result
+shared-slice-read-result c = search needs
+
+-- src/lib.rt:104:1
+returns : tie.Need-returns
+returns c = (refl, bytes (c .before .args .b .now) (λ (k : ℕ). omega (arith, c .shared-slice-known .given k)))
+
+pub is-flag-spec : {M : Type 1} → statement M
+is-flag-spec = tie.close (tie.spec shared-slice-read-result returns)
