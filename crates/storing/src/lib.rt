@@ -1,4 +1,11 @@
 // A session in bytes that a caller lends: each field at a fixed place, numbers low byte first.
+mod lawful;
+
+pub use lawful::Seen;
+pub use lawful::find_buffered_in;
+pub use lawful::find_in;
+pub use lawful::is_legal_buffered_in;
+pub use lawful::is_legal_in;
 use directory::Entry;
 use directory::empty_table;
 use geometry::Place;
