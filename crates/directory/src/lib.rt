@@ -369,6 +369,7 @@ fn two_good(a: Entry, b: Entry) -> bool
 }
 
 // Whether a table keeps every rule of a directory but the decoding one, in an image of n sectors.
+// A used entry is held against those before it, j < i: used entries stand at the front as a rule, so few are read again.
 pub fn is_good(t: [Entry; 18], n: u32) -> bool
     ensures { λ r. ⌜ r ≡ tableGood n t ⌝ }
 {
@@ -379,10 +380,10 @@ pub fn is_good(t: [Entry; 18], n: u32) -> bool
             return false;
         }
         if e.kind != Geometry::FREE {
-            let mut j = i + 1;
-            while j < Geometry::ENTRIES {
+            let mut j = 0;
+            while j < i {
                 let f = t[j];
-                if !two_good(e, f) {
+                if !two_good(f, e) {
                     return false;
                 }
                 j += 1;
