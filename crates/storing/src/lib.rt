@@ -1,15 +1,15 @@
 // A session in bytes that a caller lends: each field at a fixed place, numbers low byte first.
 mod lawful;
 
+use directory::Entry;
+use directory::empty_table;
+use geometry::Place;
+use geometry::lay;
 pub use lawful::Seen;
 pub use lawful::find_buffered_in;
 pub use lawful::find_in;
 pub use lawful::is_legal_buffered_in;
 pub use lawful::is_legal_in;
-use directory::Entry;
-use directory::empty_table;
-use geometry::Place;
-use geometry::lay;
 use sessions::BufferedFile;
 use sessions::BufferedSession;
 use sessions::OpenFile;
@@ -404,8 +404,28 @@ fn entry_bytes(e: Entry) -> [u8; 22]
     let c = four(e.count);
     let g = two(e.flags);
     [
-        n[0], n[1], n[2], n[3], n[4], n[5], n[6], n[7], k[0], k[1], l[0], l[1], f[0], f[1], s[0], s[1],
-        c[0], c[1], c[2], c[3], g[0], g[1],
+        n[0],
+        n[1],
+        n[2],
+        n[3],
+        n[4],
+        n[5],
+        n[6],
+        n[7],
+        k[0],
+        k[1],
+        l[0],
+        l[1],
+        f[0],
+        f[1],
+        s[0],
+        s[1],
+        c[0],
+        c[1],
+        c[2],
+        c[3],
+        g[0],
+        g[1],
     ]
 }
 
@@ -429,8 +449,36 @@ fn file_bytes(f: OpenFile) -> [u8; 30]
     let h = place_bytes(here);
     let e = place_bytes(end);
     [
-        u, i[0], i[1], i[2], i[3], i[4], i[5], i[6], i[7], p[0], p[1], p[2], p[3], y, h[0], h[1], h[2], h[3],
-        h[4], h[5], h[6], h[7], e[0], e[1], e[2], e[3], e[4], e[5], e[6], e[7],
+        u,
+        i[0],
+        i[1],
+        i[2],
+        i[3],
+        i[4],
+        i[5],
+        i[6],
+        i[7],
+        p[0],
+        p[1],
+        p[2],
+        p[3],
+        y,
+        h[0],
+        h[1],
+        h[2],
+        h[3],
+        h[4],
+        h[5],
+        h[6],
+        h[7],
+        e[0],
+        e[1],
+        e[2],
+        e[3],
+        e[4],
+        e[5],
+        e[6],
+        e[7],
     ]
 }
 

@@ -1,19 +1,37 @@
+-- `storing::lawful::state_place` meets its contract: of four states, each ends before the fourth does.
+use Prim.Native.Nat.{_*_, _≤_}
+use mathlib.Core.Path.{refl}
+use native.Mathlib.Nat.{mul-le-mul, mul-le-mul-left}
+use native.Mathlib.Omega.{arith}
+use borrow.Author.Needs.{needs}
 use Rattle.storing.proofs.lawful.state_place.Statement.{statement}
 use Rattle.storing.proofs.lawful.state_place.Tie as tie
-use Rattle.storing.proofs.lawful.state_place.Reads as reads
-use Rattle.storing.proofs.lawful.state_place.Lts as lts
 
--- src/lawful.rt:127:19
 mul-result : tie.Need-mul-result
-mul-result c = ?
+mul-result c =
+    let a = c .args in
+    let k : a .k ≤ 3 = omega (arith, c .pre .0) in
+    let p : a .w * a .k ≤ 396 * 3 = mul-le-mul (c .pre .1) k in
+    omega arith
 
--- src/lawful.rt:127:5
 add-result : tie.Need-add-result
-add-result c = ?
+add-result c =
+    let a = c .args in
+    let k : a .k ≤ 3 = omega (arith, c .pre .0) in
+    let p : a .w * a .k ≤ 396 * 3 = mul-le-mul (c .pre .1) k in
+    omega arith
 
--- src/lawful.rt:123:1
 returns : tie.Need-returns
-returns c = ?
+returns c =
+    let a = c .args in
+    let k : a .k ≤ 3 = omega (arith, c .pre .0) in
+    let p : a .w * a .k ≤ a .w * 3 = mul-le-mul-left (a .w) k in
+    (refl, omega arith)
 
 pub state-place-spec : {M : Type 1} → statement M
-state-place-spec = tie.close (tie.spec mul-result add-result returns)
+state-place-spec =
+    tie.close
+    (tie.spec
+    mul-result
+    add-result
+    returns)
