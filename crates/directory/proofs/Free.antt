@@ -1,17 +1,18 @@
 -- A free entry keeps every rule exactly if its 20 bytes are zero, which they are if its name and its words are.
 use mathlib.Core.Path.{_≡_, refl, sym, ap, _∙_}
-use mathlib.Core.Bool.{Bool, true, false, _&&_, and-assoc}
+use mathlib.Core.Bool.{Bool, true, false, _&&_, and-true, and-assoc}
 use mathlib.Core.List.{List, [], _∷_, _++_}
 use Prim.Native.Nat.{ℕ, _+_, _/_, _%_}
 use native.Mathlib.Omega.{arith}
 use lib.Dec.{eqb}
+use lib.ListN.{getD}
 use borrow.Author.Tests.{eq-eqb, ne-eqb, eqb-true, eqb-false}
-use Rattle.geometry.specs.Lists.{every}
+use Rattle.geometry.specs.Lists.{all, every}
 use Rattle.geometry.specs.Bytes.{word}
 use Rattle.directory.specs.declared.Entry.{Entry}
-use Rattle.geometry.proofs.Tests.{either, and-left, and-right}
+use Rattle.geometry.proofs.Tests.{either, both-ways, and-left, and-right, all-getD}
 use Rattle.directory.specs.Entries.{entryBytes}
-use Rattle.directory.specs.Rules.{kindKnown, freeIsZero, nameGood, extentInside, flagsKnown, lengthGood, countGood, randomBare}
+use Rattle.directory.specs.Rules.{kindKnown, freeIsZero, isName, nameGood, extentInside, flagsKnown, lengthGood, countGood, randomBare}
 use Rattle.directory.specs.Grouped.{entryGood}
 
 pub every-append : {A : Type 0} (p : A → Bool) (xs ys : List A) → every p (xs ++ ys) ≡ (every p xs && every p ys)
@@ -64,7 +65,24 @@ module _ (N : ℕ) (e : Entry) where
       rw (h, k, c, f))
       (λ (h : every zero-byte (entryBytes e) ≡ false). rw (h, k))
 
-  pub used-good : ¬ (e .kind ≡ 0) → entryGood N e
-      ≡ (kindKnown e && (nameGood e && (extentInside N e && (flagsKnown e && (lengthGood e && (countGood e && randomBare e))))))
-  unfolding entryGood freeIsZero
-  used-good k = rw (ne-eqb (e .kind) 0 k)
+  module _ (used : ¬ (e .kind ≡ 0)) where
+    abbrev rules : List Bool
+    rules = kindKnown e ∷ nameGood e ∷ extentInside N e ∷ flagsKnown e ∷ lengthGood e ∷ countGood e ∷ randomBare e ∷ []
+
+    used-rules : entryGood N e ≡ all rules
+    unfolding entryGood freeIsZero all
+    used-rules = rw (ne-eqb (e .kind) 0 used, and-true (randomBare e))
+
+    -- the rule of number m is broken
+    pub used-bad : (m : ℕ) → getD rules m true ≡ false → entryGood N e ≡ false
+    used-bad m h =
+        used-rules ∙ either (all rules) (λ (k : all rules ≡ true). both-ways (getD rules m true) (all-getD rules m k) h) (λ (k : all rules ≡ false). k)
+
+    -- all but the last are kept
+    pub used-good : kindKnown e ≡ true → nameGood e ≡ true → extentInside N e ≡ true → flagsKnown e ≡ true → lengthGood e ≡ true → countGood e ≡ true → entryGood N e ≡ randomBare e
+    unfolding all
+    used-good k n x f l c = used-rules ∙ rw (k, n, x, f, l, c, and-true (randomBare e))
+
+    pub used-name : nameGood e ≡ isName (e .name)
+    unfolding nameGood
+    used-name = rw (ne-eqb (e .kind) 0 used)

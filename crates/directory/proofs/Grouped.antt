@@ -54,12 +54,6 @@ or-right : (a b : Bool) → (a || b) ≡ false → b ≡ false
 or-right true b h = absurd (true≢false h)
 or-right false b h = h
 
--- a free entry and any others
-pub free-apart : (a : Entry) → a .kind ≡ 0 → (xs : List Entry) → every (twoGood a) xs ≡ true
-unfolding every twoGood namesDiffer extentsApart
-free-apart a f [] = refl
-free-apart a f (x ∷ xs) = rw (eq-eqb (a .kind) 0 f, free-apart a f xs)
-
 -- two entries of which one is free, and two used ones, the extents first
 module _ (a b : Entry) where
   abbrev apart : Bool
@@ -82,3 +76,9 @@ module _ (a b : Entry) where
 
     pub two-shared : apart ≡ false → twoGood a b ≡ false
     two-shared h = two-used ∙ rw (h, and-false differ)
+
+-- any entries and a free one
+pub free-apart : (b : Entry) → b .kind ≡ 0 → (xs : List Entry) → every (λ a. twoGood a b) xs ≡ true
+unfolding every
+free-apart b f [] = refl
+free-apart b f (a ∷ xs) = rw (two-free a b (rw (eq-eqb (b .kind) 0 f) (or-true (isFree a))), free-apart b f xs)

@@ -1,74 +1,51 @@
--- A name is read from its end: first its blanks, then capitals and digits. What is behind a byte, and that byte, decide.
-use mathlib.Core.Path.{_≡_, refl, sym, ap, _∙_}
-use mathlib.Core.Bool.{Bool, true, false, _&&_, _||_, and-true, and-false, or-true}
-use mathlib.Core.List.{List, [], _∷_}
-use Prim.Native.Nat.{ℕ, zero, suc, _+_, _-_, _<_, _≤_}
+-- A name is read from its front: a capital or digit is no blank, so what stands behind it decides; where there is none, only blanks may stand.
+use mathlib.Core.Path.{_≡_, ap}
+use mathlib.Core.Bool.{true, false, _&&_, _||_, or-false}
+use mathlib.Core.List.{List}
+use Prim.Native.Nat.{ℕ, suc, _+_, _-_, _<_, _≤_}
+use native.Mathlib.Numerals.{add-one}
 use native.Mathlib.Omega.{arith}
-use lib.ListN.{length, drop, getD}
-use lib.Seq.{drop-cons, drop-drop}
+use lib.ListN.{length, drop, getD, drop-of-length-le}
+use lib.Seq.{drop-cons}
 use lib.Dec.{eqb}
+use borrow.Author.Tests.{eqb-true}
 use Rattle.geometry.specs.Lists.{every}
 use Rattle.geometry.specs.Sizes.{blank}
 use Rattle.geometry.proofs.Tests.{either, both-ways}
 use Rattle.directory.specs.Rules.{capital, digit, isName, restOfName}
 
-abbrev blanks : List ℕ → Bool
-blanks = every (λ b. eqb b blank)
+no-blank : (c : ℕ) → (capital c || digit c) ≡ true → eqb c blank ≡ false
+unfolding capital digit
+no-blank c q =
+    either (eqb c blank) (λ (h : eqb c blank ≡ true). both-ways (capital c || digit c) q (rw (eqb-true c blank h))) (λ (h : eqb c blank ≡ false). h)
 
--- only blanks are a name's end
-pub blanks-rest : (cs : List ℕ) → every (λ b. eqb b blank) cs ≡ true → restOfName cs ≡ true
-unfolding restOfName
-blanks-rest [] h = refl
-blanks-rest (c ∷ cs) h = rw (h, or-true ((capital c || digit c) && restOfName cs))
+module _ (x : List ℕ) (k : ℕ) where
+  pub rest-end : length x ≤ k → restOfName (drop k x) ≡ every (λ b. eqb b blank) (drop k x)
+  unfolding restOfName every
+  rest-end h = rw (drop-of-length-le x h)
 
--- what is no name's end is none behind another byte
-rest-front : (c : ℕ) (cs : List ℕ) → restOfName cs ≡ false → restOfName (c ∷ cs) ≡ false
-unfolding restOfName every
-rest-front c cs h =
-    let b : blanks cs ≡ false = either (blanks cs) (λ (q : blanks cs ≡ true). both-ways (restOfName cs) (blanks-rest cs q) h) (λ (q : blanks cs ≡ false). q) in
-    rw (h, b, and-false (capital c || digit c), and-false (eqb c blank))
+  module _ (h : k < length x) where
+    abbrev c : ℕ
+    c = getD x k 0
 
-rest-down : (n : ℕ) (cs : List ℕ) → restOfName (drop n cs) ≡ false → restOfName cs ≡ false
-rest-down zero cs h = h
-rest-down (suc n) [] h = h
-rest-down (suc n) (c ∷ cs) h = rest-front c cs (rest-down n cs h)
+    pub rest-on : (capital c || digit c) ≡ true → restOfName (drop k x) ≡ restOfName (drop (k + 1) x)
+    unfolding restOfName every
+    rest-on q = rw (add-one, drop-cons x k 0, q, no-blank c q) (or-false (restOfName (drop (suc k) x)))
 
-module _ (x : List ℕ) (k : ℕ) (l : 1 ≤ k) (h : k ≤ length x) where
-  abbrev c : ℕ
-  c = getD x (k - 1) 0
+    pub rest-off : (capital c || digit c) ≡ false → restOfName (drop k x) ≡ every (λ b. eqb b blank) (drop k x)
+    unfolding restOfName
+    rest-off q = rw (drop-cons x k 0, q)
 
-  one-more : drop (k - 1) x ≡ c ∷ drop k x
-  one-more =
-      let e : suc (k - 1) ≡ k = omega arith in
-      let i : k - 1 < length x = omega arith in
-      rw e at (drop-cons x (k - 1) 0 i)
-
-  pub every-back : (b : ℕ) → every (λ d. eqb d b) (drop (k - 1) x) ≡ (eqb (getD x (k - 1) 0) b && every (λ d. eqb d b) (drop k x))
-  unfolding every
-  every-back b = ap (every (λ d. eqb d b)) one-more
-
-  rest-back : restOfName (drop (k - 1) x) ≡ (((capital c || digit c) && restOfName (drop k x)) || blanks (c ∷ drop k x))
-  unfolding restOfName
-  rest-back = ap restOfName one-more
-
-  -- a capital or digit before a name's end
-  pub rest-more : restOfName (drop k x) ≡ true → (capital c || digit c) ≡ true → restOfName (drop (k - 1) x) ≡ true
-  rest-more r q = rest-back ∙ rw (q, r)
-
+-- a name's first byte, and what stands behind it
 pub name-whole : (x : List ℕ) → 1 ≤ length x → isName x ≡ (capital (getD x 0 0) && restOfName (drop 1 x))
 unfolding isName
 name-whole x h = ap isName (drop-cons x 0 0 h)
 
-pub name-good : (x : List ℕ) → 1 ≤ length x → restOfName (drop 1 x) ≡ true → isName x ≡ capital (getD x 0 0)
-name-good x h r = name-whole x h ∙ rw (r, and-true (capital (getD x 0 0)))
-
--- another byte before it
-pub name-bad : (x : List ℕ) (k : ℕ) → 1 < k → k ≤ length x → every (λ b. eqb b blank) (drop (k - 1) x) ≡ false
-    → (capital (getD x (k - 1) 0) || digit (getD x (k - 1) 0)) ≡ false → isName x ≡ false
-name-bad x k l h b q =
-    let c = getD x (k - 1) 0 in
-    let e : blanks (c ∷ drop k x) ≡ false = sym (ap blanks (one-more x k (omega arith) h)) ∙ b in
-    let r : restOfName (drop (k - 1) x) ≡ false = rest-back x k (omega arith) h ∙ rw (q, e) in
-    let s : k - 1 ≡ 1 + (k - 2) = omega arith in
-    let d : restOfName (drop (k - 2) (drop 1 x)) ≡ false = ap restOfName (drop-drop (k - 2) 1 x ∙ ap (λ (n : ℕ). drop n x) (sym s)) ∙ r in
-    name-whole x (omega arith) ∙ rw (rest-down (k - 2) (drop 1 x) d, and-false (capital (getD x 0 0)))
+-- a test of bytes from the last one back
+pub every-back : (x : List ℕ) (k : ℕ) → 1 ≤ k → k ≤ length x → (b : ℕ)
+    → every (λ d. eqb d b) (drop (k - 1) x) ≡ (eqb (getD x (k - 1) 0) b && every (λ d. eqb d b) (drop k x))
+unfolding every
+every-back x k l h b =
+    let e : suc (k - 1) ≡ k = omega arith in
+    let i : k - 1 < length x = omega arith in
+    ap (every (λ d. eqb d b)) (rw e at (drop-cons x (k - 1) 0 i))

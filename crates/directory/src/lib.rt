@@ -6,17 +6,15 @@ use geometry::same;
 use geometry::word_at;
 ghost use mathlib.Core.Path.{_≡_};
 ghost use mathlib.Core.List.{_++_};
-ghost use mathlib.Core.Bool.{true, false};
-ghost use Prim.Native.Nat.{_-_, _≤_, _<_};
 ghost use lib.Dec.{eqb};
 ghost use lib.ListN.{drop, replicate};
 ghost use Rattle.geometry.specs.Bytes.{padded, word};
 ghost use Rattle.geometry.specs.Bytes as Bytes;
 ghost use Rattle.geometry.specs.Lists.{every};
 ghost use Rattle.geometry.specs.Lists as Lists;
-ghost use Rattle.geometry.specs.Sizes.{blank};
+ghost use Rattle.geometry.specs.Sizes.{blank, free};
 ghost use Rattle.directory.specs.Entries.{entryFrom, entryBytes, oneWord, freeEntry, tableOf, entryAt, isMarked, isProtected};
-ghost use Rattle.directory.specs.Rules.{capital, digit, isName, nameGood, extentInside, longest, lengthGood, countGood, randomBare, tableGood};
+ghost use Rattle.directory.specs.Rules.{capital, digit, restOfName, isName, extentInside, longest, lengthGood, countGood, randomBare, tableGood};
 ghost use Rattle.directory.specs.Grouped.{entryGood, twoGood};
 ghost use Rattle.directory.specs.Search.{matches};
 ghost use Rattle.directory.specs.Search as Search;
@@ -216,16 +214,17 @@ fn is_digit(c: u8) -> bool
     (0xF0 <= c) & (c <= 0xF9)
 }
 
-// Where a name's blanks begin, at byte 1 or behind it: only blanks stand from there on, and none before.
+// Where the capitals and digits behind a name's first byte end. Only blanks may stand from there on.
 fn name_end(x: [u8; 8]) -> usize
-    ensures { λ r. ⌜ (1 ≤ r) × (r ≤ 8) × (every (λ b. eqb b blank) (drop r x) ≡ true) × (1 < r → every (λ b. eqb b blank) (drop (r - 1) x) ≡ false) ⌝ }
+    ensures { λ r. ⌜ restOfName (drop 1 x) ≡ every (λ b. eqb b blank) (drop r x) ⌝ }
 {
-    let mut k: usize = 8;
-    while 1 < k {
-        if x[k - 1] != Geometry::BLANK {
+    let mut k: usize = 1;
+    while k < 8 {
+        let c = x[k];
+        if !(is_capital(c) | is_digit(c)) {
             return k;
         }
-        k -= 1;
+        k += 1;
     }
     k
 }
@@ -235,12 +234,11 @@ fn is_name(x: [u8; 8]) -> bool
     ensures { λ r. ⌜ r ≡ isName x ⌝ }
 {
     let mut k = name_end(x);
-    while 1 < k {
-        k -= 1;
-        let c = x[k];
-        if !(is_capital(c) | is_digit(c)) {
+    while k < 8 {
+        if x[k] != Geometry::BLANK {
             return false;
         }
+        k += 1;
     }
     is_capital(x[0])
 }
@@ -269,24 +267,12 @@ fn is_zero(e: Entry) -> bool
                 & ((e.first == 0) & ((e.sectors == 0) & ((e.count == 0) & (e.flags == 0))))))
 }
 
-// A used entry has a name.
-fn name_good(e: Entry) -> bool
-    ensures { λ r. ⌜ r ≡ nameGood e ⌝ }
-{
-    if e.kind == Geometry::FREE {
-        true
-    } else {
-        let x = e.name;
-        is_name(x)
-    }
-}
-
 // A used entry's extent lies in an image of n sectors, behind the directory.
 fn extent_inside(e: Entry, n: u32) -> bool
+    requires { ⌜ ¬ (e .kind ≡ free) ⌝ }
     ensures { λ r. ⌜ r ≡ extentInside n e ⌝ }
 {
-    (e.kind == Geometry::FREE)
-        | ((1 <= e.first) & ((1 <= e.sectors) & ((e.first as u32) + (e.sectors as u32) <= n)))
+    (1 <= e.first) & ((1 <= e.sectors) & ((e.first as u32) + (e.sectors as u32) <= n))
 }
 
 // The greatest length of a record or granule, by kind.
@@ -304,10 +290,10 @@ fn longest_of(kind: u16) -> u16
 
 // A used entry's length is even, and within the bounds of its kind.
 fn length_good(e: Entry) -> bool
+    requires { ⌜ ¬ (e .kind ≡ free) ⌝ }
     ensures { λ r. ⌜ r ≡ lengthGood e ⌝ }
 {
-    let most = longest_of(e.kind);
-    (e.kind == Geometry::FREE) | ((e.length % 2 == 0) & ((2 <= e.length) & (e.length <= most)))
+    (e.length % 2 == 0) & ((2 <= e.length) & (e.length <= longest_of(e.kind)))
 }
 
 // The count is within the capacity, or is one word.
@@ -328,17 +314,42 @@ fn random_bare(e: Entry) -> bool
     !(e.kind == Geometry::RANDOM) | ((e.count == 0) & !is_marked(e))
 }
 
+// Whether a used entry keeps the rules of one entry, in an image of n sectors: one after another, in document 01's order.
+fn used_good(e: Entry, n: u32) -> bool
+    requires { ⌜ ¬ (e .kind ≡ free) ⌝ }
+    ensures { λ r. ⌜ r ≡ entryGood n e ⌝ }
+{
+    if Geometry::RANDOM < e.kind {
+        return false;
+    }
+    let x = e.name;
+    if !is_name(x) {
+        return false;
+    }
+    if !extent_inside(e, n) {
+        return false;
+    }
+    if 3 < e.flags {
+        return false;
+    }
+    if !length_good(e) {
+        return false;
+    }
+    if !count_good(e) {
+        return false;
+    }
+    random_bare(e)
+}
+
 // Whether an entry keeps the rules of one entry, in an image of n sectors.
-fn entry_good(e: Entry, n: u32) -> bool
+pub fn entry_good(e: Entry, n: u32) -> bool
     ensures { λ r. ⌜ r ≡ entryGood n e ⌝ }
 {
     if e.kind == Geometry::FREE {
-        return is_zero(e);
+        is_zero(e)
+    } else {
+        used_good(e, n)
     }
-    (e.kind <= Geometry::RANDOM)
-        & (name_good(e)
-            & (extent_inside(e, n)
-                & ((e.flags <= 3) & (length_good(e) & (count_good(e) & random_bare(e))))))
 }
 
 // ---- the rules of two entries, and of the table
@@ -351,7 +362,7 @@ fn same_name(x: [u8; 8], y: [u8; 8]) -> bool
 }
 
 // Whether two entries keep the rules of two. The extents are looked at before the names, since that is quick.
-fn two_good(a: Entry, b: Entry) -> bool
+pub fn two_good(a: Entry, b: Entry) -> bool
     ensures { λ r. ⌜ r ≡ twoGood a b ⌝ }
 {
     if (a.kind == Geometry::FREE) | (b.kind == Geometry::FREE) {
@@ -369,6 +380,7 @@ fn two_good(a: Entry, b: Entry) -> bool
 }
 
 // Whether a table keeps every rule of a directory but the decoding one, in an image of n sectors.
+// A used entry is held against those before it, j < i: used entries stand at the front as a rule, so few are read again.
 pub fn is_good(t: [Entry; 18], n: u32) -> bool
     ensures { λ r. ⌜ r ≡ tableGood n t ⌝ }
 {
@@ -379,10 +391,10 @@ pub fn is_good(t: [Entry; 18], n: u32) -> bool
             return false;
         }
         if e.kind != Geometry::FREE {
-            let mut j = i + 1;
-            while j < Geometry::ENTRIES {
+            let mut j = 0;
+            while j < i {
                 let f = t[j];
-                if !two_good(e, f) {
+                if !two_good(f, e) {
                     return false;
                 }
                 j += 1;

@@ -3,3 +3,4 @@ pub mod Tests
 pub mod Places
 pub mod Numbered
 pub mod Left
+pub mod Front

@@ -230,7 +230,7 @@ fn place_good(e: Entry, p: Place) -> bool
 }
 
 // Whether an open file keeps the rules of one file; e is its entry.
-fn file_good(e: Entry, f: OpenFile) -> bool
+pub fn file_good(e: Entry, f: OpenFile) -> bool
     ensures { λ r. ⌜ r ≡ openGood e f ⌝ }
 {
     let here = f.here;
@@ -294,7 +294,7 @@ pub fn is_legal(image: &[u8], s: Session) -> bool
 }
 
 // Whether a sector that a file holds lies in its extent; e is its entry.
-fn hold_good(e: Entry, held: u32) -> bool
+pub fn hold_good(e: Entry, held: u32) -> bool
     ensures { λ r. ⌜ r ≡ holdGood e held ⌝ }
 {
     ((e.kind == Geometry::BLOCKED) | (e.kind == Geometry::COMPRESSED)) & (held < (e.sectors as u32))

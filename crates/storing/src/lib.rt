@@ -1,8 +1,15 @@
 // A session in bytes that a caller lends: each field at a fixed place, numbers low byte first.
+mod lawful;
+
 use directory::Entry;
 use directory::empty_table;
 use geometry::Place;
 use geometry::lay;
+pub use lawful::Seen;
+pub use lawful::find_buffered_in;
+pub use lawful::find_in;
+pub use lawful::is_legal_buffered_in;
+pub use lawful::is_legal_in;
 use sessions::BufferedFile;
 use sessions::BufferedSession;
 use sessions::OpenFile;

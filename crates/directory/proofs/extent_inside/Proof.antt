@@ -1,5 +1,5 @@
--- `directory::extent_inside` meets its contract: the code is the definition.
-use mathlib.Core.Path.{refl}
+-- `directory::extent_inside` meets its contract: the code is the definition, for a used entry.
+use borrow.Author.Tests.{ne-eqb}
 use Rattle.directory.specs.Rules.{extentInside}
 use borrow.Author.Needs.{needs}
 use Rattle.directory.proofs.extent_inside.Statement.{statement}
@@ -16,7 +16,7 @@ add-result c = search needs
 
 returns : tie.Need-returns
 unfolding extentInside
-returns c = refl
+returns c = rw (ne-eqb _ _ (c .before .before .before .before .pre))
 
 pub extent-inside-spec : {M : Type 1} → statement M
 extent-inside-spec = tie.close (tie.spec cast-result cast-result-2 add-result returns)

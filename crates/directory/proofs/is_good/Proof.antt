@@ -1,34 +1,33 @@
--- `directory::is_good` meets its contract: what is left of the table decides, and for one entry what is left of the others.
-use Prim.Native.Nat.{_<_, _+_, _≤_, _-_}
+-- `directory::is_good` meets its contract: the entries before number i keep the rules, and those before number j keep those of two with entry i.
+use Prim.Native.Nat.{_<_, _≤_, _-_}
 use mathlib.Core.Path.{_≡_, refl, sym, _∙_}
+use mathlib.Core.Bool.{true}
 use mathlib.Core.Logic.{⊎-elim}
 use native.Mathlib.Omega.{arith}
-use lib.ListN.{length, drop}
+use lib.ListN.{length, take}
 use borrow.Author.Tests.{not-true, not-false}
 use Rattle.geometry.specs.Lists.{every}
-use Rattle.directory.specs.Rules.{tableGood}
 use Rattle.directory.specs.Grouped.{entryGood, twoGood}
-use Rattle.geometry.proofs.Left.{every-on, every-off, every-end, Left, left-none, left-on, left-one, left-two}
+use Rattle.geometry.proofs.Front.{front-every-on, Front, front-none, front-on, front-whole, front-one, front-two}
 use Rattle.directory.proofs.Grouped.{grouped, free-apart}
 use borrow.Author.Needs.{needs}
 use Rattle.directory.proofs.is_good.Statement.{statement}
 use Rattle.directory.proofs.is_good.Tie as tie
 
 abbrev Inv-loop2 : tie.InvT-loop2
-Inv-loop2 n t i e j₀ j = (every (twoGood e) (drop (i + 1) t) ≡ every (twoGood e) (drop j t)) × (j ≤ 18)
+Inv-loop2 n t i e j₀ j = (every (λ a. twoGood a e) (take j t) ≡ true) × (j ≤ i)
 
 abbrev μ-loop2 : tie.MeasureT-loop2
-μ-loop2 n t i e j₀ j = 18 - j
+μ-loop2 n t i e j₀ j = i - j
 
 abbrev Inv-loop : tie.InvT-loop
-Inv-loop n t i₀ i = (tableGood n t ≡ Left (entryGood n) twoGood t i) × (i ≤ 18)
+Inv-loop n t i₀ i = (Front (entryGood n) twoGood t i ≡ true) × (i ≤ 18)
 
 abbrev μ-loop : tie.MeasureT-loop
 μ-loop n t i₀ i = 18 - i
 
 loop-holds : tie.Need-loop-holds Inv-loop2 μ-loop2 Inv-loop μ-loop
-unfolding Left
-loop-holds c = (grouped (c .args .n) (c .args .t1), omega arith)
+loop-holds c = (front-none (entryGood (c .args .n)) twoGood (c .args .t1), omega arith)
 
 mul-e : tie.Need-mul-e Inv-loop2 μ-loop2 Inv-loop μ-loop
 mul-e c = search needs
@@ -44,12 +43,10 @@ returns c =
     let l = c .before .before .before .before in
     let t = l .before .args .t1 in
     let s : length t ≡ 18 = search needs in
-    sym (l .loop .inv .0 ∙ left-one (entryGood (l .before .args .n)) twoGood t (l .loop .i) _ (omega arith) (sym (c .before .entry-good .ensures) ∙ not-true _ (c .if1 .taken)))
-
-add-j : tie.Need-add-j Inv-loop2 μ-loop2 Inv-loop μ-loop
-add-j c = search needs
+    sym (grouped (l .before .args .n) t ∙ front-one (entryGood (l .before .args .n)) twoGood t (l .loop .i) _ (omega arith) (sym (c .before .entry-good .ensures) ∙ not-true _ (c .if1 .taken)))
 
 loop2-holds : tie.Need-loop2-holds Inv-loop2 μ-loop2 Inv-loop μ-loop
+unfolding every
 loop2-holds c = (refl, omega arith)
 
 mul-f : tie.Need-mul-f Inv-loop2 μ-loop2 Inv-loop μ-loop
@@ -67,10 +64,10 @@ returns-2 c =
     let l = k .before .before .before .before .before .before .before in
     let t = l .before .args .t1 in
     let s : length t ≡ 18 = search needs in
-    sym (l .loop .inv .0 ∙ left-two (entryGood (l .before .args .n)) twoGood t (l .loop .i) _ (omega arith) (k .loop2 .inv .0 ∙ every-off _ t (k .loop2 .j) _ (omega arith) (sym (c .before .two-good .ensures) ∙ not-true _ (c .if3 .taken))))
+    sym (grouped (l .before .args .n) t ∙ front-two (entryGood (l .before .args .n)) twoGood t (l .loop .i) _ (omega arith) (k .loop2 .j) (omega arith) (sym (c .before .two-good .ensures) ∙ not-true _ (c .if3 .taken)))
 
-add-j-2 : tie.Need-add-j-2 Inv-loop2 μ-loop2 Inv-loop μ-loop
-add-j-2 c = search needs
+add-j : tie.Need-add-j Inv-loop2 μ-loop2 Inv-loop μ-loop
+add-j c = search needs
 
 loop2-less : tie.Need-loop2-less Inv-loop2 μ-loop2 Inv-loop μ-loop
 loop2-less c = search needs
@@ -81,7 +78,7 @@ loop2-again c =
     let l = k .before .before .before .before .before .before .before in
     let t = l .before .args .t1 in
     let s : length t ≡ 18 = search needs in
-    (k .loop2 .inv .0 ∙ every-on _ t (k .loop2 .j) _ (omega arith) (sym (c .before .two-good .ensures) ∙ not-false _ (c .if3 .left)), omega arith)
+    (front-every-on _ t (k .loop2 .j) _ (omega arith) (k .loop2 .inv .0) (sym (c .before .two-good .ensures) ∙ not-false _ (c .if3 .left)), omega arith)
 
 add-i : tie.Need-add-i Inv-loop2 μ-loop2 Inv-loop μ-loop
 add-i c = search needs
@@ -95,14 +92,15 @@ loop-again c =
     let t = l .before .args .t1 in
     let s : length t ≡ 18 = search needs in
     let h : l .loop .i < length t = omega arith in
-    let ok = sym (c .before .before .before .entry-good .ensures) ∙ not-false _ (c .before .before .if1 .left) in
-    (l .loop .inv .0 ∙ left-on (entryGood (l .before .args .n)) twoGood t (l .loop .i) _ h ok (⊎-elim (λ w. w .1 .inv .0 ∙ every-end _ t (w .1 .j) (omega arith)) (λ w. free-apart _ (w .left) _) (c .if2 .came)), omega arith)
+    let good = sym (c .before .before .before .entry-good .ensures) ∙ not-false _ (c .before .before .if1 .left) in
+    let on = front-on (entryGood (l .before .args .n)) twoGood t (l .loop .i) _ h in
+    (⊎-elim (λ w. on (w .1 .j) (omega arith) (l .loop .inv .0) good (w .1 .inv .0)) (λ w. on (l .loop .i) (omega arith) (l .loop .inv .0) good (free-apart _ (w .left) _)) (c .if2 .came), omega arith)
 
 returns-3 : tie.Need-returns-3 Inv-loop2 μ-loop2 Inv-loop μ-loop
 returns-3 c =
     let t = c .before .before .args .t1 in
     let s : length t ≡ 18 = search needs in
-    sym (c .before .loop .inv .0 ∙ left-none (entryGood (c .before .before .args .n)) twoGood t (c .before .loop .i) (omega arith))
+    sym (grouped (c .before .before .args .n) t ∙ front-whole (entryGood (c .before .before .args .n)) twoGood t (c .before .loop .i) (omega arith) (c .before .loop .inv .0))
 
 pub is-good-spec : {M : Type 1} → statement M
 is-good-spec =
@@ -117,13 +115,12 @@ is-good-spec =
     array-copy-out-e
     entry-good-requires
     returns
-    add-j
     loop2-holds
     mul-f
     array-copy-out-f
     two-good-requires
     returns-2
-    add-j-2
+    add-j
     loop2-less
     loop2-again
     add-i

@@ -1,0 +1,52 @@
+-- A list tested from its front, by a rule of one member and a rule of two, the later member against each before it: what is done of it keeps both rules, and one member or two that break one break the whole.
+use mathlib.Core.Path.{_≡_, refl, _∙_}
+use mathlib.Core.Bool.{Bool, true, false, _&&_, and-false}
+use mathlib.Core.List.{List}
+use Prim.Native.Nat.{ℕ, _+_, _≤_, _<_}
+use lib.ListN.{length, take, getD}
+use lib.Seq.{take-all}
+use Rattle.geometry.specs.Lists.{every, pairwise}
+use Rattle.geometry.proofs.Tests.{either, both-ways, and-left, and-right, and-both, every-getD, every-more, pairwise-getD, pairwise-more}
+
+-- a rule of one member, of the first i
+module _ {A : Type 0} (p : A → Bool) (xs : List A) where
+  pub front-every-on : (i : ℕ) (d : A) → i < length xs → every p (take i xs) ≡ true → p (getD xs i d) ≡ true → every p (take (i + 1) xs) ≡ true
+  front-every-on i d h done e = every-more p xs i d h ∙ and-both (every p (take i xs)) (p (getD xs i d)) done e
+
+  every-broken : (i : ℕ) (d : A) → i < length xs → p (getD xs i d) ≡ false → every p xs ≡ false
+  every-broken i d h e =
+      either (every p xs) (λ (k : every p xs ≡ true). both-ways (p (getD xs i d)) (every-getD p xs i d k h) e) (λ (k : every p xs ≡ false). k)
+
+module _ {A : Type 0} (one : A → Bool) (two : A → A → Bool) (xs : List A) where
+  -- both rules, of the first i members
+  unfoldable pub Front : ℕ → Bool
+  Front i = every one (take i xs) && pairwise two (take i xs)
+
+  pub front-none : Front 0 ≡ true
+  unfolding Front every pairwise
+  front-none = refl
+
+  pub front-whole : (i : ℕ) → length xs ≤ i → Front i ≡ true → every one xs && pairwise two xs ≡ true
+  unfolding Front
+  front-whole i h done = rw (take-all i xs h) at done
+
+  module _ (i : ℕ) (d : A) (h : i < length xs) where
+    abbrev x : A
+    x = getD xs i d
+
+    -- j is where the members before number i have all been tested
+    pub front-on : (j : ℕ) → j ≡ i → Front i ≡ true → one x ≡ true → every (λ a. two a x) (take j xs) ≡ true → Front (i + 1) ≡ true
+    unfolding Front
+    front-on j q done a b =
+        let e : every one (take i xs) ≡ true = and-left (every one (take i xs)) (pairwise two (take i xs)) done in
+        let p : pairwise two (take i xs) ≡ true = and-right (every one (take i xs)) (pairwise two (take i xs)) done in
+        let c : every (λ a. two a x) (take i xs) ≡ true = rw q at b in
+        rw (every-more one xs i d h, pairwise-more two xs i d h, e, a, p, c)
+
+    pub front-one : one x ≡ false → every one xs && pairwise two xs ≡ false
+    front-one a = rw (every-broken one xs i d h a)
+
+    pub front-two : (j : ℕ) → j < i → two (getD xs j d) x ≡ false → every one xs && pairwise two xs ≡ false
+    front-two j l b =
+        either (pairwise two xs) (λ (k : pairwise two xs ≡ true). both-ways (two (getD xs j d) x) (pairwise-getD two xs j i d k l h) b)
+        (λ (k : pairwise two xs ≡ false). rw (k, and-false (every one xs)))

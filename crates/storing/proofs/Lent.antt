@@ -1,0 +1,218 @@
+-- Sessions in lent bytes, read where they lie: an entry stands at 22·i, a state at w·k behind the first, and what is tested of those bytes is tested of the entry or state that they hold.
+use mathlib.Core.Path.{_≡_, refl, sym, ap, _∙_}
+use mathlib.Core.Bool.{Bool, true, false, _&&_, and-false}
+use mathlib.Core.List.{List, [], _∷_, map}
+use Prim.Native.Nat.{ℕ, zero, suc, _+_, _-_, _*_, _≤_, _<_}
+use native.Mathlib.Omega.{arith}
+use lib.Dec.{eqb}
+use lib.ListN.{length, take, getD}
+use lib.Seq.{length-take-le, getD-take}
+use borrow.Author.Tests.{eq-eqb, eqb-true}
+use Rattle.geometry.specs.Bytes.{part}
+use Rattle.geometry.specs.Lists.{all, every, pairwise}
+use Rattle.geometry.specs.Sizes.{entries, mostOpen, sectorsOf, lawfulLength}
+use Rattle.geometry.proofs.Bytes.{part-split}
+use Rattle.geometry.proofs.Tests.{alike, either, both-ways, and-left, and-right, and-both, every-from, pairwise-getD}
+use Rattle.directory.specs.Entries.{entryBytes, freeEntry, entryAt}
+use Rattle.directory.specs.Rules.{kindKnown, tableRules, tableGood}
+use Rattle.directory.specs.Grouped.{entryGood, twoGood}
+use Rattle.directory.proofs.Free.{every-append, zero-entry, free-good}
+use Rattle.sessions.specs.Session.{idle, bare, unheld, isOf, fileOf, slotOf, openFiles, heldGood, legal, bufferedLegal}
+use Rattle.sessions.specs.Grouped.{holdGood}
+use Rattle.sessions.proofs.Files.{slot-own, slot-new}
+use Rattle.sessions.proofs.Grouped.{grouped, held-unused, held-told}
+use Rattle.sessions.proofs.Unheld.{bare-unheld}
+use Rattle.directory.specs.declared.Entry.{Entry}
+use Rattle.sessions.specs.declared.BufferedFile.{BufferedFile}
+use Rattle.sessions.specs.declared.BufferedSession.{BufferedSession}
+use Rattle.sessions.specs.declared.OpenFile.{OpenFile}
+use Rattle.sessions.specs.declared.Session.{Session}
+use Rattle.storing.specs.Numbers.{numberIn, isSet}
+use Rattle.storing.specs.Rows.{rowIn}
+use Rattle.storing.specs.Stored.{entryWidth, fileWidth, heldWidth, filesAt, entryIn, fileIn, heldIn, isStored, isBufferedStored, tableIn, unlawful, sessionIn, bufferedIn}
+use Rattle.storing.specs.Lent.{filesIn, bareIn, seenOf}
+use Rattle.storing.specs.declared.lawful.Seen.{Seen}
+use Rattle.storing.proofs.Rows.{length-row, getD-row}
+use Rattle.storing.proofs.Read.{length-table, session-is, buffered-is, buffered-none}
+
+-- ---- zero bytes
+
+abbrev zero-byte : ℕ → Bool
+zero-byte x = eqb x 0
+
+-- a number is zero if its bytes are
+zero-number : (xs : List ℕ) → eqb (numberIn xs) 0 ≡ every zero-byte xs
+unfolding numberIn every
+zero-number [] = refl
+zero-number (x ∷ xs) =
+    let n : eqb (numberIn xs) 0 ≡ every zero-byte xs = zero-number xs in
+    alike _ _
+    (λ (h : eqb (x + 256 * numberIn xs) 0 ≡ true).
+    let e : x + 256 * numberIn xs ≡ 0 = eqb-true (x + 256 * numberIn xs) 0 h in
+    and-both (eqb x 0) (every zero-byte xs) (eq-eqb x 0 (omega arith)) (sym n ∙ eq-eqb (numberIn xs) 0 (omega arith)))
+    (λ (h : (eqb x 0 && every zero-byte xs) ≡ true).
+    let a : x ≡ 0 = eqb-true x 0 (and-left (eqb x 0) (every zero-byte xs) h) in
+    let c : numberIn xs ≡ 0 = eqb-true (numberIn xs) 0 (n ∙ and-right (eqb x 0) (every zero-byte xs) h) in
+    eq-eqb (x + 256 * numberIn xs) 0 (omega arith))
+
+module _ (b : List ℕ) where
+  -- the first k of n bytes, and what is behind them
+  front-zero : (k at n next : ℕ) (r : Bool) → k ≤ n → next ≡ at + k → every zero-byte (part b next (n - k)) ≡ r
+      → every zero-byte (part b at n) ≡ (every zero-byte (part b at k) && r)
+  front-zero k at n next r h e p =
+      ap (every zero-byte) (part-split b at n k h)
+      ∙ every-append zero-byte (part b at k) (part b (at + k) (n - k))
+      ∙ ap (λ (q : Bool). every zero-byte (part b at k) && q) (ap (λ (m : ℕ). every zero-byte (part b m (n - k))) (sym e) ∙ p)
+
+  -- the same, the first k told as a number
+  next-zero : (k at n next : ℕ) (r : Bool) → k ≤ n → next ≡ at + k → every zero-byte (part b next (n - k)) ≡ r
+      → every zero-byte (part b at n) ≡ (eqb (numberIn (part b at k)) 0 && r)
+  next-zero k at n next r h e p = front-zero k at n next r h e p ∙ ap (λ (q : Bool). q && r) (sym (zero-number (part b at k)))
+
+  -- as five numbers of four bytes and one of two
+  pub zero-by-four : (at : ℕ) → every (λ x. eqb x 0) (part b at 22)
+      ≡ (eqb (numberIn (part b at 4)) 0
+      && (eqb (numberIn (part b (at + 4) 4)) 0
+      && (eqb (numberIn (part b (at + 8) 4)) 0
+      && (eqb (numberIn (part b (at + 12) 4)) 0 && (eqb (numberIn (part b (at + 16) 4)) 0 && eqb (numberIn (part b (at + 20) 2)) 0)))))
+  zero-by-four at =
+      next-zero 4 at 22 (at + 4) _ (omega arith) refl
+      (next-zero 4 (at + 4) 18 (at + 8) _ (omega arith) (omega arith)
+      (next-zero 4 (at + 8) 14 (at + 12) _ (omega arith) (omega arith)
+      (next-zero 4 (at + 12) 10 (at + 16) _ (omega arith) (omega arith)
+      (next-zero 4 (at + 16) 6 (at + 20) _ (omega arith) (omega arith) (sym (zero-number (part b (at + 20) 2)))))))
+
+  -- as the name and the numbers of an entry
+  zero-by-field : (at : ℕ) → every zero-byte (part b at 22) ≡ every zero-byte (entryBytes (entryIn b at))
+  unfolding entryIn
+  zero-by-field at =
+      front-zero 8 at 22 (at + 8) _ (omega arith) refl
+      (next-zero 2 (at + 8) 14 (at + 10) _ (omega arith) (omega arith)
+      (next-zero 2 (at + 10) 12 (at + 12) _ (omega arith) (omega arith)
+      (next-zero 2 (at + 12) 10 (at + 14) _ (omega arith) (omega arith)
+      (next-zero 2 (at + 14) 8 (at + 16) _ (omega arith) (omega arith)
+      (next-zero 4 (at + 16) 6 (at + 20) _ (omega arith) (omega arith) (sym (zero-number (part b (at + 20) 2))))))))
+      ∙ sym (zero-entry (entryIn b at))
+
+-- ---- an entry where it lies
+
+module _ (b : List ℕ) (i at : ℕ) (h : i < entries) (q : at ≡ entryWidth * i) where
+  pub entry-is : getD (tableIn b) i freeEntry ≡ entryIn b at
+  unfolding tableIn
+  entry-is =
+      let e : 0 + entryWidth * i ≡ at = omega arith in
+      getD-row entryIn entryWidth entries b 0 i freeEntry h ∙ ap (entryIn b) e
+
+  module _ (N : ℕ) where
+    -- the rules of one entry: of a free one, and of one that is read
+    pub free-told : (kind : ℕ) (r : Bool) → kind ≡ numberIn (part b (at + 8) 2) → kind ≡ 0 → r ≡ every (λ x. eqb x 0) (part b at 22)
+        → entryGood N (getD (tableIn b) i freeEntry) ≡ r
+    unfolding entryIn
+    free-told kind r k z p = ap (entryGood N) entry-is ∙ free-good N (entryIn b at) (sym k ∙ z) ∙ sym (zero-by-field b at) ∙ sym p
+
+    pub one-told : (e : Entry) (r : Bool) → e ≡ entryIn b at → r ≡ entryGood N e → entryGood N (getD (tableIn b) i freeEntry) ≡ r
+    one-told e r p s = ap (entryGood N) (entry-is ∙ sym p) ∙ sym s
+
+  pub free-kind : (kind : ℕ) → kind ≡ numberIn (part b (at + 8) 2) → kind ≡ 0 → getD (tableIn b) i freeEntry .kind ≡ 0
+  unfolding entryIn
+  free-kind kind k z = ap (λ (e : Entry). e .kind) entry-is ∙ sym k ∙ z
+
+  -- the rules of two, with all before it
+  pub all-told : (e : Entry) (r : Bool) → e ≡ entryIn b at → r ≡ every (λ f. twoGood f e) (take i (tableIn b))
+      → every (λ f. twoGood f (getD (tableIn b) i freeEntry)) (take i (tableIn b)) ≡ r
+  all-told e r p s = ap (λ (x : Entry). every (λ f. twoGood f x) (take i (tableIn b))) (entry-is ∙ sym p) ∙ sym s
+
+-- the rules of two, with the one of number j before number i
+pub two-told : (b : List ℕ) (i j at : ℕ) → j < i → i ≤ entries → at ≡ entryWidth * j → (f e : Entry) (r : Bool) → f ≡ entryIn b at → r ≡ twoGood f e
+    → twoGood (getD (take i (tableIn b)) j freeEntry) e ≡ r
+two-told b i j at h m q f e r p s =
+    ap (λ (x : Entry). twoGood x e) (getD-take i (tableIn b) j freeEntry h ∙ entry-is b j at (omega arith) q ∙ sym p) ∙ sym s
+
+-- a member that breaks the rule of two with one before it breaks the whole
+pub front-some : {A : Type 0} (one : A → Bool) (two : A → A → Bool) (xs : List A) (i : ℕ) (d : A) → i < length xs
+    → every (λ a. two a (getD xs i d)) (take i xs) ≡ false → (every one xs && pairwise two xs) ≡ false
+front-some one two xs i d h b =
+    either (pairwise two xs)
+    (λ (k : pairwise two xs ≡ true).
+    both-ways (every (λ a. two a (getD xs i d)) (take i xs))
+    (every-from (λ a. two a (getD xs i d)) (take i xs) d λ (j : ℕ) (l : j < length (take i xs)).
+    let n : length (take i xs) ≡ i = length-take-le i xs (omega arith) in
+    let u : j < i = omega arith in
+    rw (getD-take i xs j d u) (pairwise-getD two xs j i d k u h))
+    b)
+    (λ (k : pairwise two xs ≡ false). rw (k, and-false (every one xs)))
+
+-- ---- a state where it lies
+
+module _ (w : ℕ) (b : List ℕ) where
+  pub length-files : length (filesIn w b) ≡ mostOpen
+  unfolding filesIn
+  length-files = length-row fileIn w mostOpen b filesAt
+
+  module _ (k at : ℕ) (h : k < mostOpen) (q : at ≡ filesAt + w * k) where
+    pub state-is : getD (filesIn w b) k idle ≡ fileIn b at
+    unfolding filesIn
+    state-is = getD-row fileIn w mostOpen b filesAt k idle h ∙ ap (fileIn b) (sym q)
+
+    pub state-used : (u : Bool) → u ≡ isSet (getD b at 0) → getD (filesIn w b) k idle .used ≡ u
+    unfolding fileIn
+    state-used u p = ap (λ (f : OpenFile). f .used) state-is ∙ sym p
+
+    pub state-of : (i : ℕ) (r : Bool) → r ≡ isOf i (fileIn b at) → isOf i (getD (filesIn w b) k idle) ≡ r
+    state-of i r p = ap (isOf i) state-is ∙ sym p
+
+-- ---- a held sector where it lies
+
+module _ (b : List ℕ) (k at : ℕ) (h : k < mostOpen) (q : at ≡ filesAt + heldWidth * k) (d : BufferedFile) (u v : Bool) (pu : u ≡ isSet (getD b at 0))
+    (pv : v ≡ isSet (getD b (at + 30) 0)) where
+  held-is : getD (rowIn heldIn heldWidth mostOpen b filesAt) k d ≡ heldIn b at
+  held-is = getD-row heldIn heldWidth mostOpen b filesAt k d h ∙ ap (heldIn b) (sym q)
+
+  pub hold-told : (i : ℕ) (e : Entry) (held : ℕ) (r : Bool) → i ≡ numberIn (part b (at + 1) 8) → e ≡ entryAt (tableIn b) i → held ≡ numberIn (part b (at + 31) 4)
+      → r ≡ holdGood e held → (u && v) ≡ true → heldGood (tableIn b) (getD (rowIn heldIn heldWidth mostOpen b filesAt) k d) ≡ r
+  unfolding heldIn fileIn
+  hold-told i e held r pi pe ph pr t =
+      ap (heldGood (tableIn b)) held-is ∙ held-told (tableIn b) (heldIn b at) e r (rw pi at pe) (rw ph at pr) (rw (pu, pv) at t)
+
+  pub hold-none : (u && v) ≡ false → heldGood (tableIn b) (getD (rowIn heldIn heldWidth mostOpen b filesAt) k d) ≡ true
+  unfolding heldIn fileIn
+  hold-none t = ap (heldGood (tableIn b)) held-is ∙ held-unused (tableIn b) (heldIn b at) (rw (pu, pv) at t)
+
+-- ---- sessions
+
+-- "a session that is not legal": entries of no kind that there is
+pub unlawful-not : (image : List ℕ) → legal image unlawful ≡ false
+unfolding unlawful tableGood tableRules all every kindKnown
+unlawful-not image = grouped image unlawful ∙ and-false (lawfulLength image)
+
+-- without their buffers
+bare-row : (w n : ℕ) (b : List ℕ) (at : ℕ) → map (λ f. f .file) (rowIn heldIn w n b at) ≡ rowIn fileIn w n b at
+unfolding rowIn heldIn
+bare-row w zero b at = refl
+bare-row w (suc n) b at = ap (λ (fs : List OpenFile). fileIn b at ∷ fs) (bare-row w n b (at + w))
+
+pub plain-is : (b : List ℕ) → isStored b ≡ true → sessionIn b ≡ bareIn fileWidth b
+unfolding filesIn
+plain-is b h = session-is b h
+
+pub bare-is : (b : List ℕ) → isBufferedStored b ≡ true → bare (bufferedIn b) ≡ bareIn heldWidth b
+unfolding bare filesIn
+bare-is b h = ap bare (buffered-is b h) ∙ ap (λ (fs : List OpenFile). record { table = tableIn b; files = fs }) (bare-row heldWidth mostOpen b filesAt)
+
+pub bare-none : (b : List ℕ) → isBufferedStored b ≡ false → bare (bufferedIn b) ≡ unlawful
+bare-none b h = ap bare (buffered-none b h) ∙ bare-unheld unlawful
+
+-- with the rule of held sectors
+pub buffered-legal : (image b : List ℕ) → isBufferedStored b ≡ true
+    → bufferedLegal image (bufferedIn b) ≡ (legal image (bareIn heldWidth b) && every (heldGood (tableIn b)) (rowIn heldIn heldWidth mostOpen b filesAt))
+unfolding bufferedLegal
+buffered-legal image b h =
+    rw (bare-is b h) (ap (λ (s : BufferedSession). legal image (bareIn heldWidth b) && every (heldGood (s .table)) (s .files)) (buffered-is b h))
+
+-- ---- what is seen of a session
+
+module _ (s : Session) (i n k : ℕ) (e : Entry) (f : OpenFile) where
+  pub seen-is : n ≡ openFiles (s .files) → k ≡ slotOf (s .files) i → e ≡ entryAt (s .table) i → f ≡ fileOf (s .files) i
+      → seenOf s i ≡ record { opened = n; slot = k; entry = e; file = f }
+  unfolding seenOf
+  seen-is pn pk pe pf = rw (pn, pk, pe, pf)

@@ -1,0 +1,71 @@
+-- `storing::lawful::first_of` meets its contract: no state passed is the entry's.
+use Prim.Native.Nat.{ℕ, _<_, _≤_, _-_}
+use mathlib.Core.Path.{_≡_, sym, ap, _∙_}
+use mathlib.Core.Bool.{false, not}
+use native.Mathlib.Omega.{arith}
+use lib.ListN.{length, getD}
+use borrow.Author.Count.{below-more}
+use Rattle.geometry.proofs.Tests.{first-is}
+use Rattle.sessions.specs.Session.{idle, isOf}
+use Rattle.storing.specs.Lent.{filesIn}
+use Rattle.storing.proofs.Lent.{length-files, state-of}
+use borrow.Author.Needs.{needs}
+use Rattle.storing.proofs.lawful.first_of.Statement.{statement}
+use Rattle.storing.proofs.lawful.first_of.Tie as tie
+
+abbrev Inv-loop : tie.InvT-loop
+Inv-loop b w i k₀ k = ((j : ℕ) → j < k → isOf i (getD (filesIn w b) j idle) ≡ false) × (k ≤ 4)
+
+abbrev μ-loop : tie.MeasureT-loop
+μ-loop b w i k₀ k = 4 - k
+
+loop-holds : tie.Need-loop-holds Inv-loop μ-loop
+loop-holds c = (λ j l. absurd (omega arith), omega arith)
+
+state-place-requires : tie.Need-state-place-requires Inv-loop μ-loop
+state-place-requires c κs = search needs
+
+is-of-at-requires : tie.Need-is-of-at-requires Inv-loop μ-loop
+is-of-at-requires c κs = search needs
+
+returns : tie.Need-returns Inv-loop μ-loop
+returns c =
+    let p = c .before .before in
+    let l = p .before .before in
+    let a = l .before .before .args in
+    let n : length (filesIn (a .w) (a .b .now)) ≡ 4 = length-files (a .w) (a .b .now) in
+    sym (first-is (isOf (a .i)) (filesIn (a .w) (a .b .now)) (l .loop .k) idle (omega arith) (l .loop .inv .0) (λ h. state-of (a .w) (a .b .now) (l .loop .k) _ (omega arith) (p .state-place .ensures .0) (a .i) _ (c .before .is-of-at .ensures) ∙ c .if1 .taken))
+
+add-k : tie.Need-add-k Inv-loop μ-loop
+add-k c = search needs
+
+loop-less : tie.Need-loop-less Inv-loop μ-loop
+loop-less c = search needs
+
+loop-again : tie.Need-loop-again Inv-loop μ-loop
+loop-again c =
+    let p = c .before .before in
+    let l = p .before .before in
+    let a = l .before .before .args in
+    (below-more _ _ (l .loop .inv .0) (state-of (a .w) (a .b .now) (l .loop .k) _ (omega arith) (p .state-place .ensures .0) (a .i) _ (c .before .is-of-at .ensures) ∙ c .if1 .left), omega arith)
+
+returns-2 : tie.Need-returns-2 Inv-loop μ-loop
+returns-2 c =
+    let a = c .before .before .before .args in
+    let n : length (filesIn (a .w) (a .b .now)) ≡ 4 = length-files (a .w) (a .b .now) in
+    sym (first-is (isOf (a .i)) (filesIn (a .w) (a .b .now)) 4 idle (omega arith) (λ j l. c .before .loop .inv .0 j (omega arith)) (λ h. absurd (omega arith)))
+
+pub first-of-spec : {M : Type 1} → statement M
+first-of-spec =
+    tie.close
+    (tie.spec
+    Inv-loop
+    μ-loop
+    loop-holds
+    state-place-requires
+    is-of-at-requires
+    returns
+    add-k
+    loop-less
+    loop-again
+    returns-2)
