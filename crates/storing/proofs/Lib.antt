@@ -7,4 +7,4 @@ pub mod Back
 pub mod Bytes
 pub mod Forms
 pub mod Laws
-pub mod Unlawful
+pub mod Illegal
