@@ -8,7 +8,6 @@ use native.Mathlib.Omega.{arith}
 use lib.ListN.{length, getD, length-append}
 use borrow.Author.Tests.{lt-ltb, le-ltb, eq-eqb, ne-eqb}
 use Rattle.geometry.specs.Bytes.{lay}
-use Rattle.geometry.specs.Sizes.{entries, mostOpen}
 use Rattle.geometry.proofs.Bytes.{length-lay, lay-append, part-all, part-lay-same}
 use Rattle.directory.proofs.Back.{eight}
 use Rattle.directory.specs.declared.Entry.{Entry}
@@ -18,7 +17,7 @@ use Rattle.sessions.specs.declared.OpenFile.{OpenFile}
 use Rattle.sessions.specs.declared.Session.{Session}
 use Rattle.storing.specs.Numbers.{bytesOf, flagOf}
 use Rattle.storing.specs.Rows.{rowOf}
-use Rattle.storing.specs.Stored.{entryWidth, fileWidth, heldWidth, filesAt, sessionSize, bufferedSize, entryStored, placeStored, fileStored, holdStored, heldStored, stored, bufferedStored, layEntry, layFile, layHeld, laySession, layBuffered}
+use Rattle.storing.specs.Stored.{entryWidth, fileWidth, heldWidth, filesAt, sessionSize, bufferedSize, entryStored, placeStored, fileStored, holdStored, heldStored, stored, bufferedStored, layPart, laySession, layBuffered}
 
 -- ---- bytes written out
 
@@ -109,7 +108,7 @@ pub length-file : (f : OpenFile) → length (fileStored f) ≡ fileWidth
 unfolding fileStored placeStored bytesOf
 length-file f = refl
 
-length-hold : (holds : Bool) (held : ℕ) (changed : Bool) → length (holdStored holds held changed) ≡ 6
+pub length-hold : (holds : Bool) (held : ℕ) (changed : Bool) → length (holdStored holds held changed) ≡ 6
 unfolding holdStored bytesOf
 length-hold holds held changed = refl
 
@@ -119,30 +118,14 @@ length-held f n = rw n
 
 -- ---- a part of that number is there, or not
 
-module _ (b : List ℕ) (i : ℕ) where
-  pub entry-there : (e : Entry) → i < entries → layEntry b i e ≡ lay b (entryWidth * i) (entryStored e)
-  unfolding layEntry
-  entry-there e h = rw (lt-ltb i entries h, layEntry)
+module _ (n at w : ℕ) (b : List ℕ) (i : ℕ) (x : List ℕ) where
+  pub part-there : (p : ℕ) → at + w * i ≡ p → i < n → layPart n at w b i x ≡ lay b p x
+  unfolding layPart
+  part-there p e h = rw (lt-ltb i n h, layPart) (ap (λ (k : ℕ). lay b k x) e)
 
-  pub entry-not : (e : Entry) → entries ≤ i → layEntry b i e ≡ b
-  unfolding layEntry
-  entry-not e h = rw (le-ltb i entries h, layEntry)
-
-  pub file-there : (f : OpenFile) → i < mostOpen → layFile b i f ≡ lay b (filesAt + fileWidth * i) (fileStored f)
-  unfolding layFile
-  file-there f h = rw (lt-ltb i mostOpen h, layFile)
-
-  pub file-not : (f : OpenFile) → mostOpen ≤ i → layFile b i f ≡ b
-  unfolding layFile
-  file-not f h = rw (le-ltb i mostOpen h, layFile)
-
-  pub held-there : (f : BufferedFile) → i < mostOpen → layHeld b i f ≡ lay b (filesAt + heldWidth * i) (heldStored f)
-  unfolding layHeld
-  held-there f h = rw (lt-ltb i mostOpen h, layHeld)
-
-  pub held-not : (f : BufferedFile) → mostOpen ≤ i → layHeld b i f ≡ b
-  unfolding layHeld
-  held-not f h = rw (le-ltb i mostOpen h, layHeld)
+  pub part-not : n ≤ i → layPart n at w b i x ≡ b
+  unfolding layPart
+  part-not h = rw (le-ltb i n h, layPart)
 
 -- ---- a state with its buffer, laid in three parts
 

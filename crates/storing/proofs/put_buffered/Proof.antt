@@ -8,7 +8,7 @@ use Rattle.geometry.proofs.Bytes.{length-lay}
 use Rattle.storing.specs.Rows.{rowOf}
 use Rattle.storing.specs.Stored.{heldStored}
 use Rattle.storing.proofs.Rows.{laid-none, size-none, turn}
-use Rattle.storing.proofs.Laid.{held-there}
+use Rattle.storing.proofs.Laid.{part-there}
 use borrow.Author.Needs.{needs}
 use Rattle.storing.proofs.put_buffered.Statement.{statement}
 use Rattle.storing.proofs.put_buffered.Tie as tie
@@ -54,7 +54,7 @@ loop-again c =
     let l = c .before .before .before .before .before .before .loop in
     let a = c .before .before .before .before .before .before .before .before .args in
     let n : length (a .t2) ≡ 4 = search needs in
-    let r = turn heldStored (a .b .now) (l .b) (c .before .before .put-held .last .0) (a .t2) (l .k) 396 (396 * l .k) 396 (396 + 396 * l .k) _ (omega arith) (omega arith) (l .inv .0) (l .inv .1) (c .before .before .put-held .ensures .0 ∙ held-there (l .b) (l .k) _ (omega arith)) (c .before .before .put-held .ensures .1) (omega arith) in
+    let r = turn heldStored (a .b .now) (l .b) (c .before .before .put-held .last .0) (a .t2) (l .k) 396 (396 * l .k) 396 (396 + 396 * l .k) _ (omega arith) (omega arith) (l .inv .0) (l .inv .1) (c .before .before .put-held .ensures .0 ∙ part-there 4 396 396 (l .b) (l .k) _ (396 + 396 * l .k) refl (omega arith)) (c .before .before .put-held .ensures .1) (omega arith) in
     (r .0, omega (arith, r .1), omega arith, ap length (r .0) ∙ length-lay (a .b .now) 396 _)
 
 -- src/lib.rt:511:1

@@ -1,7 +1,10 @@
+use mathlib.Core.Path.{refl}
+use native.Mathlib.Omega.{arith}
+use Rattle.storing.specs.Stored.{heldStored}
 use mathlib.Core.Path.{_≡_, sym, _∙_}
-use Prim.Native.Nat.{_<_}
+use Prim.Native.Nat.{_+_, _*_, _<_}
 use lib.ListN.{length}
-use Rattle.storing.proofs.Laid.{held-there, held-not, length-held}
+use Rattle.storing.proofs.Laid.{part-there, part-not, length-held}
 use borrow.Author.Needs.{needs}
 use Rattle.storing.proofs.put_held.Statement.{statement}
 use Rattle.storing.proofs.put_held.Tie as tie
@@ -31,14 +34,14 @@ returns c =
     let a = c .before .before .before .before .before .before .args in
     let h : a .k < 4 = search needs in
     let r = c .before .before .lay-held .ensures in
-    (r .0 ∙ sym (held-there (a .b .now) (a .k) (a .f) h), r .1)
+    (r .0 ∙ sym (part-there 4 396 396 (a .b .now) (a .k) (heldStored (a .f)) (396 + 396 * a .k) refl h), r .1)
 
 -- src/lib.rt:477:1
 returns-2 : tie.Need-returns-2
 returns-2 c =
     let a = c .before .before .args in
     let n : length (a .f .buffer) ≡ 360 = search needs in
-    (sym (held-not (a .b .now) (a .k) (a .f) (search needs)), length-held (a .f) n)
+    (sym (part-not 4 396 396 (a .b .now) (a .k) (heldStored (a .f)) (search needs)), length-held (a .f) n)
 
 pub put-held-spec : {M : Type 1} → statement M
 put-held-spec =

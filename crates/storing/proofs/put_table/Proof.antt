@@ -8,7 +8,7 @@ use Rattle.geometry.proofs.Bytes.{length-lay}
 use Rattle.storing.specs.Rows.{rowOf}
 use Rattle.storing.specs.Stored.{entryStored}
 use Rattle.storing.proofs.Rows.{laid-none, size-none, turn}
-use Rattle.storing.proofs.Laid.{entry-there}
+use Rattle.storing.proofs.Laid.{part-there}
 use borrow.Author.Needs.{needs}
 use Rattle.storing.proofs.put_table.Statement.{statement}
 use Rattle.storing.proofs.put_table.Tie as tie
@@ -54,7 +54,7 @@ loop-again c =
     let l = c .before .before .before .before .before .before .loop in
     let a = c .before .before .before .before .before .before .before .before .args in
     let n : length (a .t2) ≡ 18 = search needs in
-    let r = turn entryStored (a .b .now) (l .b) (c .before .before .put-entry .last .0) (a .t2) (l .i) 0 (22 * l .i) 22 (22 * l .i) _ (omega arith) (omega arith) (l .inv .0) (l .inv .1) (c .before .before .put-entry .ensures .0 ∙ entry-there (l .b) (l .i) _ (omega arith)) (c .before .before .put-entry .ensures .1) (omega arith) in
+    let r = turn entryStored (a .b .now) (l .b) (c .before .before .put-entry .last .0) (a .t2) (l .i) 0 (22 * l .i) 22 (22 * l .i) _ (omega arith) (omega arith) (l .inv .0) (l .inv .1) (c .before .before .put-entry .ensures .0 ∙ part-there 18 0 22 (l .b) (l .i) _ (22 * l .i) (omega arith) (omega arith)) (c .before .before .put-entry .ensures .1) (omega arith) in
     (r .0, omega (arith, r .1), omega arith, ap length (r .0) ∙ length-lay (a .b .now) 0 _)
 
 -- src/lib.rt:487:1
