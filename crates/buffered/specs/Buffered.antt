@@ -1,20 +1,25 @@
 -- What the functions of this crate hand on to each other. Definitions only.
 use mathlib.Core.Path.{_≡_}
-use mathlib.Core.Bool.{true, false}
-use mathlib.Core.List.{List, []}
+use mathlib.Core.Bool.{true, false, not}
+use mathlib.Core.List.{List, [], _∷_}
 use Prim.Native.Nat.{ℕ}
+use lib.Dec.{eqb}
 use lib.ListN.{getD}
 use Rattle.geometry.specs.Sizes.{compressed}
 use Rattle.directory.specs.Entries.{isKind}
 use Rattle.packing.specs.Reading.{startOf}
 use Rattle.sessions.specs.Session.{idle, fresh, extentWith}
+use Rattle.steps.specs.Effects.{Effect, storeEffect, effects}
 use Rattle.steps.specs.Next.{Scene}
 use Rattle.steps.specs.Step.{After}
+use Rattle.straight.specs.Straight.{writing}
+use Rattle.held.specs.Held.{scene, readWith, writeWith}
 use Rattle.directory.specs.declared.Entry.{Entry}
 use Rattle.requests.specs.declared.Request.{Request}
-use Rattle.requests.specs.declared.Request.the-variants.{Read}
+use Rattle.requests.specs.declared.Request.the-variants.{Open, Read, Write, GranuleRead, GranuleWrite, GranuleLook, Position}
 use Rattle.sessions.specs.declared.BufferedFile.{BufferedFile}
 use Rattle.sessions.specs.declared.BufferedSession.{BufferedSession}
+use Rattle.sessions.specs.declared.OpenFile.{OpenFile}
 use Rattle.buffered.specs.declared.Reply.{Reply}
 
 -- the scene of a request, from its parts
@@ -24,6 +29,16 @@ sceneWith image i e b given = record { number = i; entry = e; file = b .file; by
 -- k is the sector that a record read of a compressed file lies in
 abbrev pub Found : List ℕ → Request → Entry → BufferedFile → ℕ → Type 0
 Found image q e b k = q ≡ Read → isKind compressed e ≡ true → k ≡ startOf (extentWith e b image) (b .file .here) .sector
+
+-- as `effects`: the sector that a record read of a compressed file lies in, and the code of the bytes given, are given
+unfoldable pub effectsWith : Request → Entry → OpenFile → List ℕ → List ℕ → ℕ → List Effect
+effectsWith Open e f given code k = []
+effectsWith Read e f given code k = readWith e f (not (eqb (f .here .sector) k)) k
+effectsWith Write e f given code k = writeWith e f given code
+effectsWith (GranuleRead g) e f given code k = []
+effectsWith (GranuleWrite g) e f given code k = storeEffect (writing e f given) g ∷ []
+effectsWith (GranuleLook g) e f given code k = []
+effectsWith (Position o) e f given code k = effects (Position o) (scene 0 e)
 
 -- the state of number k with its buffer; a fresh one where that is not in use
 unfoldable pub stateAt : List BufferedFile → ℕ → BufferedFile

@@ -3,6 +3,7 @@ use directory::Entry;
 use directory::entry_of;
 use geometry::Geometry;
 use geometry::part;
+use held::Holding;
 use judging::verdict;
 use mounting::BufferedMounted;
 use requests::Answer;
@@ -35,13 +36,44 @@ ghost use Rattle.steps.specs.Step.{kept, bufferedStep};
 ghost use Rattle.steps.specs.Verdict.{seenScene, bufferNext, answerOf, verdictOf};
 ghost use Rattle.steps.proofs.Inside.{AllSuit};
 ghost use Rattle.straight.specs.Straight.{Encoded};
-ghost use Rattle.held.specs.Held.{bench};
-ghost use Rattle.buffered.specs.Buffered.{sceneWith, Found, stateAt, lentBy, after};
+ghost use Rattle.held.specs.Held.{bench, lent, scene, heldAll};
+ghost use Rattle.buffered.specs.Buffered.{sceneWith, Found, effectsWith, stateAt, lentBy, after};
 
 // ---- what a request answered 0 does
 
-// What a request answered 0 does to the image and the file's buffer; k is the sector that a record read of a compressed file lies in.
+// What a request answered 0 does to the image and to what the file holds; k is the sector that a record read of a compressed file lies in.
 fn act(
+    image: &mut [u8],
+    i: usize,
+    e: Entry,
+    f: OpenFile,
+    q: Request,
+    given: &[u8],
+    code: &[u8],
+    k: u32,
+    h: Holding,
+    buffer: &mut [u8],
+) -> Holding
+    ensures { λ r. ⌜ lent (now (image .exit)) r (now (buffer .exit))
+        ≡ heldAll (scene i e) (effectsWith q e f (now (given .entry)) (now (code .entry)) k) (lent (now (image .entry)) h (now (buffer .entry))) ⌝ }
+{
+    match q {
+        Request::Read => {
+            let here = f.here;
+            held::read(image, e, h, buffer, f, !(here.sector == k), k as usize)
+        }
+        Request::Write => held::write(image, e, h, buffer, f, given, code),
+        Request::GranuleWrite(g) => {
+            store(image, e, g, given);
+            h
+        }
+        Request::Position(o) => held::order(image, i, e, h, buffer, o),
+        _ => h,
+    }
+}
+
+// The same on a state with its buffer.
+fn act_on(
     image: &mut [u8],
     i: usize,
     e: Entry,
@@ -57,18 +89,19 @@ fn act(
         (effects q (sceneWith (now (image .entry)) i e b (now (given .entry)))) (bench (now (image .entry)) b) ⌝ }
 {
     let f = b.file;
-    match q {
-        Request::Read => {
-            let here = f.here;
-            held::read(image, e, b, f, !(here.sector == k), k as usize)
-        }
-        Request::Write => held::write(image, e, b, f, given, code),
-        Request::GranuleWrite(g) => {
-            store(image, e, g, given);
-            b
-        }
-        Request::Position(o) => held::order(image, i, e, b, o),
-        _ => b,
+    let mut buffer = b.buffer;
+    let old = Holding {
+        holds: b.holds,
+        held: b.held,
+        changed: b.changed,
+    };
+    let new = act(image, i, e, f, q, given, code, k, old, &mut buffer[..]);
+    BufferedFile {
+        file: f,
+        holds: new.holds,
+        held: new.held,
+        changed: new.changed,
+        buffer: buffer,
     }
 }
 
@@ -199,7 +232,7 @@ fn request_in(
         Answer::Done => {
             let next = v.entry;
             let here = f.here;
-            let w = act(image, i, e, q, given, part(code, 0, n), here.sector, b);
+            let w = act_on(image, i, e, q, given, part(code, 0, n), here.sector, b);
             Reply {
                 answer: a,
                 session: BufferedSession {

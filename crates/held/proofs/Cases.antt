@@ -1,5 +1,5 @@
 -- What each definition of the buffer's work comes to, case by case: the tests of its definition, one way each.
-use mathlib.Core.Path.{_≡_, refl, sym, ap, _∙_}
+use mathlib.Core.Path.{_≡_, refl, sym, _∙_}
 use mathlib.Core.Bool.{Bool, true, false, _&&_}
 use mathlib.Core.List.{List, [], _∷_, map}
 use Prim.Native.Nat.{ℕ, _+_, _-_, _≤_, _<_}
@@ -14,9 +14,9 @@ use Rattle.geometry.specs.Places.{placeOf}
 use Rattle.geometry.specs.Sizes.{sector, entries, blocked, compressed}
 use Rattle.geometry.proofs.Bytes.{length-lay, part-all, part-lay-same}
 use Rattle.geometry.proofs.Tests.{either, and-left, and-right}
-use Rattle.directory.specs.Stamp.{stamped}
+use Rattle.directory.specs.Stamp.{stampBytes, stamped}
 use Rattle.packing.specs.Placing.{fitsHere, filled, changes}
-use Rattle.steps.specs.Effects.{hold, change, storeEffect, blockedEffect, effects, sectorAt, plainDo, holding, Bench, puttingBack, loaded, taking, working, bufferedDo}
+use Rattle.steps.specs.Effects.{hold, change, stamp, putBack, storeEffect, blockedEffect, effects, sectorAt, plainDo, holding, Bench, puttingBack, loaded, taking, working, bufferedDo}
 use Rattle.sessions.specs.Session.{idle}
 use Rattle.straight.specs.Straight.{writing}
 use Rattle.requests.proofs.Order as order
@@ -25,17 +25,9 @@ use Rattle.directory.specs.declared.Entry.{Entry}
 use Rattle.requests.specs.declared.Order.{Order}
 use Rattle.requests.specs.declared.Order.the-variants.{WriteMark, RewindOnline, RewindOffline, RecordForward, RecordBack, FileForward, FileBack}
 use Rattle.requests.specs.declared.Request.the-variants.{Position}
-use Rattle.sessions.specs.declared.BufferedFile.{BufferedFile}
 use Rattle.sessions.specs.declared.OpenFile.{OpenFile}
-use Rattle.held.specs.Held.{bench, scene, isThere, canDo, heldDo, heldAll, readWith, writeWith}
-
--- an image and a file, as those of a bench
-pub bench-is : (image : List ℕ) (b : BufferedFile) (w : Bench) → b ≡ w .file → image ≡ w .image → bench image b ≡ w
-bench-is image b w p q = rw (p, q)
-
--- what is a bench's file and image is that of a bench that it is
-pub onward : {b : BufferedFile} {image : List ℕ} {w v : Bench} → (b ≡ w .file) × (image ≡ w .image) → w ≡ v → (b ≡ v .file) × (image ≡ v .image)
-onward h q = (h .0 ∙ ap (λ x. x .file) q, h .1 ∙ ap (λ x. x .image) q)
+use Rattle.held.specs.declared.Holding.{Holding}
+use Rattle.held.specs.Held.{bench, lent, scene, isThere, isWhole, canDo, heldDo, heldAll, readWith, writeWith}
 
 -- bytes laid over all that there is
 pub lay-all : (n : ℕ) (old xs : List ℕ) → length old ≡ n → length xs ≡ n → lay old 0 xs ≡ xs
@@ -46,14 +38,20 @@ lay-all n old xs h k =
 -- ---- the buffer
 
 module _ (e : Entry) (w : Bench) where
-  pub put-changed : w .file .holds && w .file .changed ≡ true
-      → bench (lay (w .image) (sectorAt e (w .file .held)) (w .file .buffer)) (holding (w .file) (w .file .held) false (w .file .buffer)) ≡ puttingBack e w
-  unfolding puttingBack
-  put-changed h = rw (h, puttingBack)
+  pub put-changed : isWhole w && (w .file .holds && w .file .changed) ≡ true
+      → bench (lay (w .image) (sectorAt e (w .file .held)) (w .file .buffer)) (holding (w .file) (w .file .held) false (w .file .buffer)) ≡ heldDo (scene 0 e) putBack w
+  unfolding heldDo canDo bufferedDo puttingBack
+  put-changed h = rw (and-left (isWhole w) (w .file .holds && w .file .changed) h, and-right (isWhole w) (w .file .holds && w .file .changed) h, heldDo, puttingBack)
 
-  pub put-unchanged : w .file .holds && w .file .changed ≡ false → w ≡ puttingBack e w
-  unfolding puttingBack
-  put-unchanged h = rw (h, puttingBack)
+  pub put-unchanged : isWhole w && (w .file .holds && w .file .changed) ≡ false → w ≡ heldDo (scene 0 e) putBack w
+  unfolding heldDo canDo bufferedDo puttingBack
+  put-unchanged h = either (isWhole w)
+      (λ (t : isWhole w ≡ true). let z : w .file .holds && w .file .changed ≡ false = rw t at h in rw (t, z, heldDo, puttingBack))
+      (λ (t : isWhole w ≡ false). rw (t, heldDo))
+
+  pub put-whole : length (w .file .buffer) ≡ sector → heldDo (scene 0 e) putBack w ≡ puttingBack e w
+  unfolding heldDo canDo bufferedDo
+  put-whole h = rw (eq-eqb (length (w .file .buffer)) sector h, heldDo)
 
   pub take-held : (k : ℕ) → w .file .holds && eqb (w .file .held) k ≡ true → w ≡ taking e k w
   unfolding taking
@@ -63,10 +61,12 @@ module _ (e : Entry) (w : Bench) where
   unfolding taking
   take-other k h = rw (h, taking)
 
--- work in the buffer leaves the image
-pub worked : (at : ℕ) (xs : List ℕ) (b : BufferedFile) (w : Bench) → b ≡ w .file → working at xs (bench [] b) .file ≡ working at xs w .file
+-- bytes laid in a buffer that a file has taken a sector into
+pub worked : {image buffer new : List ℕ} {h : Holding} {w : Bench} (byte behind n : ℕ) (xs : List ℕ) → lent image h buffer ≡ w
+    → new ≡ lay buffer byte (padded behind n xs) → n ≡ sector - byte
+    → lent image (record { holds = true; held = h .held; changed = true }) new ≡ working byte (padded behind (sector - byte) xs) w
 unfolding working
-worked at xs b w p = rw p
+worked byte behind n xs p q z = rw (q, z, sym p)
 
 -- ---- one effect
 
@@ -79,20 +79,20 @@ unfolding isThere
 there-inside e k n h = leb-true (sectorAt e k + sector) n (and-right (ltb k (e .sectors)) (leb (sectorAt e k + sector) n) h)
 
 module _ (e : Entry) (w : Bench) (k : ℕ) where
-  pub hold-there : isThere e k (length (w .image)) ≡ true → taking e k w ≡ heldDo (scene 0 e) (hold k) w
+  pub hold-there : isWhole w && isThere e k (length (w .image)) ≡ true → taking e k w ≡ heldDo (scene 0 e) (hold k) w
   unfolding heldDo canDo bufferedDo
   hold-there h = rw (h, heldDo)
 
-  pub hold-nowhere : isThere e k (length (w .image)) ≡ false → w ≡ heldDo (scene 0 e) (hold k) w
+  pub hold-nowhere : isWhole w && isThere e k (length (w .image)) ≡ false → w ≡ heldDo (scene 0 e) (hold k) w
   unfolding heldDo canDo
   hold-nowhere h = rw (h, heldDo)
 
-  pub change-there : isThere e k (length (w .image)) ≡ true → (byte : ℕ) (xs : List ℕ)
+  pub change-there : isWhole w && isThere e k (length (w .image)) ≡ true → (byte : ℕ) (xs : List ℕ)
       → working byte xs (taking e k w) ≡ heldDo (scene 0 e) (change (record { place = record { sector = k; byte = byte }; bytes = xs })) w
   unfolding heldDo canDo bufferedDo
   change-there h byte xs = rw (h, heldDo)
 
-  pub change-nowhere : isThere e k (length (w .image)) ≡ false → (byte : ℕ) (xs : List ℕ)
+  pub change-nowhere : isWhole w && isThere e k (length (w .image)) ≡ false → (byte : ℕ) (xs : List ℕ)
       → w ≡ heldDo (scene 0 e) (change (record { place = record { sector = k; byte = byte }; bytes = xs })) w
   unfolding heldDo canDo
   change-nowhere h byte xs = rw (h, heldDo)
@@ -178,12 +178,16 @@ module _ (i : ℕ) (e : Entry) (w : Bench) where
   unfolding heldAll effects
   skips-back = refl
 
-  pub closes : bench (stamped (puttingBack e w .image) i (e .count) (e .flags)) (puttingBack e w .file)
-      ≡ heldAll (scene i e) (effects (Position RewindOffline) (scene i e)) w
-  unfolding heldAll heldDo canDo bufferedDo plainDo effects stamped
-  closes = either (ltb i entries) (λ (h : ltb i entries ≡ true). rw (h, heldDo, stamped)) (λ (h : ltb i entries ≡ false). rw (h, heldDo, stamped))
+  pub stamps : bench (stamped (w .image) i (e .count) (e .flags)) (w .file) ≡ heldDo (scene i e) (stamp (stampBytes (e .count) (e .flags))) w
+  unfolding heldDo canDo bufferedDo plainDo stamped
+  stamps = either (ltb i entries) (λ (h : ltb i entries ≡ true). rw (h, heldDo, stamped)) (λ (h : ltb i entries ≡ false). rw (h, heldDo, stamped))
 
-  pub goes-back : (o : Order) → OneOf back (tagOf order.the-type o) → puttingBack e w ≡ heldAll (scene i e) (effects (Position o) (scene i e)) w
+  pub closes : heldDo (scene i e) (stamp (stampBytes (e .count) (e .flags))) (heldDo (scene 0 e) putBack w)
+      ≡ heldAll (scene i e) (effects (Position RewindOffline) (scene i e)) w
+  unfolding heldAll heldDo canDo bufferedDo effects
+  closes = refl
+
+  pub goes-back : (o : Order) → OneOf back (tagOf order.the-type o) → heldDo (scene 0 e) putBack w ≡ heldAll (scene i e) (effects (Position o) (scene i e)) w
   unfolding heldAll heldDo canDo bufferedDo effects
   goes-back WriteMark h = refl
   goes-back RewindOnline h = refl

@@ -3,7 +3,7 @@ use mathlib.Core.Bool.{Bool, true, false, _&&_}
 use mathlib.Core.List.{List, [], _∷_, map}
 use Prim.Native.Nat.{ℕ, _+_}
 use lib.ListN.{length}
-use lib.Dec.{leb, ltb}
+use lib.Dec.{eqb, leb, ltb}
 use Rattle.geometry.specs.Places.{placeOf}
 use Rattle.geometry.specs.Sizes.{sector, entries, blocked, compressed}
 use Rattle.directory.specs.Entries.{isKind}
@@ -15,9 +15,18 @@ use Rattle.straight.specs.Straight.{writing}
 use Rattle.directory.specs.declared.Entry.{Entry}
 use Rattle.sessions.specs.declared.BufferedFile.{BufferedFile}
 use Rattle.sessions.specs.declared.OpenFile.{OpenFile}
+use Rattle.held.specs.declared.Holding.{Holding}
 
 abbrev pub bench : List ℕ → BufferedFile → Bench
 bench image b = record { image = image; file = b }
+
+-- an open-file state with what it holds, and the bytes of its buffer
+abbrev pub stateWith : OpenFile → Holding → List ℕ → BufferedFile
+stateWith f h buffer = record { file = f; holds = h .holds; held = h .held; changed = h .changed; buffer = buffer }
+
+-- an image and a buffer lent, as far as an effect goes by them: what the buffer holds, and no more of its file
+abbrev pub lent : List ℕ → Holding → List ℕ → Bench
+lent image h buffer = bench image (stateWith idle h buffer)
 
 -- a scene as far as an effect goes by it: the entry's number and the entry
 abbrev pub scene : ℕ → Entry → Scene
@@ -29,13 +38,17 @@ scene i e = record { number = i; entry = e; file = idle; bytes = []; given = [] 
 unfoldable pub isThere : Entry → ℕ → ℕ → Bool
 isThere e k n = ltb k (e .sectors) && leb (sectorAt e k + sector) n
 
--- whether there is such a sector, or entry, for an effect by way of the buffer
+-- whether a buffer of 360 bytes is lent
+abbrev pub isWhole : Bench → Bool
+isWhole w = eqb (length (w .file .buffer)) sector
+
+-- whether there is such a buffer and such a sector, or such an entry, for an effect
 unfoldable pub canDo : Scene → Effect → Bench → Bool
-canDo c (hold k) w = isThere (c .entry) k (length (w .image))
-canDo c (change x) w = isThere (c .entry) (x .place .sector) (length (w .image))
+canDo c (hold k) w = isWhole w && isThere (c .entry) k (length (w .image))
+canDo c (change x) w = isWhole w && isThere (c .entry) (x .place .sector) (length (w .image))
 canDo c (store k xs) w = true
 canDo c (stamp xs) w = ltb (c .number) entries
-canDo c putBack w = true
+canDo c putBack w = isWhole w
 
 unfoldable pub heldDo : Scene → Effect → Bench → Bench
 heldDo c x w = elim (canDo c x w) [ true ↦ bufferedDo c x w | false ↦ w ]

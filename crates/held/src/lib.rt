@@ -8,95 +8,71 @@ use geometry::lay_padded;
 use geometry::part;
 use packing::fits_here;
 use requests::Order;
-use sessions::BufferedFile;
 use sessions::OpenFile;
 use straight::room_behind;
 use straight::sector_at;
 use straight::store;
 ghost use mathlib.Core.Path.{_≡_};
-ghost use mathlib.Core.List.{[], map};
+ghost use mathlib.Core.List.{map};
 ghost use Prim.Native.Nat.{_+_, _-_, _≤_};
 ghost use lib.ListN.{length};
-ghost use Rattle.geometry.specs.Bytes.{padded};
+ghost use Rattle.geometry.specs.Bytes.{part, padded};
 ghost use Rattle.geometry.specs.Sizes.{sector};
 ghost use Rattle.packing.specs.Placing.{changes};
 ghost use Rattle.requests.specs.declared.Request.the-variants.{Position};
-ghost use Rattle.steps.specs.Effects.{effects, sectorAt, puttingBack, loaded, taking, working};
+ghost use Rattle.steps.specs.Effects.{effects, sectorAt, taking};
 ghost use Rattle.steps.specs.Effects as Effects;
 ghost use Rattle.straight.specs.Straight.{writing};
-ghost use Rattle.held.specs.Held.{bench, scene, isThere, heldDo, heldAll, readWith, writeWith};
+ghost use Rattle.held.specs.Held.{lent, scene, isThere, heldDo, heldAll, readWith, writeWith};
+
+// What a file holds: a sector of its extent, if it holds one, and whether that is changed. Its bytes are in a lent buffer.
+pub struct Holding {
+    pub holds: bool,
+    pub held: u32,
+    pub changed: bool,
+}
 
 // ---- the buffer
 
 // A changed buffer goes back to its sector; one that is not changed is not written.
-pub fn put_back(image: &mut [u8], e: Entry, b: BufferedFile) -> BufferedFile
-    ensures file { λ r. ⌜ r ≡ puttingBack e (bench (now (image .entry)) b) .file ⌝ }
-    ensures image { λ r. ⌜ now (image .exit) ≡ puttingBack e (bench (now (image .entry)) b) .image ⌝ }
+pub fn put_back(image: &mut [u8], e: Entry, h: Holding, buffer: &[u8]) -> Holding
+    ensures { λ r. ⌜ lent (now (image .exit)) r (now (buffer .entry)) ≡ heldDo (scene 0 e) Effects.putBack (lent (now (image .entry)) h (now (buffer .entry))) ⌝ }
 {
-    if b.holds & b.changed {
-        let file = b.file;
-        let buffer = b.buffer;
-        lay(image, sector_at(e, b.held), &buffer[..]);
-        BufferedFile {
-            file: file,
+    if (buffer.len() == Geometry::SECTOR) & (h.holds & h.changed) {
+        lay(image, sector_at(e, h.held), buffer);
+        Holding {
             holds: true,
-            held: b.held,
+            held: h.held,
             changed: false,
-            buffer: buffer,
         }
     } else {
-        b
+        h
     }
 }
 
-// Sector k of the extent comes into the buffer, whatever it held.
-fn load(image: &[u8], e: Entry, b: BufferedFile, k: u32) -> BufferedFile
-    requires { ⌜ sectorAt e k + sector ≤ length (now image) ⌝ }
-    ensures { λ r. ⌜ r ≡ loaded e k (bench (now (image .entry)) b) .file ⌝ }
+// Sector k of the extent comes into the buffer, whatever that held.
+fn load(image: &[u8], e: Entry, k: u32, buffer: &mut [u8])
+    requires { ⌜ (sectorAt e k + sector ≤ length (now image)) × (length (now buffer) ≡ sector) ⌝ }
+    ensures { λ r. ⌜ now (buffer .exit) ≡ part (now (image .entry)) (sectorAt e k) sector ⌝ }
 {
-    let file = b.file;
-    let mut buffer = b.buffer;
-    lay(
-        &mut buffer[..],
-        0,
-        part(image, sector_at(e, k), Geometry::SECTOR),
-    );
-    BufferedFile {
-        file: file,
-        holds: true,
-        held: k,
-        changed: false,
-        buffer: buffer,
-    }
+    lay(buffer, 0, part(image, sector_at(e, k), Geometry::SECTOR));
 }
 
 // The file takes sector k, unless it holds it already; what it held goes back first.
-fn take(image: &mut [u8], e: Entry, b: BufferedFile, k: u32) -> BufferedFile
-    requires { ⌜ sectorAt e k + sector ≤ length (now image) ⌝ }
-    ensures file { λ r. ⌜ r ≡ taking e k (bench (now (image .entry)) b) .file ⌝ }
-    ensures image { λ r. ⌜ now (image .exit) ≡ taking e k (bench (now (image .entry)) b) .image ⌝ }
+fn take(image: &mut [u8], e: Entry, h: Holding, buffer: &mut [u8], k: u32) -> Holding
+    requires { ⌜ (sectorAt e k + sector ≤ length (now image)) × (length (now buffer) ≡ sector) ⌝ }
+    ensures { λ r. ⌜ lent (now (image .exit)) r (now (buffer .exit)) ≡ taking e k (lent (now (image .entry)) h (now (buffer .entry))) ⌝ }
 {
-    if b.holds & (b.held == k) {
-        b
+    if h.holds & (h.held == k) {
+        h
     } else {
-        let back = put_back(image, e, b);
-        load(image, e, back, k)
-    }
-}
-
-// Lays xs in the buffer, from one of its bytes on, with `behind` up to the buffer's end.
-fn work(b: BufferedFile, byte: usize, xs: &[u8], behind: u8) -> BufferedFile
-    ensures { λ r. ⌜ r ≡ working byte (padded behind (sector - byte) (now (xs .entry))) (bench [] b) .file ⌝ }
-{
-    let file = b.file;
-    let mut buffer = b.buffer;
-    lay_padded(&mut buffer[..], byte, xs, room_behind(byte), behind);
-    BufferedFile {
-        file: file,
-        holds: true,
-        held: b.held,
-        changed: true,
-        buffer: buffer,
+        put_back(image, e, h, buffer);
+        load(image, e, k, buffer);
+        Holding {
+            holds: true,
+            held: k,
+            changed: false,
+        }
     }
 }
 
@@ -114,14 +90,13 @@ fn is_there(e: Entry, k: usize, n: usize) -> bool
 }
 
 // The file takes sector k, to read it.
-pub fn hold(image: &mut [u8], e: Entry, b: BufferedFile, k: usize) -> BufferedFile
-    ensures file { λ r. ⌜ r ≡ heldDo (scene 0 e) (Effects.hold k) (bench (now (image .entry)) b) .file ⌝ }
-    ensures image { λ r. ⌜ now (image .exit) ≡ heldDo (scene 0 e) (Effects.hold k) (bench (now (image .entry)) b) .image ⌝ }
+pub fn hold(image: &mut [u8], e: Entry, h: Holding, buffer: &mut [u8], k: usize) -> Holding
+    ensures { λ r. ⌜ lent (now (image .exit)) r (now (buffer .exit)) ≡ heldDo (scene 0 e) (Effects.hold k) (lent (now (image .entry)) h (now (buffer .entry))) ⌝ }
 {
-    if is_there(e, k, image.len()) {
-        take(image, e, b, k as u32)
+    if (buffer.len() == Geometry::SECTOR) & is_there(e, k, image.len()) {
+        take(image, e, h, buffer, k as u32)
     } else {
-        b
+        h
     }
 }
 
@@ -129,24 +104,27 @@ pub fn hold(image: &mut [u8], e: Entry, b: BufferedFile, k: usize) -> BufferedFi
 pub fn change(
     image: &mut [u8],
     e: Entry,
-    b: BufferedFile,
+    h: Holding,
+    buffer: &mut [u8],
     k: usize,
     byte: usize,
     xs: &[u8],
     behind: u8,
-) -> BufferedFile
-    ensures file { λ r. ⌜ r ≡ heldDo (scene 0 e)
+) -> Holding
+    ensures { λ r. ⌜ lent (now (image .exit)) r (now (buffer .exit)) ≡ heldDo (scene 0 e)
         (Effects.change (record { place = record { sector = k; byte = byte }; bytes = padded behind (sector - byte) (now (xs .entry)) }))
-        (bench (now (image .entry)) b) .file ⌝ }
-    ensures image { λ r. ⌜ now (image .exit) ≡ heldDo (scene 0 e)
-        (Effects.change (record { place = record { sector = k; byte = byte }; bytes = padded behind (sector - byte) (now (xs .entry)) }))
-        (bench (now (image .entry)) b) .image ⌝ }
+        (lent (now (image .entry)) h (now (buffer .entry))) ⌝ }
 {
-    if is_there(e, k, image.len()) {
-        let taken = take(image, e, b, k as u32);
-        work(taken, byte, xs, behind)
+    if (buffer.len() == Geometry::SECTOR) & is_there(e, k, image.len()) {
+        let taken = take(image, e, h, buffer, k as u32);
+        lay_padded(buffer, byte, xs, room_behind(byte), behind);
+        Holding {
+            holds: true,
+            held: taken.held,
+            changed: true,
+        }
     } else {
-        b
+        h
     }
 }
 
@@ -156,27 +134,27 @@ pub fn change(
 pub fn read(
     image: &mut [u8],
     e: Entry,
-    b: BufferedFile,
+    h: Holding,
+    buffer: &mut [u8],
     f: OpenFile,
     goes: bool,
     start: usize,
-) -> BufferedFile
-    ensures file { λ r. ⌜ r ≡ heldAll (scene 0 e) (readWith e f goes start) (bench (now (image .entry)) b) .file ⌝ }
-    ensures image { λ r. ⌜ now (image .exit) ≡ heldAll (scene 0 e) (readWith e f goes start) (bench (now (image .entry)) b) .image ⌝ }
+) -> Holding
+    ensures { λ r. ⌜ lent (now (image .exit)) r (now (buffer .exit)) ≡ heldAll (scene 0 e) (readWith e f goes start) (lent (now (image .entry)) h (now (buffer .entry))) ⌝ }
 {
     if e.kind == Geometry::BLOCKED {
         let k = Geometry::sector_of_record(Geometry::BLOCKED, e.length, f.position);
-        hold(image, e, b, k)
+        hold(image, e, h, buffer, k)
     } else if e.kind == Geometry::COMPRESSED {
         let here = f.here;
         if goes & (here.byte < (Geometry::SECTOR as u32)) {
-            let before = hold(image, e, b, here.sector as usize);
-            hold(image, e, before, start)
+            let before = hold(image, e, h, buffer, here.sector as usize);
+            hold(image, e, before, buffer, start)
         } else {
-            hold(image, e, b, start)
+            hold(image, e, h, buffer, start)
         }
     } else {
-        b
+        h
     }
 }
 
@@ -184,32 +162,40 @@ pub fn read(
 fn write_blocked(
     image: &mut [u8],
     e: Entry,
-    b: BufferedFile,
+    h: Holding,
+    buffer: &mut [u8],
     f: OpenFile,
     given: &[u8],
-) -> BufferedFile
-    ensures file { λ r. ⌜ r ≡ heldDo (scene 0 e) (Effects.blockedEffect (writing e f (now (given .entry)))) (bench (now (image .entry)) b) .file ⌝ }
-    ensures image { λ r. ⌜ now (image .exit) ≡ heldDo (scene 0 e) (Effects.blockedEffect (writing e f (now (given .entry)))) (bench (now (image .entry)) b) .image ⌝ }
+) -> Holding
+    ensures { λ r. ⌜ lent (now (image .exit)) r (now (buffer .exit))
+        ≡ heldDo (scene 0 e) (Effects.blockedEffect (writing e f (now (given .entry)))) (lent (now (image .entry)) h (now (buffer .entry))) ⌝ }
 {
     let k = Geometry::sector_of_record(Geometry::BLOCKED, e.length, f.position);
     let byte = Geometry::byte_of_record(Geometry::BLOCKED, e.length, f.position);
-    change(image, e, b, k, byte, given, 0)
+    change(image, e, h, buffer, k, byte, given, 0)
 }
 
 // A coded record, at the place p or in the next sector, with 128 behind it; before it goes on, the rest of the old sector becomes 128.
-fn write_coded(image: &mut [u8], e: Entry, b: BufferedFile, p: Place, code: &[u8]) -> BufferedFile
-    ensures file { λ r. ⌜ r ≡ heldAll (scene 0 e) (map Effects.change (changes p (now (code .entry)))) (bench (now (image .entry)) b) .file ⌝ }
-    ensures image { λ r. ⌜ now (image .exit) ≡ heldAll (scene 0 e) (map Effects.change (changes p (now (code .entry)))) (bench (now (image .entry)) b) .image ⌝ }
+fn write_coded(
+    image: &mut [u8],
+    e: Entry,
+    h: Holding,
+    buffer: &mut [u8],
+    p: Place,
+    code: &[u8],
+) -> Holding
+    ensures { λ r. ⌜ lent (now (image .exit)) r (now (buffer .exit))
+        ≡ heldAll (scene 0 e) (map Effects.change (changes p (now (code .entry)))) (lent (now (image .entry)) h (now (buffer .entry))) ⌝ }
 {
     let k = p.sector as usize;
     let byte = p.byte as usize;
     if fits_here(p, code.len()) {
-        change(image, e, b, k, byte, code, 128)
+        change(image, e, h, buffer, k, byte, code, 128)
     } else if Geometry::SECTOR <= byte {
-        change(image, e, b, k + 1, 0, code, 128)
+        change(image, e, h, buffer, k + 1, 0, code, 128)
     } else {
-        let old = change(image, e, b, k, byte, &code[..0], 128);
-        change(image, e, old, k + 1, 0, code, 128)
+        let old = change(image, e, h, buffer, k, byte, &code[..0], 128);
+        change(image, e, old, buffer, k + 1, 0, code, 128)
     }
 }
 
@@ -217,39 +203,38 @@ fn write_coded(image: &mut [u8], e: Entry, b: BufferedFile, p: Place, code: &[u8
 pub fn write(
     image: &mut [u8],
     e: Entry,
-    b: BufferedFile,
+    h: Holding,
+    buffer: &mut [u8],
     f: OpenFile,
     given: &[u8],
     code: &[u8],
-) -> BufferedFile
-    ensures file { λ r. ⌜ r ≡ heldAll (scene 0 e) (writeWith e f (now (given .entry)) (now (code .entry))) (bench (now (image .entry)) b) .file ⌝ }
-    ensures image { λ r. ⌜ now (image .exit)
-        ≡ heldAll (scene 0 e) (writeWith e f (now (given .entry)) (now (code .entry))) (bench (now (image .entry)) b) .image ⌝ }
+) -> Holding
+    ensures { λ r. ⌜ lent (now (image .exit)) r (now (buffer .exit))
+        ≡ heldAll (scene 0 e) (writeWith e f (now (given .entry)) (now (code .entry))) (lent (now (image .entry)) h (now (buffer .entry))) ⌝ }
 {
     if e.kind == Geometry::BLOCKED {
-        write_blocked(image, e, b, f, given)
+        write_blocked(image, e, h, buffer, f, given)
     } else if e.kind == Geometry::COMPRESSED {
         let here = f.here;
-        write_coded(image, e, b, here, code)
+        write_coded(image, e, h, buffer, here, code)
     } else {
         store(image, e, f.position, given);
-        b
+        h
     }
 }
 
 // An order: the buffer goes back before any but the record skips; a close then writes count and flags.
-pub fn order(image: &mut [u8], i: usize, e: Entry, b: BufferedFile, o: Order) -> BufferedFile
-    ensures file { λ r. ⌜ r ≡ heldAll (scene i e) (effects (Position o) (scene i e)) (bench (now (image .entry)) b) .file ⌝ }
-    ensures image { λ r. ⌜ now (image .exit) ≡ heldAll (scene i e) (effects (Position o) (scene i e)) (bench (now (image .entry)) b) .image ⌝ }
+pub fn order(image: &mut [u8], i: usize, e: Entry, h: Holding, buffer: &[u8], o: Order) -> Holding
+    ensures { λ r. ⌜ lent (now (image .exit)) r (now (buffer .entry)) ≡ heldAll (scene i e) (effects (Position o) (scene i e)) (lent (now (image .entry)) h (now (buffer .entry))) ⌝ }
 {
     match o {
-        Order::RecordForward => b,
-        Order::RecordBack => b,
+        Order::RecordForward => h,
+        Order::RecordBack => h,
         Order::RewindOffline => {
-            let back = put_back(image, e, b);
+            let back = put_back(image, e, h, buffer);
             stamp(image, i, e.count, e.flags);
             back
         }
-        _ => put_back(image, e, b),
+        _ => put_back(image, e, h, buffer),
     }
 }

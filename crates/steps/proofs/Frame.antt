@@ -116,7 +116,7 @@ all-changes [] = record {}
 all-changes (x ∷ xs) = all-changes xs
 
 -- of both cases
-choice : (P : List Effect → Type 0) (b : Bool) {xs ys : List Effect} → P xs → P ys → P (elim b [ true ↦ xs | false ↦ ys ])
+pub choice : (P : List Effect → Type 0) (b : Bool) {xs ys : List Effect} → P xs → P ys → P (elim b [ true ↦ xs | false ↦ ys ])
 choice P true p q = p
 choice P false p q = q
 

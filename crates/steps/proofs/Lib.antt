@@ -3,3 +3,4 @@ pub mod Compressed
 pub mod Inside
 pub mod Frame
 pub mod Coded
+pub mod Buffer

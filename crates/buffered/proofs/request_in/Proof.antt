@@ -90,8 +90,8 @@ enum-told c = search needs
 part-requires : tie.Need-part-requires
 part-requires c κs = search needs
 
-act-requires : tie.Need-act-requires
-act-requires c κs =
+act-on-requires : tie.Need-act-on-requires
+act-on-requires c κs =
     let v = c .before .before .before .before .before .before .before .before .before .before .before in
     let a = start v .args in
     act-told (a .image .now) (a .s) (a .i) (a .q) (a .given .now) (a .buffer .now) (answered v Done (c .before .before .before .before .before .before .enum-told .given .1)) (entries-of (start v)) _ (v .before .before .before .before .before .before .before .entry-of .ensures) _ (state-is v) _ (ap (λ (v : Verdict). v .file .here .sector) (judged v)) (a .code .now) (room (v .before .before .before .before)) _ (v .before .before .before .encode-given .ensures .1) _ (v .before .before .before .encode-given .ensures .0) _ (c .part .ensures)
@@ -127,7 +127,7 @@ returns : tie.Need-returns
 returns c =
     let v = c .before .before .before .before .before .before .before .before .before .before .before .before .before .before .before .before .before in
     let a = start v .args in
-    done-told (a .image .now) (a .s) (a .i) (a .q) (a .given .now) (a .buffer .now) _ (judged v) _ (lent v) _ (slot-is v) _ (state-is v) _ _ (c .with-file .ensures) (c .before .before .before .before .before .before .before .before .before .before .before .before .enum-told .given .1) _ (v .before .before .before .before .before .before .before .entry-of .ensures) _ _ (c .before .before .before .before .before .act .ensures) _ (c .before .before .with-entry .ensures) (c .before .kept .ensures)
+    done-told (a .image .now) (a .s) (a .i) (a .q) (a .given .now) (a .buffer .now) _ (judged v) _ (lent v) _ (slot-is v) _ (state-is v) _ _ (c .with-file .ensures) (c .before .before .before .before .before .before .before .before .before .before .before .before .enum-told .given .1) _ (v .before .before .before .before .before .before .before .entry-of .ensures) _ _ (c .before .before .before .before .before .act-on .ensures) _ (c .before .before .with-entry .ensures) (c .before .kept .ensures)
 
 same-length-3 : tie.Need-same-length-3
 same-length-3 c = search needs
@@ -166,7 +166,7 @@ request-in-spec =
     verdict-with-requires
     enum-told
     part-requires
-    act-requires
+    act-on-requires
     with-entry-requires
     kept-requires
     with-file-requires

@@ -1,15 +1,16 @@
 -- `held::change` meets its contract: a sector that is there is taken, and the bytes laid in the buffer.
-use mathlib.Core.Path.{_≡_, _∙_, sym, refl}
-use mathlib.Core.Bool.{true, false}
+use mathlib.Core.Path.{_≡_, _∙_, ap, sym}
+use mathlib.Core.Bool.{true, false, _&&_}
 use native.Mathlib.Omega.{arith}
+use borrow.Author.Tests.{eqb-true}
 use lib.ListN.{length}
-use Prim.Native.Nat.{_≤_, _-_, ℕ}
-use mathlib.Core.List.{List}
+use Prim.Native.Nat.{_≤_, _-_}
 use Rattle.geometry.specs.Bytes.{padded}
 use Rattle.geometry.specs.Sizes.{sector}
-use Rattle.steps.specs.Effects.{taking, working}
-use Rattle.held.proofs.Cases.{onward, there-below, there-inside, worked, change-there, change-nowhere}
-use Rattle.held.specs.Held.{bench, isThere}
+use Rattle.geometry.proofs.Tests.{and-left, and-right}
+use Rattle.steps.specs.Effects.{Bench}
+use Rattle.held.proofs.Cases.{worked, there-below, there-inside, change-there, change-nowhere}
+use Rattle.held.specs.Held.{lent, isThere, isWhole}
 use borrow.Author.Needs.{needs}
 use Rattle.held.proofs.change.Statement.{statement}
 use Rattle.held.proofs.change.Tie as tie
@@ -19,38 +20,45 @@ is-there-requires c κs = search needs
 
 cast-take : tie.Need-cast-take
 cast-take c =
-    let a = c .before .before .before .before .before .args in
-    let t : isThere (a .e) (a .k) (length (a .image .now)) ≡ true = sym (c .before .before .is-there .ensures) ∙ c .before .if1 .taken in
+    let a = c .before .before .before .before .before .before .before .args in
+    let w : Bench = lent (a .image .now) (a .h) (a .buffer .now) in
+    let t : isWhole w && isThere (a .e) (a .k) (length (a .image .now)) ≡ true = ap (_&&_ (isWhole w)) (sym (c .before .before .before .is-there .ensures)) ∙ c .before .before .if1 .taken in
     let s : a .e .sectors ≤ 65535 = search needs in
-    omega (arith, there-below (a .e) (a .k) (length (a .image .now)) t)
+    omega (arith, there-below (a .e) (a .k) (length (a .image .now)) (and-right (isWhole w) (isThere (a .e) (a .k) (length (a .image .now))) t))
 
 take-requires : tie.Need-take-requires
 take-requires c κs =
-    let a = c .before .before .before .before .before .args in
-    let t : isThere (a .e) (a .k) (length (a .image .now)) ≡ true = sym (c .before .before .is-there .ensures) ∙ c .before .if1 .taken in
-    there-inside (a .e) (a .k) (length (a .image .now)) t
+    let a = c .before .before .before .before .before .before .before .args in
+    let w : Bench = lent (a .image .now) (a .h) (a .buffer .now) in
+    let t : isWhole w && isThere (a .e) (a .k) (length (a .image .now)) ≡ true = ap (_&&_ (isWhole w)) (sym (c .before .before .before .is-there .ensures)) ∙ c .before .before .if1 .taken in
+    (there-inside (a .e) (a .k) (length (a .image .now)) (and-right (isWhole w) (isThere (a .e) (a .k) (length (a .image .now))) t), eqb-true (length (a .buffer .now)) sector (and-left (isWhole w) (isThere (a .e) (a .k) (length (a .image .now))) t))
 
-work-requires : tie.Need-work-requires
-work-requires c κs = search needs
+room-behind-requires : tie.Need-room-behind-requires
+room-behind-requires c κs = search needs
+
+lay-padded-requires : tie.Need-lay-padded-requires
+lay-padded-requires c κs = search needs
 
 same-length : tie.Need-same-length
 same-length c = search needs
 
+same-length-2 : tie.Need-same-length-2
+same-length-2 c = search needs
+
 returns : tie.Need-returns
-unfolding working
 returns c =
-    let a = c .before .before .before .before .before .before .before .before .before .args in
-    let t : isThere (a .e) (a .k) (length (a .image .now)) ≡ true = sym (c .before .before .before .before .before .before .is-there .ensures) ∙ c .before .before .before .before .before .if1 .taken in
-    let xs : List ℕ = padded (a .behind) (sector - a .byte) (a .xs .now) in
-    let q = change-there (a .e) (bench (a .image .now) (a .b)) (a .k) t (a .byte) xs in
-    onward (c .work .ensures ∙ worked (a .byte) xs _ (taking (a .e) (a .k) (bench (a .image .now) (a .b))) (c .before .before .before .take .ensures .0), c .before .before .before .take .ensures .1) q
+    let a = c .before .before .before .before .before .before .before .before .before .before .before .before .before .before .before .before .before .args in
+    let w : Bench = lent (a .image .now) (a .h) (a .buffer .now) in
+    let t : isWhole w && isThere (a .e) (a .k) (length (a .image .now)) ≡ true = ap (_&&_ (isWhole w)) (sym (c .before .before .before .before .before .before .before .before .before .before .before .before .before .is-there .ensures)) ∙ c .before .before .before .before .before .before .before .before .before .before .before .before .if1 .taken in
+    worked (a .byte) (a .behind) _ (a .xs .now) (c .before .before .before .before .before .before .before .before .before .take .ensures) (c .before .before .lay-padded .ensures) (c .before .before .before .room-behind .ensures)
+    ∙ change-there (a .e) w (a .k) t (a .byte) (padded (a .behind) (sector - a .byte) (a .xs .now))
 
 returns-2 : tie.Need-returns-2
 returns-2 c =
-    let a = c .before .before .before .before .args in
-    let t : isThere (a .e) (a .k) (length (a .image .now)) ≡ false = sym (c .before .is-there .ensures) ∙ c .if1 .left in
-    let q = change-nowhere (a .e) (bench (a .image .now) (a .b)) (a .k) t (a .byte) (padded (a .behind) (sector - a .byte) (a .xs .now)) in
-    onward (refl, refl) q
+    let a = c .before .before .before .before .before .args in
+    let w : Bench = lent (a .image .now) (a .h) (a .buffer .now) in
+    let t : isWhole w && isThere (a .e) (a .k) (length (a .image .now)) ≡ false = ap (_&&_ (isWhole w)) (sym (c .before .is-there .ensures)) ∙ c .if1 .left in
+    change-nowhere (a .e) w (a .k) t (a .byte) (padded (a .behind) (sector - a .byte) (a .xs .now))
 
 pub change-spec : {M : Type 1} → statement M
 change-spec =
@@ -59,7 +67,9 @@ change-spec =
     is-there-requires
     cast-take
     take-requires
-    work-requires
+    room-behind-requires
+    lay-padded-requires
     same-length
+    same-length-2
     returns
     returns-2)

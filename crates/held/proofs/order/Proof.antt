@@ -1,8 +1,9 @@
 -- `held::order` meets its contract: a record skip, a close, and any other order.
-use mathlib.Core.Path.{_∙_, ap, refl}
-use Rattle.directory.specs.Stamp.{stamped}
-use Rattle.held.proofs.Cases.{onward, skips-forward, skips-back, closes, goes-back}
-use Rattle.held.specs.Held.{bench}
+use mathlib.Core.Path.{_∙_, ap}
+use Rattle.directory.specs.Stamp.{stampBytes}
+use Rattle.steps.specs.Effects.{stamp, Bench}
+use Rattle.held.proofs.Cases.{skips-forward, skips-back, stamps, closes, goes-back}
+use Rattle.held.specs.Held.{lent, scene, heldDo}
 use borrow.Author.Needs.{needs}
 use Rattle.held.proofs.order.Statement.{statement}
 use Rattle.held.proofs.order.Tie as tie
@@ -27,33 +28,34 @@ put-back-requires-2 c κs = search needs
 
 returns : tie.Need-returns
 returns c =
-    let a = c .before .before .before .args in
-    let q = skips-forward (a .i) (a .e) (bench (a .image .now) (a .b)) in
-    rw (c .enum-told .given .1) (onward (refl, refl) q)
+    let a = c .before .before .before .before .args in
+    rw (c .enum-told .given .1) (skips-forward (a .i) (a .e) (lent (a .image .now) (a .h) (a .buffer .now)))
 
 returns-2 : tie.Need-returns-2
 returns-2 c =
-    let a = c .before .before .before .args in
-    let q = skips-back (a .i) (a .e) (bench (a .image .now) (a .b)) in
-    rw (c .enum-told2 .given .1) (onward (refl, refl) q)
+    let a = c .before .before .before .before .args in
+    rw (c .enum-told2 .given .1) (skips-back (a .i) (a .e) (lent (a .image .now) (a .h) (a .buffer .now)))
 
 same-length : tie.Need-same-length
 same-length c = search needs
 
 returns-3 : tie.Need-returns-3
 returns-3 c =
-    let a = c .before .before .before .before .before .before .before .before .before .before .before .args in
-    let q = closes (a .i) (a .e) (bench (a .image .now) (a .b)) in
-    rw (c .before .before .before .before .before .before .before .before .enum-told3 .given .1) (onward (c .before .before .before .before .before .before .put-back .ensures .0, c .before .before .stamp .ensures ∙ ap (λ v. stamped v (a .i) (a .e .count) (a .e .flags)) (c .before .before .before .before .before .before .put-back .ensures .1)) q)
+    let a = c .before .before .before .before .before .before .before .before .before .before .before .before .args in
+    let w : Bench = lent (a .image .now) (a .h) (a .buffer .now) in
+    rw (c .before .before .before .before .before .before .before .before .enum-told3 .given .1)
+    (ap (λ image. lent image (c .before .before .before .before .before .before .put-back .result) (a .buffer .now)) (c .before .before .stamp .ensures)
+    ∙ stamps (a .i) (a .e) (lent _ (c .before .before .before .before .before .before .put-back .result) (a .buffer .now))
+    ∙ ap (heldDo (scene (a .i) (a .e)) (stamp (stampBytes (a .e .count) (a .e .flags)))) (c .before .before .before .before .before .before .put-back .ensures)
+    ∙ closes (a .i) (a .e) w)
 
 same-length-2 : tie.Need-same-length-2
 same-length-2 c = search needs
 
 returns-4 : tie.Need-returns-4
 returns-4 c =
-    let a = c .before .before .before .before .before .before .args in
-    let q = goes-back (a .i) (a .e) (bench (a .image .now) (a .b)) (a .o) (c .before .before .before .before .match .keys4) in
-    onward (c .before .before .put-back2 .ensures) q
+    let a = c .before .before .before .before .before .before .before .args in
+    c .before .before .put-back2 .ensures ∙ goes-back (a .i) (a .e) (lent (a .image .now) (a .h) (a .buffer .now)) (a .o) (c .before .before .before .before .match .keys4)
 
 pub order-spec : {M : Type 1} → statement M
 order-spec =

@@ -1,8 +1,8 @@
 -- `held::read` meets its contract: one way for each case of `readWith`.
-use mathlib.Core.Path.{_∙_, ap, refl}
+use mathlib.Core.Path.{_∙_, ap}
 use Rattle.steps.specs.Effects.{hold, Bench}
-use Rattle.held.proofs.Cases.{onward, bench-is, read-blocked, read-both, read-one, read-none}
-use Rattle.held.specs.Held.{bench, scene, heldDo}
+use Rattle.held.proofs.Cases.{read-blocked, read-both, read-one, read-none}
+use Rattle.held.specs.Held.{lent, scene, heldDo}
 use borrow.Author.Needs.{needs}
 use Rattle.held.proofs.read.Statement.{statement}
 use Rattle.held.proofs.read.Tie as tie
@@ -31,39 +31,44 @@ hold-requires-4 c κs = search needs
 same-length : tie.Need-same-length
 same-length c = search needs
 
-returns : tie.Need-returns
-returns c =
-    let a = c .before .before .before .before .before .before .before .before .args in
-    let w : Bench = bench (a .image .now) (a .b) in
-    let q = ap (λ k. heldDo (scene 0 (a .e)) (hold k) w) (c .before .before .before .before .sector-of-record .ensures) ∙ read-blocked (a .e) (a .f) (a .goes) (a .start) w (c .before .before .before .before .before .if1 .taken) in
-    onward (c .before .before .hold .ensures) q
-
 same-length-2 : tie.Need-same-length-2
 same-length-2 c = search needs
 
-returns-2 : tie.Need-returns-2
-returns-2 c =
-    let a = c .before .before .before .before .before .before .before .before .before .before .before .before .before .before .before .before .before .args in
-    let w : Bench = bench (a .image .now) (a .b) in
-    let v : Bench = heldDo (scene 0 (a .e)) (hold (a .f .here .sector)) w in
-    let q = ap (heldDo (scene 0 (a .e)) (hold (a .start))) (bench-is _ _ v (c .before .before .before .before .before .before .hold2 .ensures .0) (c .before .before .before .before .before .before .hold2 .ensures .1)) ∙ read-both (a .e) (a .f) (a .goes) (a .start) w (c .before .before .before .before .before .before .before .before .before .before .before .before .before .before .if1 .left) (c .before .before .before .before .before .before .before .before .before .before .before .before .if2 .taken) (c .before .before .before .before .before .before .before .before .before .if3 .taken) in
-    onward (c .before .before .hold3 .ensures) q
+returns : tie.Need-returns
+returns c =
+    let a = c .before .before .before .before .before .before .before .before .before .before .before .before .args in
+    let w : Bench = lent (a .image .now) (a .h) (a .buffer .now) in
+    c .before .before .before .before .hold .ensures ∙ ap (λ k. heldDo (scene 0 (a .e)) (hold k) w) (c .before .before .before .before .before .before .before .sector-of-record .ensures) ∙ read-blocked (a .e) (a .f) (a .goes) (a .start) w (c .before .before .before .before .before .before .before .before .if1 .taken)
 
 same-length-3 : tie.Need-same-length-3
 same-length-3 c = search needs
 
+same-length-4 : tie.Need-same-length-4
+same-length-4 c = search needs
+
+returns-2 : tie.Need-returns-2
+returns-2 c =
+    let a = c .before .before .before .before .before .before .before .before .before .before .before .before .before .before .before .before .before .before .before .before .before .before .before .before .args in
+    let w : Bench = lent (a .image .now) (a .h) (a .buffer .now) in
+    c .before .before .before .before .hold3 .ensures ∙ ap (heldDo (scene 0 (a .e)) (hold (a .start))) (c .before .before .before .before .before .before .before .before .before .before .before .hold2 .ensures) ∙ read-both (a .e) (a .f) (a .goes) (a .start) w (c .before .before .before .before .before .before .before .before .before .before .before .before .before .before .before .before .before .before .before .before .if1 .left) (c .before .before .before .before .before .before .before .before .before .before .before .before .before .before .before .before .before .before .if2 .taken) (c .before .before .before .before .before .before .before .before .before .before .before .before .before .before .before .if3 .taken)
+
+same-length-5 : tie.Need-same-length-5
+same-length-5 c = search needs
+
+same-length-6 : tie.Need-same-length-6
+same-length-6 c = search needs
+
 returns-3 : tie.Need-returns-3
 returns-3 c =
-    let a = c .before .before .before .before .before .before .before .before .before .before .before .before .args in
-    let w : Bench = bench (a .image .now) (a .b) in
-    let q = read-one (a .e) (a .f) (a .goes) (a .start) w (c .before .before .before .before .before .before .before .before .before .if1 .left) (c .before .before .before .before .before .before .before .if2 .taken) (c .before .before .before .before .if3 .left) in
-    onward (c .before .before .hold4 .ensures) q
+    let a = c .before .before .before .before .before .before .before .before .before .before .before .before .before .before .before .before .args in
+    let w : Bench = lent (a .image .now) (a .h) (a .buffer .now) in
+    c .before .before .before .before .hold4 .ensures ∙ read-one (a .e) (a .f) (a .goes) (a .start) w (c .before .before .before .before .before .before .before .before .before .before .before .before .if1 .left) (c .before .before .before .before .before .before .before .before .before .before .if2 .taken) (c .before .before .before .before .before .before .before .if3 .left)
 
 returns-4 : tie.Need-returns-4
 returns-4 c =
-    let a = c .before .before .before .before .before .args in
-    let q = read-none (a .e) (a .f) (a .goes) (a .start) (bench (a .image .now) (a .b)) (c .before .before .if1 .left) (c .if2 .left) in
-    onward (refl, refl) q
+    let a = c .before .before .before .before .before .before .args in
+    let w : Bench = lent (a .image .now) (a .h) (a .buffer .now) in
+    read-none (a .e) (a .f) (a .goes) (a .start) w (c .before .before .if1 .left) (c .if2 .left)
 
 pub read-spec : {M : Type 1} → statement M
 read-spec =
@@ -77,9 +82,12 @@ read-spec =
     hold-requires-3
     hold-requires-4
     same-length
-    returns
     same-length-2
-    returns-2
+    returns
     same-length-3
+    same-length-4
+    returns-2
+    same-length-5
+    same-length-6
     returns-3
     returns-4)

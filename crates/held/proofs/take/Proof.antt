@@ -1,8 +1,9 @@
 -- `held::take` meets its contract: a held sector stays; else the buffer goes back and the sector comes.
-use mathlib.Core.Path.{_∙_, ap, refl}
-use Rattle.steps.specs.Effects.{Bench, puttingBack, loaded}
-use Rattle.held.proofs.Cases.{onward, bench-is, take-held, take-other}
-use Rattle.held.specs.Held.{bench}
+use mathlib.Core.Path.{_∙_, ap}
+use mathlib.Core.Bool.{true, false}
+use Rattle.steps.specs.Effects.{loaded}
+use Rattle.held.proofs.Cases.{put-whole, take-held, take-other}
+use Rattle.held.specs.Held.{lent}
 use borrow.Author.Needs.{needs}
 use Rattle.held.proofs.take.Statement.{statement}
 use Rattle.held.proofs.take.Tie as tie
@@ -15,20 +16,25 @@ load-requires c κs = search needs
 
 returns : tie.Need-returns
 returns c =
-    let a = c .before .before .before .before .args in
-    let q = take-held (a .e) (bench (a .image .now) (a .b)) (a .k) (c .if1 .taken) in
-    onward (refl, refl) q
+    let a = c .before .before .before .before .before .args in
+    take-held (a .e) (lent (a .image .now) (a .h) (a .buffer .now)) (a .k) (c .if1 .taken)
 
 same-length : tie.Need-same-length
 same-length c = search needs
 
+same-length-2 : tie.Need-same-length-2
+same-length-2 c = search needs
+
 returns-2 : tie.Need-returns-2
 unfolding loaded
 returns-2 c =
-    let a = c .before .before .before .before .before .before .before .before .before .before .args in
-    let w : Bench = puttingBack (a .e) (bench (a .image .now) (a .b)) in
-    let q = take-other (a .e) (bench (a .image .now) (a .b)) (a .k) (c .before .before .before .before .before .before .if1 .left) in
-    onward (c .load .ensures ∙ ap (λ v. loaded (a .e) (a .k) v .file) (bench-is _ _ w (c .before .before .before .before .put-back .ensures .0) (c .before .before .before .before .put-back .ensures .1)), c .before .before .before .before .put-back .ensures .1) q
+    let a = c .before .before .before .before .before .before .before .before .before .before .before .before .before .before .before .args in
+    let w = lent (a .image .now) (a .h) (a .buffer .now) in
+    ap (lent _ (record { holds = true; held = a .k; changed = false })) (c .before .before .load .ensures)
+    ∙ ap (loaded (a .e) (a .k)) (c .before .before .before .before .before .before .before .put-back .ensures ∙ put-whole (a .e) w (c .before .before .before .before .before .before .before .before .before .before .before .before .before .before .before .pre .1))
+    ∙ take-other (a .e) w (a .k) (c .before .before .before .before .before .before .before .before .before .before .if1 .left)
 
 pub take-spec : {M : Type 1} → statement M
-take-spec = tie.close (tie.spec put-back-requires load-requires returns same-length returns-2)
+take-spec =
+    tie.close
+    (tie.spec put-back-requires load-requires returns same-length same-length-2 returns-2)

@@ -1,6 +1,7 @@
 -- `held::write_blocked` meets its contract: the record goes where geometry says that it lies.
-use Rattle.held.proofs.Cases.{onward, blocked-at}
-use Rattle.held.specs.Held.{bench}
+use mathlib.Core.Path.{_∙_}
+use Rattle.held.proofs.Cases.{blocked-at}
+use Rattle.held.specs.Held.{lent}
 use borrow.Author.Needs.{needs}
 use Rattle.held.proofs.write_blocked.Statement.{statement}
 use Rattle.held.proofs.write_blocked.Tie as tie
@@ -17,11 +18,13 @@ change-requires c κs = search needs
 same-length : tie.Need-same-length
 same-length c = search needs
 
+same-length-2 : tie.Need-same-length-2
+same-length-2 c = search needs
+
 returns : tie.Need-returns
 returns c =
-    let a = c .before .before .before .before .before .before .before .before .args in
-    let q = blocked-at (a .e) (a .f) (a .given .now) _ _ (bench (a .image .now) (a .b)) (c .before .before .before .before .before .sector-of-record .ensures) (c .before .before .before .before .byte-of-record .ensures) in
-    onward (c .before .before .change .ensures) q
+    let a = c .before .before .before .before .before .before .before .before .before .before .before .before .args in
+    c .before .before .before .before .change .ensures ∙ blocked-at (a .e) (a .f) (a .given .now) _ _ (lent (a .image .now) (a .h) (a .buffer .now)) (c .before .before .before .before .before .before .before .before .sector-of-record .ensures) (c .before .before .before .before .before .before .before .byte-of-record .ensures)
 
 pub write-blocked-spec : {M : Type 1} → statement M
 write-blocked-spec =
@@ -31,4 +34,5 @@ write-blocked-spec =
     byte-of-record-requires
     change-requires
     same-length
+    same-length-2
     returns)

@@ -1,12 +1,11 @@
 -- `held::write_coded` meets its contract: one way for each case of `changes`.
 use mathlib.Core.Path.{_∙_, ap, sym}
-use mathlib.Core.List.{[]}
 use Prim.Native.Nat.{_+_, _-_}
 use Rattle.geometry.specs.Bytes.{padded}
 use Rattle.geometry.specs.Sizes.{sector}
 use Rattle.steps.specs.Effects.{change, Bench}
-use Rattle.held.proofs.Cases.{onward, bench-is, coded-here, coded-further, coded-both}
-use Rattle.held.specs.Held.{bench, scene, heldDo}
+use Rattle.held.proofs.Cases.{coded-here, coded-further, coded-both}
+use Rattle.held.specs.Held.{lent, scene, heldDo}
 use borrow.Author.Needs.{needs}
 use Rattle.held.proofs.write_coded.Statement.{statement}
 use Rattle.held.proofs.write_coded.Tie as tie
@@ -44,31 +43,40 @@ change-requires-4 c κs = search needs
 same-length : tie.Need-same-length
 same-length c = search needs
 
-returns : tie.Need-returns
-returns c =
-    let a = c .before .before .before .before .before .before .before .before .before .before .args in
-    let q = coded-here (a .e) (a .p) (a .code .now) (bench (a .image .now) (a .b)) (sym (c .before .before .before .before .before .fits-here .ensures) ∙ c .before .before .before .before .if1 .taken) in
-    onward (c .before .before .change .ensures) q
-
 same-length-2 : tie.Need-same-length-2
 same-length-2 c = search needs
 
-returns-2 : tie.Need-returns-2
-returns-2 c =
-    let a = c .before .before .before .before .before .before .before .before .before .before .before .args in
-    let q = coded-further (a .e) (a .p) (a .code .now) (bench (a .image .now) (a .b)) (sym (c .before .before .before .before .before .before .fits-here .ensures) ∙ c .before .before .before .before .before .if1 .left) (c .before .before .before .before .if2 .taken) in
-    onward (c .before .before .change2 .ensures) q
+returns : tie.Need-returns
+returns c =
+    let a = c .before .before .before .before .before .before .before .before .before .before .before .before .before .before .args in
+    let w : Bench = lent (a .image .now) (a .h) (a .buffer .now) in
+    c .before .before .before .before .change .ensures ∙ coded-here (a .e) (a .p) (a .code .now) w (sym (c .before .before .before .before .before .before .before .before .fits-here .ensures) ∙ c .before .before .before .before .before .before .before .if1 .taken)
 
 same-length-3 : tie.Need-same-length-3
 same-length-3 c = search needs
 
+same-length-4 : tie.Need-same-length-4
+same-length-4 c = search needs
+
+returns-2 : tie.Need-returns-2
+returns-2 c =
+    let a = c .before .before .before .before .before .before .before .before .before .before .before .before .before .before .before .args in
+    let w : Bench = lent (a .image .now) (a .h) (a .buffer .now) in
+    c .before .before .before .before .change2 .ensures ∙ coded-further (a .e) (a .p) (a .code .now) w (sym (c .before .before .before .before .before .before .before .before .before .fits-here .ensures) ∙ c .before .before .before .before .before .before .before .before .if1 .left) (c .before .before .before .before .before .before .before .if2 .taken)
+
+same-length-5 : tie.Need-same-length-5
+same-length-5 c = search needs
+
+same-length-6 : tie.Need-same-length-6
+same-length-6 c = search needs
+
 returns-3 : tie.Need-returns-3
 returns-3 c =
-    let a = c .before .before .before .before .before .before .before .before .before .before .before .before .before .before .before .before .args in
-    let w : Bench = bench (a .image .now) (a .b) in
-    let v : Bench = heldDo (scene 0 (a .e)) (change (record { place = record { sector = a .p .sector; byte = a .p .byte }; bytes = padded 128 (sector - a .p .byte) [] })) w in
-    let q = ap (heldDo (scene 0 (a .e)) (change (record { place = record { sector = a .p .sector + 1; byte = 0 }; bytes = padded 128 (sector - 0) (a .code .now) }))) (bench-is _ _ v (c .before .before .before .before .before .before .change3 .ensures .0) (c .before .before .before .before .before .before .change3 .ensures .1)) ∙ coded-both (a .e) (a .p) (a .code .now) w (sym (c .before .before .before .before .before .before .before .before .before .before .before .fits-here .ensures) ∙ c .before .before .before .before .before .before .before .before .before .before .if1 .left) (c .before .before .before .before .before .before .before .before .before .if2 .left) in
-    onward (c .before .before .change4 .ensures) q
+    let a = c .before .before .before .before .before .before .before .before .before .before .before .before .before .before .before .before .before .before .before .before .before .before .before .args in
+    let w : Bench = lent (a .image .now) (a .h) (a .buffer .now) in
+    c .before .before .before .before .change4 .ensures
+    ∙ ap (heldDo (scene 0 (a .e)) (change (record { place = record { sector = a .p .sector + 1; byte = 0 }; bytes = padded 128 (sector - 0) (a .code .now) }))) (c .before .before .before .before .before .before .before .before .before .before .before .change3 .ensures)
+    ∙ coded-both (a .e) (a .p) (a .code .now) w (sym (c .before .before .before .before .before .before .before .before .before .before .before .before .before .before .before .before .before .fits-here .ensures) ∙ c .before .before .before .before .before .before .before .before .before .before .before .before .before .before .before .before .if1 .left) (c .before .before .before .before .before .before .before .before .before .before .before .before .before .before .before .if2 .left)
 
 pub write-coded-spec : {M : Type 1} → statement M
 write-coded-spec =
@@ -85,8 +93,11 @@ write-coded-spec =
     add-change-2
     change-requires-4
     same-length
-    returns
     same-length-2
-    returns-2
+    returns
     same-length-3
+    same-length-4
+    returns-2
+    same-length-5
+    same-length-6
     returns-3)
