@@ -6,10 +6,10 @@ use geometry::lay;
 use geometry::put;
 ghost use mathlib.Core.Path.{_≡_};
 ghost use mathlib.Core.List.{_∷_};
-ghost use Prim.Native.Nat.{_+_, _≤_, _<_, _^_};
+ghost use Prim.Native.Nat.{_+_, _-_, _≤_, _<_, _^_};
 ghost use lib.ListN.{length, drop, getD};
-ghost use lib.Seq.{sets};
-ghost use Rattle.coding.specs.Decode.{decodeFrom, run, answer, given};
+ghost use lib.Seq.{sets, paste};
+ghost use Rattle.coding.specs.Decode.{decodeFrom, run, answer, given, Awaited, filled};
 ghost use Rattle.coding.specs.Decode as Decode;
 ghost use Rattle.coding.specs.Encode.{inGap, runCode, runsCode};
 ghost use Rattle.coding.specs.Encode as Encode;
@@ -20,51 +20,43 @@ pub enum Coded {
     Bad(usize),
 }
 
-// A run of n characters, which s begins with, with its control byte at offset at; then it gives over to runs of blanks.
-// A good record is then in out; what a bad code leaves there is open.
-fn characters(s: &[u8], n: usize, at: usize, out: &mut [u8]) -> Coded
-    requires { ⌜ at + 1 + length (now s) < 2 ^ 64 ⌝ }
-    ensures { λ r. ⌜ (r ≡ answer (run n (length (now (out .entry))) at (now (s .entry))))
-        × (now (out .exit) ≡ given (run n (length (now (out .entry))) at (now (s .entry))) (now (out .exit))) ⌝ }
+// Copies the n characters of s from the place at on over those of out from the place to on.
+fn copy(s: &[u8], at: usize, n: usize, out: &mut [u8], to: usize)
+    requires { ⌜ (at + n ≤ length (now s)) × (to + n ≤ length (now out)) ⌝ }
+    ensures { λ _. ⌜ now (out .exit) ≡ paste (now (out .entry)) to (drop at (now (s .entry))) n ⌝ }
 {
-    if s.len() < n {
-        return Coded::Bad(at);
+    let mut k = 0;
+    while k < n {
+        out[to + k] = s[at + k];
+        k += 1;
     }
-    if out.len() < n {
-        return Coded::Bad(at);
-    }
-    lay(out, 0, &s[..n]);
-    blanks(&s[n..], at + 1 + n, &mut out[n..])
 }
 
-// Runs of blanks, up to the record's end or to a run of characters, which it gives over to; s begins with a control byte, at offset at.
-// A good record is then in out; what a bad code leaves there is open.
-fn blanks(s: &[u8], at: usize, out: &mut [u8]) -> Coded
-    requires { ⌜ at + length (now s) < 2 ^ 64 ⌝ }
-    ensures { λ r. ⌜ (r ≡ answer (decodeFrom 0 (length (now (out .entry))) at (now (s .entry))))
-        × (now (out .exit) ≡ given (decodeFrom 0 (length (now (out .entry))) at (now (s .entry))) (now (out .exit))) ⌝ }
+// A run of n characters, with its control byte at offset at, into out from the place to on; then it gives over to runs of blanks.
+fn characters(s: &[u8], at: usize, n: usize, out: &mut [u8], to: usize)
+    requires { ⌜ (at < length (now s)) × Awaited (run n (length (now out) - to) at (drop (at + 1) (now s))) (now out) to ⌝ }
+    ensures { λ _. ⌜ now (out .exit) ≡ filled (run n (length (now (out .entry)) - to) at (drop (at + 1) (now (s .entry)))) (now (out .entry)) to ⌝ }
 {
-    if s.len() == 0 {
-        return Coded::Bad(at);
+    copy(s, at + 1, n, out, to);
+    blanks(s, at + 1 + n, out, to + n);
+}
+
+// Runs of blanks, which out has already, up to the record's end or to a run of characters, which it gives over to. The first control byte is
+// at offset at, and what it gives goes into out from the place to on.
+fn blanks(s: &[u8], at: usize, out: &mut [u8], to: usize)
+    requires { ⌜ Awaited (decodeFrom 0 (length (now out) - to) at (drop at (now s))) (now out) to ⌝ }
+    ensures { λ _. ⌜ now (out .exit) ≡ filled (decodeFrom 0 (length (now (out .entry)) - to) at (drop at (now (s .entry)))) (now (out .entry)) to ⌝ }
+{
+    let mut i = at;
+    let mut j = to;
+    while 128 < s[i] {
+        j += (s[i] as usize) - 128;
+        i += 1;
     }
-    let c = s[0] as usize;
-    if c == 0 {
-        let r = out.len();
-        fill(out, 0, r, Geometry::BLANK);
-        return Coded::Good(at + 1);
+    let n = s[i] as usize;
+    if n != 0 {
+        characters(s, i, n, out, j);
     }
-    if c < 128 {
-        return characters(&s[1..], c, at, out);
-    }
-    if c == 128 {
-        return Coded::Bad(at);
-    }
-    let m = c - 128;
-    if out.len() < m {
-        return Coded::Bad(at);
-    }
-    fill(out, 0, m, Geometry::BLANK);
-    blanks(&s[1..], at + 1, &mut out[m..])
 }
 
 // What decoding the record of that length that s begins with answers. No character is moved.
@@ -97,7 +89,11 @@ pub fn decode(s: &[u8], out: &mut [u8]) -> Coded
 {
     let r = out.len();
     match measure(s, r) {
-        Coded::Good(_) => blanks(s, 0, out),
+        Coded::Good(e) => {
+            fill(out, 0, r, Geometry::BLANK);
+            blanks(s, 0, out, 0);
+            Coded::Good(e)
+        }
         Coded::Bad(k) => Coded::Bad(k),
     }
 }
