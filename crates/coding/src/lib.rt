@@ -70,14 +70,19 @@ pub fn measure(s: &[u8], length: usize) -> Coded
         if c == 0 {
             return Coded::Good(at + 1);
         }
-        // It gives n characters, k of which stand behind it.
-        let n = c % 128;
-        let k = if c < 128 { n } else { 0 };
-        if (n == 0) | (room < n) | (s.len() - at <= k) {
-            return Coded::Bad(at);
+        if c < 128 {
+            if (room < c) | (s.len() - at <= c) {
+                return Coded::Bad(at);
+            }
+            room -= c;
+            at += 1 + c;
+        } else {
+            if (c == 128) | (room < c - 128) {
+                return Coded::Bad(at);
+            }
+            room -= c - 128;
+            at += 1;
         }
-        room -= n;
-        at += 1 + k;
     }
     Coded::Bad(at)
 }
