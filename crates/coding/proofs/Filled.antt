@@ -1,14 +1,14 @@
 -- What the two decoding functions leave: blanks are there already, characters are copied, and the rest of the code is read behind them.
-use mathlib.Core.Path.{_≡_, refl, sym, ap, ap₂, _∙_}
+use mathlib.Core.Path.{_≡_, refl, sym, ap, _∙_}
 use mathlib.Core.Logic.{_≢_}
-use mathlib.Core.Bool.{true, false, true≢false}
+use mathlib.Core.Bool.{true, true≢false}
 use mathlib.Core.List.{List, [], _++_, append-assoc}
 use Prim.Native.Nat.{ℕ, _+_, _-_, _≤_, _<_}
 use native.Mathlib.Nat.{add-zero, sub-zero}
 use native.Mathlib.Omega.{arith}
 use native.Mathlib.Decide.{decLt}
 use lib.ListN.{length, take, drop, getD, replicate, length-drop, length-replicate, take-append-drop, replicate-append-replicate}
-use lib.Seq.{take-at, drop-at, take-add, drop-drop, getD-drop, length-take-le, paste, length-paste, take-paste, drop-paste}
+use lib.Seq.{take-at, drop-at, take-add, drop-drop, getD-drop, paste, length-paste, take-paste, drop-paste}
 use Rattle.geometry.specs.Sizes.{blank}
 use Rattle.geometry.specs.Bytes.{lay}
 use Rattle.geometry.proofs.Bytes.{length-lay}
@@ -79,7 +79,7 @@ one-run f g xs out new to n is fits long front behind w =
     sym (drop-drop n to out) ∙ ap (drop n) (blanks-split out to n fits (w .empty)) ∙ drop-at (replicate n blank) _ n (length-replicate n blank) in (
       record { sound = b .0; fits = omega arith; empty = behind ∙ left ∙ ap (λ k. replicate (k - (to + n)) blank) (sym long) },
       ap (λ (d : Decoded). take to out ++ given d []) is ∙ ap (λ (l : List ℕ). take to out ++ l) (b .1) ∙ sym (append-assoc (take to out) xs (given g []))
-      ∙ ap (λ (l : List ℕ). l ++ given g []) (sym front),
+          ∙ ap (λ (l : List ℕ). l ++ given g []) (sym front),
     )
 
 -- ---- at the control byte at offset `at` of s, with room in out from `to` on

@@ -80,17 +80,16 @@ module _ (s : List ℕ) (room at : ℕ) (h : at < length s) where
 
   -- a run of blanks, or 128
   module _ (most : 128 ≤ c) where
-    pub most-refused : eqb c 128 || ltb room (c - 128) ≡ true → Answer s room at ≡ Bad at
-    most-refused t = answer-bad _ at (or-either (eqb c 128) (ltb room (c - 128)) t
-        (λ u. at-goOn room at (drop at s) some (first ∙ eqb-true c 128 u))
+    pub most-refused : eqb (c - 128) 0 || ltb room (c - 128) ≡ true → Answer s room at ≡ Bad at
+    most-refused t = answer-bad _ at (or-either (eqb (c - 128) 0) (ltb room (c - 128)) t
+        (λ u. let z = eqb-true (c - 128) 0 u in at-goOn room at (drop at s) some (rw first (omega arith)))
         (λ u. let f = ltb-true room (c - 128) u in at-full room at (drop at s) some (rw first (omega arith)) (rw first f)))
 
-    module _ (t : eqb c 128 || ltb room (c - 128) ≡ false) where
-      pub most-fit : (c ≢ 128) × (c - 128 ≤ room)
-      most-fit = let n = neither (eqb c 128) (ltb room (c - 128)) t in (eqb-false c 128 (n .0), ltb-false room (c - 128) (n .1))
+    module _ (t : eqb (c - 128) 0 || ltb room (c - 128) ≡ false) where
+      pub most-fit : (128 < c) × (c - 128 ≤ room)
+      most-fit = let n = neither (eqb (c - 128) 0) (ltb room (c - 128)) t in let z = eqb-false (c - 128) 0 (n .0) in (omega arith, ltb-false room (c - 128) (n .1))
 
       pub most-taken : Answer s room at ≡ Answer s (room - (c - 128)) (at + 1)
       most-taken =
           let f = most-fit in
-          let apart = f .0 in
-          ap answer (rw first at (at-blanks room at (drop at s) some (rw first (omega arith)) (rw first (f .1)))) ∙ answer-before _ _ ∙ rw drop-drop
+          ap answer (rw first at (at-blanks room at (drop at s) some (rw first (f .0)) (rw first (f .1)))) ∙ answer-before _ _ ∙ rw drop-drop

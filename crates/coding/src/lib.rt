@@ -5,13 +5,14 @@ use geometry::fill;
 use geometry::lay;
 use geometry::put;
 ghost use mathlib.Core.Path.{_≡_};
+ghost use mathlib.Core.Bool.{not, Bool·beq};
 ghost use mathlib.Core.List.{_∷_};
-ghost use Prim.Native.Nat.{_+_, _-_, _≤_, _<_, _^_};
+ghost use Prim.Native.Nat.{_+_, _-_, _≤_, _<_, _^_, min};
 ghost use lib.ListN.{length, drop, getD};
 ghost use lib.Seq.{sets, paste};
 ghost use Rattle.coding.specs.Decode.{decodeFrom, run, answer, given, Awaited, filled};
 ghost use Rattle.coding.specs.Decode as Decode;
-ghost use Rattle.coding.specs.Encode.{inGap, runCode, runsCode};
+ghost use Rattle.coding.specs.Encode.{gapAt, runCode, runsCode};
 ghost use Rattle.coding.specs.Encode as Encode;
 
 // What decoding one record gives: the number of bytes of its code, or the offset of the control byte that cannot be obeyed.
@@ -77,10 +78,11 @@ pub fn measure(s: &[u8], length: usize) -> Coded
             room -= c;
             at += 1 + c;
         } else {
-            if (c == 128) | (room < c - 128) {
+            let n = c - 128;
+            if (n == 0) | (room < n) {
                 return Coded::Bad(at);
             }
-            room -= c - 128;
+            room -= n;
             at += 1;
         }
     }
@@ -113,10 +115,36 @@ fn before(x: &[u8], j: usize) -> u8
 // Whether the character at the place j of x goes into a blank run: a blank with a blank beside it.
 fn in_gap(x: &[u8], j: usize) -> bool
     requires { ⌜ j < length (now x) ⌝ }
-    ensures { λ r. ⌜ r ≡ inGap (getD (0 ∷ now (x .entry)) j 0) (getD (now (x .entry)) j 0) (drop (j + 1) (now (x .entry))) ⌝ }
+    ensures { λ r. ⌜ r ≡ gapAt (now (x .entry)) j ⌝ }
 {
-    (byte_at(x, j) == Geometry::BLANK)
-        & ((before(x, j) == Geometry::BLANK) | (byte_at(x, j + 1) == Geometry::BLANK))
+    if x[j] != Geometry::BLANK {
+        return false;
+    }
+    if byte_at(x, j + 1) == Geometry::BLANK {
+        return true;
+    }
+    before(x, j) == Geometry::BLANK
+}
+
+// Whether the character at the place j of x is of another sort than the one before it, which goes into a blank run as gap says.
+fn other(x: &[u8], j: usize, gap: bool) -> bool
+    requires { ⌜ (0 < j) × (j < length (now x)) × (gap ≡ gapAt (now x) (j - 1)) ⌝ }
+    ensures { λ r. ⌜ r ≡ not (Bool·beq (gapAt (now (x .entry)) j) gap) ⌝ }
+{
+    if x[j] != Geometry::BLANK {
+        return gap;
+    }
+    if gap {
+        return false;
+    }
+    byte_at(x, j + 1) == Geometry::BLANK
+}
+
+// The lesser of two numbers.
+fn least(a: usize, b: usize) -> usize
+    ensures { λ r. ⌜ r ≡ min a b ⌝ }
+{
+    if a <= b { a } else { b }
 }
 
 // Puts xs at the place at of out and behind it, as far as there are such places.
@@ -124,10 +152,9 @@ fn put_all(out: &mut [u8], at: usize, xs: &[u8])
     requires { ⌜ at + length (now xs) < 2 ^ 64 ⌝ }
     ensures { λ _. ⌜ now (out .exit) ≡ sets (now (out .entry)) at (now (xs .entry)) ⌝ }
 {
-    let mut k = 0;
-    while k < xs.len() {
-        put(out, at + k, xs[k]);
-        k += 1;
+    if at < out.len() {
+        let n = least(xs.len(), out.len() - at);
+        copy(xs, 0, n, out, at);
     }
 }
 
@@ -155,15 +182,13 @@ fn put_runs(x: &[u8], out: &mut [u8]) -> usize
     let mut at = 0;
     while i < x.len() {
         let gap = in_gap(x, i);
-        let mut k = 0;
+        let most = least(127, x.len() - i);
+        let mut k = 1;
         let n = 'run: loop {
-            if k == 127 {
+            if k == most {
                 break 'run k;
             }
-            if i + k == x.len() {
-                break 'run k;
-            }
-            if in_gap(x, i + k) != gap {
+            if other(x, i + k, gap) {
                 break 'run k;
             }
             k += 1;

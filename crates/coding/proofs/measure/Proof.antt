@@ -23,8 +23,8 @@ shared-slice-read-c c = omega arith
 cast-c : tie.Need-cast-c Inv-loop μ-loop
 cast-c c = omega (arith, c .shared-slice-known .given (c .before .before .loop .at))
 
-add-t10 : tie.Need-add-t10 Inv-loop μ-loop
-add-t10 c = omega arith
+add-t11 : tie.Need-add-t11 Inv-loop μ-loop
+add-t11 c = omega arith
 
 returns : tie.Need-returns Inv-loop μ-loop
 returns c =
@@ -102,7 +102,7 @@ measure-spec =
     loop-holds
     shared-slice-read-c
     cast-c
-    add-t10
+    add-t11
     returns
     sub-if3
     returns-2
