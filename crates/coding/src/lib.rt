@@ -2,7 +2,6 @@
 use geometry::Geometry;
 use geometry::byte_at;
 use geometry::fill;
-use geometry::lay;
 use geometry::put;
 ghost use mathlib.Core.Path.{_≡_};
 ghost use mathlib.Core.Bool.{not, Bool·beq};
@@ -149,7 +148,6 @@ fn least(a: usize, b: usize) -> usize
 
 // Puts xs at the place at of out and behind it, as far as there are such places.
 fn put_all(out: &mut [u8], at: usize, xs: &[u8])
-    requires { ⌜ at + length (now xs) < 2 ^ 64 ⌝ }
     ensures { λ _. ⌜ now (out .exit) ≡ sets (now (out .entry)) at (now (xs .entry)) ⌝ }
 {
     if at < out.len() {
