@@ -1,6 +1,6 @@
 pub mod Parts
 pub mod Reader
-pub mod Answers
+pub mod Filled
 pub mod Measured
 pub mod Known
 pub mod Runs

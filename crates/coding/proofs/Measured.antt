@@ -1,9 +1,9 @@
 -- The decoder's answer depends on the control bytes alone: it is the answer from the next control byte on, with the room that is left.
 use mathlib.Core.Path.{_≡_, refl, ap, _∙_}
-use mathlib.Core.Logic.{_≢_, _⊎_, inl, inr, ⊎-elim}
+use mathlib.Core.Logic.{_≢_}
 use mathlib.Core.Bool.{Bool, true, false, _||_, true≢false}
 use mathlib.Core.List.{List}
-use Prim.Native.Nat.{ℕ, _+_, _-_, _%_, _≤_, _<_}
+use Prim.Native.Nat.{ℕ, _+_, _-_, _≤_, _<_}
 use native.Mathlib.Nat.{add-zero}
 use native.Mathlib.Omega.{arith}
 use native.Mathlib.Decide.{decLt}
@@ -34,14 +34,6 @@ answer-bad : (f : Decoded) (at : ℕ) → f ≡ bad at → answer f ≡ Bad at
 unfolding answer
 answer-bad f at is = rw is
 
--- the k bytes behind the control byte c are characters that it gives: all n, or none
-abbrev pub Behind : ℕ → ℕ → ℕ → Type 0
-Behind c n k = ((c < 128) × (k ≡ n)) ⊎ ((128 ≤ c) × (k ≡ 0))
-
--- the test of a control byte that is not 0
-abbrev pub refused : ℕ → ℕ → ℕ → ℕ → Bool
-refused room n left k = (eqb n 0 || ltb room n) || leb left k
-
 pub ends : (s : List ℕ) (room at : ℕ) → length s ≤ at → at ≤ length s → Answer s room at ≡ Bad at
 ends s room at h g = answer-bad _ at (at-end room at (drop at s) (rw length-drop (omega arith)))
 
@@ -59,67 +51,45 @@ module _ (s : List ℕ) (room at : ℕ) (h : at < length s) where
   unfolding answer
   stops e = rw (at-stop room at (drop at s) some (first ∙ e))
 
-  module _ (n k : ℕ) (is : n ≡ c % 128) (more : c ≢ 0) (byte : c < 256) where
-    abbrev Refusal : Type 0
-    Refusal = (n ≡ 0) ⊎ ((room < n) ⊎ (length s - at ≤ k))
+  -- a run of characters
+  module _ (more : c ≢ 0) (few : c < 128) where
+    reads : decodeFrom 0 room at (drop at s) ≡ run c room at (drop 1 (drop at s))
+    reads = rw first at (at-characters room at (drop at s) some (rw first more) (rw first few))
 
-    read-refused : refused room n (length s - at) k ≡ true → Refusal
-    read-refused t =
-        or-either (eqb n 0 || ltb room n) (leb (length s - at) k) t
-        (λ u. or-either (eqb n 0) (ltb room n) u (λ v. inl (eqb-true n 0 v)) (λ v. inr (inl (ltb-true room n v))))
-        (λ u. inr (inr (leb-true (length s - at) k u)))
+    left : length (drop 1 (drop at s)) ≡ length s - at - 1
+    left = rw (length-drop, length-drop)
 
-    pub passed : refused room n (length s - at) k ≡ false → (0 < n) × (n ≤ room) × (k < length s - at)
-    passed t =
-        let u = neither (eqb n 0 || ltb room n) (leb (length s - at) k) t in
-        let v = neither (eqb n 0) (ltb room n) (u .0) in
-        let z = eqb-false n 0 (v .0) in
-        (omega arith, ltb-false room n (v .1), leb-false (length s - at) k (u .1))
+    pub few-refused : ltb room c || leb (length s - at) c ≡ true → Answer s room at ≡ Bad at
+    few-refused t = answer-bad _ at (reads ∙ short (decLt (length s - at - 1) c))
+      where
+        short : Dec (length s - at - 1 < c) → run c room at (drop 1 (drop at s)) ≡ bad at
+        short (yes l) = run-short room at c _ (rw left l)
+        short (no l) = run-full room at c _ (rw left (omega arith))
+            (or-either (ltb room c) (leb (length s - at) c) t (λ u. ltb-true room c u) (λ u. absurd (let f = leb-true (length s - at) c u in omega arith)))
 
-    -- all n stand behind it
-    module _ (few : c < 128) (all : k ≡ n) where
-      given : getD (drop at s) 0 0 ≡ n
-      given = rw first (omega arith)
+    module _ (t : ltb room c || leb (length s - at) c ≡ false) where
+      pub few-fit : (c ≤ room) × (c < length s - at)
+      few-fit = let n = neither (ltb room c) (leb (length s - at) c) t in (ltb-false room c (n .0), leb-false (length s - at) c (n .1))
 
-      reads : decodeFrom 0 room at (drop at s) ≡ run n room at (drop 1 (drop at s))
-      reads = rw given at (at-characters room at (drop at s) some (rw first more) (rw first few))
+      pub few-taken : Answer s room at ≡ Answer s (room - c) (at + (1 + c))
+      few-taken =
+          let there : at + (1 + c) ≡ at + 1 + c = omega arith in
+          let f = few-fit in
+          ap answer (reads ∙ run-on room at c _ (rw left (omega arith)) (f .0)) ∙ answer-before _ _
+          ∙ rw (there, drop-drop 1 at s, drop-drop c (at + 1) s)
 
-      left : length (drop 1 (drop at s)) ≡ length s - at - 1
-      left = rw (length-drop, length-drop)
+  -- a run of blanks, or 128
+  module _ (most : 128 ≤ c) where
+    pub most-refused : eqb (c - 128) 0 || ltb room (c - 128) ≡ true → Answer s room at ≡ Bad at
+    most-refused t = answer-bad _ at (or-either (eqb (c - 128) 0) (ltb room (c - 128)) t
+        (λ u. let z = eqb-true (c - 128) 0 u in at-goOn room at (drop at s) some (rw first (omega arith)))
+        (λ u. let f = ltb-true room (c - 128) u in at-full room at (drop at s) some (rw first (omega arith)) (rw first f)))
 
-      few-refuse : Refusal → decodeFrom 0 room at (drop at s) ≡ bad at
-      few-refuse t = reads ∙ short (decLt (length s - at - 1) n)
-        where
-          full : n ≤ length s - at - 1 → Refusal → room < n
-          full l (inl z) = absurd (omega arith)
-          full l (inr (inl f)) = f
-          full l (inr (inr f)) = absurd (omega arith)
+    module _ (t : eqb (c - 128) 0 || ltb room (c - 128) ≡ false) where
+      pub most-fit : (128 < c) × (c - 128 ≤ room)
+      most-fit = let n = neither (eqb (c - 128) 0) (ltb room (c - 128)) t in let z = eqb-false (c - 128) 0 (n .0) in (omega arith, ltb-false room (c - 128) (n .1))
 
-          short : Dec (length s - at - 1 < n) → run n room at (drop 1 (drop at s)) ≡ bad at
-          short (yes l) = run-short room at n _ (rw left l)
-          short (no l) = run-full room at n _ (rw left (omega arith)) (full (omega arith) t)
-
-      few-give : n ≤ room → k < length s - at → Answer s room at ≡ Answer s (room - n) (at + (1 + k))
-      few-give f l =
-          let there : at + (1 + k) ≡ at + 1 + n = omega arith in
-          ap answer (reads ∙ run-on room at n _ (rw left (omega arith)) f) ∙ answer-before _ _
-          ∙ rw (there, drop-drop 1 at s, drop-drop n (at + 1) s)
-
-    -- none does
-    module _ (most : 128 ≤ c) (none : k ≡ 0) where
-      most-refuse : Refusal → decodeFrom 0 room at (drop at s) ≡ bad at
-      most-refuse (inl z) = at-goOn room at (drop at s) some (rw first (omega arith))
-      most-refuse (inr (inl f)) = at-full room at (drop at s) some (rw first (omega arith)) (rw first (omega arith))
-      most-refuse (inr (inr f)) = absurd (omega arith)
-
-      most-give : 0 < n → n ≤ room → Answer s room at ≡ Answer s (room - n) (at + (1 + k))
-      most-give z f =
-          let there : at + (1 + k) ≡ at + 1 = omega arith in
-          let m : getD (drop at s) 0 0 - 128 ≡ n = rw first (omega arith) in
-          ap answer (rw m at (at-blanks room at (drop at s) some (rw first (omega arith)) (rw m f))) ∙ answer-before _ _ ∙ rw (there, drop-drop)
-
-    pub refuses : Behind c n k → refused room n (length s - at) k ≡ true → Answer s room at ≡ Bad at
-    refuses w t = answer-bad _ at (⊎-elim (λ b. few-refuse (b .0) (b .1) (read-refused t)) (λ b. most-refuse (b .0) (b .1) (read-refused t)) w)
-
-    pub gives : Behind c n k → refused room n (length s - at) k ≡ false → Answer s room at ≡ Answer s (room - n) (at + (1 + k))
-    gives w t = let p = passed t in ⊎-elim (λ b. few-give (b .0) (b .1) (p .1) (p .2)) (λ b. most-give (b .0) (b .1) (p .0) (p .1)) w
+      pub most-taken : Answer s room at ≡ Answer s (room - (c - 128)) (at + 1)
+      most-taken =
+          let f = most-fit in
+          ap answer (rw first at (at-blanks room at (drop at s) some (rw first (f .0)) (rw first (f .1)))) ∙ answer-before _ _ ∙ rw drop-drop

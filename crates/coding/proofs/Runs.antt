@@ -8,7 +8,7 @@ use native.Mathlib.Omega.{arith}
 use lib.ListN.{length, take, getD, replicate, replicate-append-replicate, getD-replicate, List·getD-append}
 use lib.Seq.{take-suc, getD-append-add}
 use lib.Dec.{eqb}
-use borrow.Author.Tests.{eqb-true}
+use borrow.Author.Tests.{ne-eqb, eqb-true}
 use Rattle.geometry.specs.Sizes.{blank}
 use Rattle.coding.specs.Encode.{keeps, inGap, runLength}
 
@@ -49,6 +49,28 @@ gap-blank q c s h = go (eqb c blank) refl h
     go : (t : Bool) → eqb c blank ≡ t → t && (eqb q blank || eqb (getD s 0 0) blank) ≡ true → c ≡ blank
     go true e h = eqb-true c blank e
     go false e h = let z : _≡_ {A = ℕ} 0 1 = cc in absurd (omega arith)
+
+-- two blanks beside each other
+pub gap-first : (q c : ℕ) (s : List ℕ) → c ≡ blank → getD s 0 0 ≡ blank → inGap q c s ≡ true
+unfolding inGap
+gap-first q c s e f = rw (e, f) (go (eqb q blank))
+  where
+    go : (t : Bool) → t || true ≡ true
+    go true = refl
+    go false = refl
+
+pub gap-second : (q c : ℕ) (s : List ℕ) → q ≡ blank → c ≡ blank → inGap q c s ≡ true
+unfolding inGap
+gap-second q c s e f = rw (e, f)
+
+pub gap-follows : (q c : ℕ) (s : List ℕ) → inGap q c s ≡ true → (q ≡ blank → ⊥) → getD s 0 0 ≡ blank
+unfolding inGap
+gap-follows q c s h n = go (eqb c blank) (eqb (getD s 0 0) blank) refl (rw (ne-eqb q blank n) at h)
+  where
+    go : (t u : Bool) → eqb (getD s 0 0) blank ≡ u → t && u ≡ true → getD s 0 0 ≡ blank
+    go true true e h = eqb-true (getD s 0 0) blank e
+    go true false e h = let z : _≡_ {A = ℕ} 0 1 = cc in absurd (omega arith)
+    go false u e h = let z : _≡_ {A = ℕ} 0 1 = cc in absurd (omega arith)
 
 pub run-blanks : (n q : ℕ) (s : List ℕ) → take (runLength n true q s) s ≡ replicate (runLength n true q s) blank
 unfolding runLength

@@ -1,7 +1,7 @@
 -- "A coded record has at most R + 3 bytes", and they are bytes. A run of characters costs one byte more than its characters, and so does the 0 at the
 -- end; but a run of characters that is not full has the end or two blanks behind it, which cost one byte. So only full runs cost more.
 use mathlib.Core.Path.{_≡_, refl, sym, _∙_}
-use mathlib.Core.Bool.{Bool, true, false, _&&_, _||_, Bool·beq}
+use mathlib.Core.Bool.{Bool, true, false, Bool·beq}
 use mathlib.Core.List.{List, [], _∷_, _++_}
 use Prim.Native.Nat.{ℕ, zero, suc, _+_, _-_, _/_, _≤_, _<_}
 use native.Mathlib.Numerals.{sub-one}
@@ -9,39 +9,14 @@ use native.Mathlib.Omega.{arith}
 use native.Mathlib.Decide.{decLt}
 use lib.ListN.{length, take, drop, getD, length-append, length-drop}
 use lib.Seq.{length-take-le}
-use lib.Dec.{eqb}
-use borrow.Author.Tests.{ne-eqb, eqb-true}
 use Rattle.geometry.specs.Sizes.{blank}
 use Rattle.coding.specs.Encode.{keeps, inGap, runLength, runCode, runsCode, encode, codeOf}
-use Rattle.coding.proofs.Runs.{run-le, run-own, gap-blank, keeps-le}
+use Rattle.coding.proofs.Runs.{run-le, run-own, gap-blank, gap-first, gap-second, gap-follows, keeps-le}
 use Rattle.coding.proofs.Round.{encode-padded}
 
 -- empty, or begun by two blanks
 Tight : List ℕ → Type 0
 Tight s = 0 < length s → (getD s 0 0 ≡ blank) × (getD s 1 0 ≡ blank)
-
--- ---- two blanks
-
-gap-first : (q c : ℕ) (s : List ℕ) → c ≡ blank → getD s 0 0 ≡ blank → inGap q c s ≡ true
-unfolding inGap
-gap-first q c s e f = rw (e, f) (go (eqb q blank))
-  where
-    go : (t : Bool) → t || true ≡ true
-    go true = refl
-    go false = refl
-
-gap-second : (q c : ℕ) (s : List ℕ) → q ≡ blank → c ≡ blank → inGap q c s ≡ true
-unfolding inGap
-gap-second q c s e f = rw (e, f)
-
-gap-follows : (q c : ℕ) (s : List ℕ) → inGap q c s ≡ true → (q ≡ blank → ⊥) → getD s 0 0 ≡ blank
-unfolding inGap
-gap-follows q c s h n = go (eqb c blank) (eqb (getD s 0 0) blank) refl (rw (ne-eqb q blank n) at h)
-  where
-    go : (t u : Bool) → eqb (getD s 0 0) blank ≡ u → t && u ≡ true → getD s 0 0 ≡ blank
-    go true true e h = eqb-true (getD s 0 0) blank e
-    go true false e h = let z : _≡_ {A = ℕ} 0 1 = cc in absurd (omega arith)
-    go false u e h = let z : _≡_ {A = ℕ} 0 1 = cc in absurd (omega arith)
 
 -- a run of characters that ends before its limit ends the record, or two blanks follow it
 run-ends : (n q c : ℕ) (s : List ℕ) → inGap q c s ≡ false → runLength n false c s < n → Tight (drop (runLength n false c s) s)

@@ -1,30 +1,27 @@
 -- The writer's definition at a place of the record, as the code goes through it: each law is one turn of a loop, or one way out.
 use mathlib.Core.Path.{_≡_, refl, sym, ap, _∙_}
 use mathlib.Core.Logic.{_≢_}
-use mathlib.Core.Bool.{Bool, true, false, not, _&&_, _||_, Bool·beq}
+use mathlib.Core.Bool.{Bool, true, false, not, _||_, Bool·beq, true≢false}
 use mathlib.Core.List.{List, [], _∷_, _++_}
-use Prim.Native.Nat.{ℕ, zero, suc, _+_, _-_, _*_, _≤_, _<_}
+use Prim.Native.Nat.{ℕ, zero, suc, _+_, _-_, _*_, _≤_, _<_, min}
 use native.Mathlib.Nat.{add-zero, add-suc, suc-add}
 use native.Mathlib.Numerals.{add-one, sub-one}
 use native.Mathlib.Omega.{arith}
+use native.Mathlib.Decide.{decLt}
 use lib.ListN.{length, take, drop, getD, set, length-append, length-drop, drop-of-length-le}
 use lib.Seq.{getD-drop, drop-drop, drop-cons, sets, length-take-le}
 use lib.Dec.{eqb}
 use borrow.Author.Tests.{ne-eqb, not-true, not-false}
 use Rattle.geometry.specs.Sizes.{blank}
-use Rattle.coding.specs.Encode.{keeps, inGap, runLength, runCode, runsCode}
+use Rattle.coding.specs.Encode.{keeps, inGap, gapAt, runLength, runCode, runsCode}
 use Rattle.coding.proofs.Parts.{sets-append}
-use Rattle.coding.proofs.Runs.{same-self}
+use Rattle.coding.proofs.Runs.{same-self, same-is, gap-blank, gap-first, gap-second}
 
 -- ---- at the place i of x
 
 -- the character before it
 abbrev pub Before : List ℕ → ℕ → ℕ
 Before x i = getD (0 ∷ x) i 0
-
--- whether its character goes into a blank run
-abbrev pub InGap : List ℕ → ℕ → Bool
-InGap x i = inGap (Before x i) (getD x i 0) (drop (i + 1) x)
 
 -- how many from there on, at most n, are of one sort
 abbrev pub Length : List ℕ → ℕ → Bool → ℕ → ℕ
@@ -40,9 +37,52 @@ pub before-is : (x : List ℕ) (j : ℕ) → j ≢ 0 → Before x j ≡ getD x (
 before-is x zero n = absurd (n refl)
 before-is x (suc j) n = rw sub-one
 
-pub gap-is : (x : List ℕ) (j : ℕ) → eqb (getD x j 0) blank && (eqb (Before x j) blank || eqb (getD x (j + 1) 0) blank) ≡ InGap x j
-unfolding inGap
-gap-is x j = rw (getD-drop, add-zero)
+module _ (x : List ℕ) (j : ℕ) where
+  next : getD (drop (j + 1) x) 0 0 ≡ getD x (j + 1) 0
+  next = rw (getD-drop, add-zero)
+
+  pub gap-none : getD x j 0 ≢ blank → false ≡ gapAt x j
+  unfolding inGap
+  gap-none n = rw (ne-eqb (getD x j 0) blank n)
+
+  pub gap-two : getD x j 0 ≡ blank → getD x (j + 1) 0 ≡ blank → true ≡ gapAt x j
+  gap-two b d = sym (gap-first (Before x j) (getD x j 0) (drop (j + 1) x) b (next ∙ d))
+
+  pub gap-last : getD x j 0 ≡ blank → getD x (j + 1) 0 ≢ blank → eqb (Before x j) blank ≡ gapAt x j
+  unfolding inGap
+  gap-last b n = rw (b, next, ne-eqb (getD x (j + 1) 0) blank n) (go (eqb (Before x j) blank))
+    where
+      go : (t : Bool) → t ≡ t || false
+      go true = refl
+      go false = refl
+
+  -- behind a character whose sort is known
+  module _ (some : 0 < j) (gap : Bool) (is : gap ≡ gapAt x (j - 1)) where
+    before : Before x j ≡ getD x (j - 1) 0
+    before = before-is x j (λ z. omega arith)
+
+    pub other-none : getD x j 0 ≢ blank → gap ≡ not (Bool·beq (gapAt x j) gap)
+    other-none n = rw (← gap-none n) (go gap)
+      where
+        go : (t : Bool) → t ≡ not (Bool·beq false t)
+        go true = refl
+        go false = refl
+
+    pub other-blank : getD x j 0 ≡ blank → gap ≡ true → false ≡ not (Bool·beq (gapAt x j) gap)
+    other-blank b t =
+        let q : Before x j ≡ blank = before ∙ gap-blank (Before x (j - 1)) (getD x (j - 1) 0) (drop (j - 1 + 1) x) (sym is ∙ t) in
+        rw (t, gap-second (Before x j) (getD x j 0) (drop (j + 1) x) q b)
+
+    pub other-two : getD x j 0 ≡ blank → gap ≡ false → eqb (getD x (j + 1) 0) blank ≡ not (Bool·beq (gapAt x j) gap)
+    unfolding inGap
+    other-two b t =
+        let back : j - 1 + 1 ≡ j = omega arith in
+        let apart : Before x j ≢ blank = λ q. true≢false (sym (gap-first (Before x (j - 1)) (getD x (j - 1) 0) (drop (j - 1 + 1) x) (sym before ∙ q) (rw (getD-drop, add-zero, back) b)) ∙ sym is ∙ t) in
+        rw (t, b, next, ne-eqb (Before x j) blank apart) (go (eqb (getD x (j + 1) 0) blank))
+      where
+        go : (t : Bool) → t ≡ not (Bool·beq t false)
+        go true = refl
+        go false = refl
 
 -- ---- trailing blanks
 
@@ -76,25 +116,26 @@ module _ (x : List ℕ) (i : ℕ) where
   rest-end h = rw (drop-of-length-le x h)
 
   module _ (h : i < length x) where
-    more : (n : ℕ) (gap : Bool) → Bool·beq (InGap x i) gap ≡ true → Length x (suc n) gap i ≡ suc (Length x n gap (i + 1))
+    more : (n : ℕ) (gap : Bool) → Bool·beq (gapAt x i) gap ≡ true → Length x (suc n) gap i ≡ suc (Length x n gap (i + 1))
     unfolding runLength
     more n gap e = let e′ : Bool·beq (inGap (Before x i) (getD x i 0) (drop (suc i) x)) gap ≡ true = rw add-one at e in rw (add-one, drop-cons x i 0, e′, runLength)
 
-    other : (n : ℕ) (gap : Bool) → Bool·beq (InGap x i) gap ≡ false → Length x (suc n) gap i ≡ 0
+    other : (n : ℕ) (gap : Bool) → Bool·beq (gapAt x i) gap ≡ false → Length x (suc n) gap i ≡ 0
     unfolding runLength
     other n gap e = let e′ : Bool·beq (inGap (Before x i) (getD x i 0) (drop (suc i) x)) gap ≡ false = rw add-one at e in rw (drop-cons x i 0, e′, runLength)
 
-    own : (n : ℕ) (gap : Bool) → gap ≡ InGap x i → Length x (suc n) gap i ≡ suc (Length x n gap (i + 1))
-    own n gap e = more n gap (rw e (same-self (InGap x i)))
+    own : (n : ℕ) (gap : Bool) → gap ≡ gapAt x i → Length x (suc n) gap i ≡ suc (Length x n gap (i + 1))
+    own n gap e = more n gap (rw e (same-self (gapAt x i)))
 
-    pub run-some : (gap : Bool) → gap ≡ InGap x i → 0 < Length x 127 gap i
-    run-some gap e = rw (own 126 gap e) (omega arith)
+    -- the scan of a run begins behind its first character
+    pub scan-first : (gap : Bool) → gap ≡ gapAt x i → Length x 127 gap i ≡ 1 + Length x (127 - 1) gap (i + 1)
+    scan-first gap e = own 126 gap e ∙ omega arith
 
     rest-skip : (p : ℕ) → runsCode p (getD x i 0) (drop (suc i) x) ≡ Rest x (i + suc p)
     rest-skip p = skip p (getD x i 0) (drop (suc i) x) ∙ rw (← drop-cons x i 0, getD-drop, drop-drop, suc-add, add-suc)
 
     -- a run of n, and the code behind it
-    rest-run : (gap : Bool) (n : ℕ) → gap ≡ InGap x i → Length x 127 gap i ≡ n → Rest x i ≡ runCode gap (take n (drop i x)) ++ Rest x (i + n)
+    rest-run : (gap : Bool) (n : ℕ) → gap ≡ gapAt x i → Length x 127 gap i ≡ n → Rest x i ≡ runCode gap (take n (drop i x)) ++ Rest x (i + n)
     unfolding runsCode
     rest-run gap n eg en =
         let eg′ : inGap (Before x i) (getD x i 0) (drop (suc i) x) ≡ gap = rw add-one at (sym eg) in
@@ -104,26 +145,30 @@ module _ (x : List ℕ) (i : ℕ) where
 
 -- the scan of the run from i on, k characters on: the ways out, and one turn
 module _ (x : List ℕ) (i : ℕ) (gap : Bool) (k : ℕ) (inv : Length x 127 gap i ≡ k + Length x (127 - k) gap (i + k)) where
-  pub scan-full : k ≡ 127 → Length x 127 gap i ≡ k
+  pub scan-full : k ≡ min 127 (length x - i) → Length x 127 gap i ≡ k
   unfolding runLength
-  scan-full e = inv ∙ rw e
+  scan-full e = go (decLt k 127)
+    where
+      go : Dec (k < 127) → Length x 127 gap i ≡ k
+      go (yes h) = let p : length x ≤ i + k = omega arith in inv ∙ rw (past x (i + k) (127 - k) gap p, add-zero)
+      go (no h) = let z : k ≡ 127 = omega arith in inv ∙ rw z
 
-  pub scan-end : i + k ≡ length x → Length x 127 gap i ≡ k
-  scan-end e = let p : length x ≤ i + k = omega arith in inv ∙ rw (past x (i + k) (127 - k) gap p, add-zero)
-
-  module _ (l : k < 127) (h : i + k < length x) (g : Bool) (is : g ≡ InGap x (i + k)) where
+  module _ (l : k < 127) (h : i + k < length x) where
     less : 127 - k ≡ suc (127 - (k + 1))
     less = omega arith
 
-    pub scan-other : not (Bool·beq g gap) ≡ true → Length x 127 gap i ≡ k
-    scan-other t = inv ∙ rw (less, other x (i + k) h (127 - (k + 1)) gap (rw is at (not-true (Bool·beq g gap) t)), add-zero)
+    pub scan-other : not (Bool·beq (gapAt x (i + k)) gap) ≡ true → Length x 127 gap i ≡ k
+    scan-other t = inv ∙ rw (less, other x (i + k) h (127 - (k + 1)) gap (not-true _ t), add-zero)
 
-    pub scan-more : not (Bool·beq g gap) ≡ false → Length x 127 gap i ≡ k + 1 + Length x (127 - (k + 1)) gap (i + (k + 1))
+    pub scan-more : not (Bool·beq (gapAt x (i + k)) gap) ≡ false
+        → (gap ≡ gapAt x (i + (k + 1) - 1)) × (Length x 127 gap i ≡ k + 1 + Length x (127 - (k + 1)) gap (i + (k + 1)))
     scan-more t =
+        let same : Bool·beq (gapAt x (i + k)) gap ≡ true = not-false _ t in
         let a : i + (k + 1) ≡ i + k + 1 = omega arith in
+        let b : i + (k + 1) - 1 ≡ i + k = omega arith in
         let f : k + Length x (127 - k) gap (i + k) ≡ k + 1 + Length x (127 - (k + 1)) gap (i + k + 1) =
-        rw (less, more x (i + k) h (127 - (k + 1)) gap (rw is at (not-false (Bool·beq g gap) t))) (omega arith) in
-        rw a (inv ∙ f)
+        rw (less, more x (i + k) h (127 - (k + 1)) gap same) (omega arith) in
+        (rw b (sym (same-is (gapAt x (i + k)) gap same)), rw a (inv ∙ f))
 
 -- ---- what is put
 
@@ -143,7 +188,7 @@ run-most true xs = omega arith
 run-most false xs = omega arith
 
 -- one turn of the writer: n characters from i on were put from at on, and what is left of the code is what is due behind them
-pub turn : (x out new : List ℕ) (i n : ℕ) (gap : Bool) (at at′ e : ℕ) (f : List ℕ) → i < length x → gap ≡ InGap x i → Length x 127 gap i ≡ n → i + n ≤ length x → 0 < n
+pub turn : (x out new : List ℕ) (i n : ℕ) (gap : Bool) (at at′ e : ℕ) (f : List ℕ) → i < length x → gap ≡ gapAt x i → Length x 127 gap i ≡ n → i + n ≤ length x → 0 < n
     → at′ ≡ at + length (runCode gap (take (i + n - i) (drop i x))) → new ≡ sets out at (runCode gap (take (i + n - i) (drop i x)))
     → at ≤ 2 * i → at + length (Rest x i) ≡ e → sets out at (Rest x i) ≡ f
     → (at′ ≤ 2 * (i + n)) × (at′ + length (Rest x (i + n)) ≡ e) × (sets new at′ (Rest x (i + n)) ≡ f)

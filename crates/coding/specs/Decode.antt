@@ -1,8 +1,9 @@
 -- Document 01, "Compressed records": what one coded record says, read from the bytes up to its sector's end. Definitions only.
-use mathlib.Core.Bool.{true, false, _&&_}
+use mathlib.Core.Path.{_≡_}
+use mathlib.Core.Bool.{Bool, true, false, _&&_}
 use mathlib.Core.List.{List, [], _∷_, _++_}
-use Prim.Native.Nat.{ℕ, zero, suc, _+_, _-_}
-use lib.ListN.{length, take, replicate}
+use Prim.Native.Nat.{ℕ, zero, suc, _+_, _-_, _≤_}
+use lib.ListN.{length, take, drop, replicate}
 use lib.Dec.{eqb, leb, ltb}
 use Rattle.geometry.specs.Sizes.{blank}
 use Rattle.coding.specs.declared.Coded.{Coded}
@@ -67,3 +68,20 @@ answer (bad k) = Bad k
 unfoldable pub given : Decoded → List ℕ → List ℕ
 given (good xs e) old = xs
 given (bad k) old = old
+
+-- ---- the two decoding functions, one for each sort of run
+
+-- whether a code is good
+unfoldable pub isGood : Decoded → Bool
+isGood (good xs e) = true
+isGood (bad k) = false
+
+-- what is read is good, and out has blanks from the place `to` on, where it goes
+pub record Awaited (f : Decoded) (out : List ℕ) (to : ℕ) : Type 0 where
+  pub sound : isGood f ≡ true
+  pub fits : to ≤ length out
+  pub empty : drop to out ≡ replicate (length out - to) blank
+
+-- out with what is read
+unfoldable pub filled : Decoded → List ℕ → ℕ → List ℕ
+filled f out to = take to out ++ given f []

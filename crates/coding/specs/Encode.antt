@@ -2,7 +2,7 @@
 use mathlib.Core.Bool.{Bool, true, false, _&&_, _||_, Bool·beq}
 use mathlib.Core.List.{List, [], _∷_, _++_}
 use Prim.Native.Nat.{ℕ, zero, suc, _+_, _-_}
-use lib.ListN.{length, take, getD}
+use lib.ListN.{length, take, drop, getD}
 use lib.Dec.{eqb}
 use Rattle.geometry.specs.Sizes.{blank}
 use Rattle.geometry.specs.Bytes.{padded}
@@ -16,6 +16,10 @@ keeps (suc n) x = elim (eqb (getD x n 0) blank) [ true ↦ keeps n x | false ↦
 -- with q before it (0 where there is none) and s behind it, goes into a blank run
 unfoldable pub inGap : ℕ → ℕ → List ℕ → Bool
 inGap q c s = eqb c blank && (eqb q blank || eqb (getD s 0 0) blank)
+
+-- the same of the character at the place i of x
+abbrev pub gapAt : List ℕ → ℕ → Bool
+gapAt x i = inGap (getD (0 ∷ x) i 0) (getD x i 0) (drop (i + 1) x)
 
 -- how many characters at the front of a list, at most n, are of one sort; q stands before the list
 unfoldable pub runLength : ℕ → Bool → ℕ → List ℕ → ℕ

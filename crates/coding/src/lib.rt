@@ -2,16 +2,16 @@
 use geometry::Geometry;
 use geometry::byte_at;
 use geometry::fill;
-use geometry::lay;
 use geometry::put;
 ghost use mathlib.Core.Path.{_≡_};
+ghost use mathlib.Core.Bool.{not, Bool·beq};
 ghost use mathlib.Core.List.{_∷_};
-ghost use Prim.Native.Nat.{_+_, _≤_, _<_, _^_};
+ghost use Prim.Native.Nat.{_+_, _-_, _≤_, _<_, _^_, min};
 ghost use lib.ListN.{length, drop, getD};
-ghost use lib.Seq.{sets};
-ghost use Rattle.coding.specs.Decode.{decodeFrom, run, answer, given};
+ghost use lib.Seq.{sets, paste};
+ghost use Rattle.coding.specs.Decode.{decodeFrom, run, answer, given, Awaited, filled};
 ghost use Rattle.coding.specs.Decode as Decode;
-ghost use Rattle.coding.specs.Encode.{inGap, runCode, runsCode};
+ghost use Rattle.coding.specs.Encode.{gapAt, runCode, runsCode};
 ghost use Rattle.coding.specs.Encode as Encode;
 
 // What decoding one record gives: the number of bytes of its code, or the offset of the control byte that cannot be obeyed.
@@ -20,51 +20,43 @@ pub enum Coded {
     Bad(usize),
 }
 
-// A run of n characters, which s begins with, with its control byte at offset at; then it gives over to runs of blanks.
-// A good record is then in out; what a bad code leaves there is open.
-fn characters(s: &[u8], n: usize, at: usize, out: &mut [u8]) -> Coded
-    requires { ⌜ at + 1 + length (now s) < 2 ^ 64 ⌝ }
-    ensures { λ r. ⌜ (r ≡ answer (run n (length (now (out .entry))) at (now (s .entry))))
-        × (now (out .exit) ≡ given (run n (length (now (out .entry))) at (now (s .entry))) (now (out .exit))) ⌝ }
+// Copies the n characters of s from the place at on over those of out from the place to on.
+fn copy(s: &[u8], at: usize, n: usize, out: &mut [u8], to: usize)
+    requires { ⌜ (at + n ≤ length (now s)) × (to + n ≤ length (now out)) ⌝ }
+    ensures { λ _. ⌜ now (out .exit) ≡ paste (now (out .entry)) to (drop at (now (s .entry))) n ⌝ }
 {
-    if s.len() < n {
-        return Coded::Bad(at);
+    let mut k = 0;
+    while k < n {
+        out[to + k] = s[at + k];
+        k += 1;
     }
-    if out.len() < n {
-        return Coded::Bad(at);
-    }
-    lay(out, 0, &s[..n]);
-    blanks(&s[n..], at + 1 + n, &mut out[n..])
 }
 
-// Runs of blanks, up to the record's end or to a run of characters, which it gives over to; s begins with a control byte, at offset at.
-// A good record is then in out; what a bad code leaves there is open.
-fn blanks(s: &[u8], at: usize, out: &mut [u8]) -> Coded
-    requires { ⌜ at + length (now s) < 2 ^ 64 ⌝ }
-    ensures { λ r. ⌜ (r ≡ answer (decodeFrom 0 (length (now (out .entry))) at (now (s .entry))))
-        × (now (out .exit) ≡ given (decodeFrom 0 (length (now (out .entry))) at (now (s .entry))) (now (out .exit))) ⌝ }
+// A run of n characters, with its control byte at offset at, into out from the place to on; then it gives over to runs of blanks.
+fn characters(s: &[u8], at: usize, n: usize, out: &mut [u8], to: usize)
+    requires { ⌜ (at < length (now s)) × Awaited (run n (length (now out) - to) at (drop (at + 1) (now s))) (now out) to ⌝ }
+    ensures { λ _. ⌜ now (out .exit) ≡ filled (run n (length (now (out .entry)) - to) at (drop (at + 1) (now (s .entry)))) (now (out .entry)) to ⌝ }
 {
-    if s.len() == 0 {
-        return Coded::Bad(at);
+    copy(s, at + 1, n, out, to);
+    blanks(s, at + 1 + n, out, to + n);
+}
+
+// Runs of blanks, which out has already, up to the record's end or to a run of characters, which it gives over to. The first control byte is
+// at offset at, and what it gives goes into out from the place to on.
+fn blanks(s: &[u8], at: usize, out: &mut [u8], to: usize)
+    requires { ⌜ Awaited (decodeFrom 0 (length (now out) - to) at (drop at (now s))) (now out) to ⌝ }
+    ensures { λ _. ⌜ now (out .exit) ≡ filled (decodeFrom 0 (length (now (out .entry)) - to) at (drop at (now (s .entry)))) (now (out .entry)) to ⌝ }
+{
+    let mut i = at;
+    let mut j = to;
+    while 128 < s[i] {
+        j += (s[i] as usize) - 128;
+        i += 1;
     }
-    let c = s[0] as usize;
-    if c == 0 {
-        let r = out.len();
-        fill(out, 0, r, Geometry::BLANK);
-        return Coded::Good(at + 1);
+    let n = s[i] as usize;
+    if n != 0 {
+        characters(s, i, n, out, j);
     }
-    if c < 128 {
-        return characters(&s[1..], c, at, out);
-    }
-    if c == 128 {
-        return Coded::Bad(at);
-    }
-    let m = c - 128;
-    if out.len() < m {
-        return Coded::Bad(at);
-    }
-    fill(out, 0, m, Geometry::BLANK);
-    blanks(&s[1..], at + 1, &mut out[m..])
 }
 
 // What decoding the record of that length that s begins with answers. No character is moved.
@@ -78,14 +70,20 @@ pub fn measure(s: &[u8], length: usize) -> Coded
         if c == 0 {
             return Coded::Good(at + 1);
         }
-        // It gives n characters, k of which stand behind it.
-        let n = c % 128;
-        let k = if c < 128 { n } else { 0 };
-        if (n == 0) | (room < n) | (s.len() - at <= k) {
-            return Coded::Bad(at);
+        if c < 128 {
+            if (room < c) | (s.len() - at <= c) {
+                return Coded::Bad(at);
+            }
+            room -= c;
+            at += 1 + c;
+        } else {
+            let n = c - 128;
+            if (n == 0) | (room < n) {
+                return Coded::Bad(at);
+            }
+            room -= n;
+            at += 1;
         }
-        room -= n;
-        at += 1 + k;
     }
     Coded::Bad(at)
 }
@@ -97,7 +95,11 @@ pub fn decode(s: &[u8], out: &mut [u8]) -> Coded
 {
     let r = out.len();
     match measure(s, r) {
-        Coded::Good(_) => blanks(s, 0, out),
+        Coded::Good(e) => {
+            fill(out, 0, r, Geometry::BLANK);
+            blanks(s, 0, out, 0);
+            Coded::Good(e)
+        }
         Coded::Bad(k) => Coded::Bad(k),
     }
 }
@@ -112,21 +114,45 @@ fn before(x: &[u8], j: usize) -> u8
 // Whether the character at the place j of x goes into a blank run: a blank with a blank beside it.
 fn in_gap(x: &[u8], j: usize) -> bool
     requires { ⌜ j < length (now x) ⌝ }
-    ensures { λ r. ⌜ r ≡ inGap (getD (0 ∷ now (x .entry)) j 0) (getD (now (x .entry)) j 0) (drop (j + 1) (now (x .entry))) ⌝ }
+    ensures { λ r. ⌜ r ≡ gapAt (now (x .entry)) j ⌝ }
 {
-    (byte_at(x, j) == Geometry::BLANK)
-        & ((before(x, j) == Geometry::BLANK) | (byte_at(x, j + 1) == Geometry::BLANK))
+    if x[j] != Geometry::BLANK {
+        return false;
+    }
+    if byte_at(x, j + 1) == Geometry::BLANK {
+        return true;
+    }
+    before(x, j) == Geometry::BLANK
+}
+
+// Whether the character at the place j of x is of another sort than the one before it, which goes into a blank run as gap says.
+fn other(x: &[u8], j: usize, gap: bool) -> bool
+    requires { ⌜ (0 < j) × (j < length (now x)) × (gap ≡ gapAt (now x) (j - 1)) ⌝ }
+    ensures { λ r. ⌜ r ≡ not (Bool·beq (gapAt (now (x .entry)) j) gap) ⌝ }
+{
+    if x[j] != Geometry::BLANK {
+        return gap;
+    }
+    if gap {
+        return false;
+    }
+    byte_at(x, j + 1) == Geometry::BLANK
+}
+
+// The lesser of two numbers.
+fn least(a: usize, b: usize) -> usize
+    ensures { λ r. ⌜ r ≡ min a b ⌝ }
+{
+    if a <= b { a } else { b }
 }
 
 // Puts xs at the place at of out and behind it, as far as there are such places.
 fn put_all(out: &mut [u8], at: usize, xs: &[u8])
-    requires { ⌜ at + length (now xs) < 2 ^ 64 ⌝ }
     ensures { λ _. ⌜ now (out .exit) ≡ sets (now (out .entry)) at (now (xs .entry)) ⌝ }
 {
-    let mut k = 0;
-    while k < xs.len() {
-        put(out, at + k, xs[k]);
-        k += 1;
+    if at < out.len() {
+        let n = least(xs.len(), out.len() - at);
+        copy(xs, 0, n, out, at);
     }
 }
 
@@ -154,15 +180,13 @@ fn put_runs(x: &[u8], out: &mut [u8]) -> usize
     let mut at = 0;
     while i < x.len() {
         let gap = in_gap(x, i);
-        let mut k = 0;
+        let most = least(127, x.len() - i);
+        let mut k = 1;
         let n = 'run: loop {
-            if k == 127 {
+            if k == most {
                 break 'run k;
             }
-            if i + k == x.len() {
-                break 'run k;
-            }
-            if in_gap(x, i + k) != gap {
+            if other(x, i + k, gap) {
                 break 'run k;
             }
             k += 1;

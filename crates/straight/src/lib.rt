@@ -4,7 +4,6 @@ use directory::Entry;
 use geometry::Geometry;
 use geometry::Place;
 use geometry::lay_padded;
-use geometry::part;
 use packing::fits_here;
 use sessions::OpenFile;
 ghost use mathlib.Core.Path.{_≡_};
@@ -15,7 +14,6 @@ ghost use lib.Seq.{sets};
 ghost use Rattle.geometry.specs.Bytes.{padded};
 ghost use Rattle.geometry.specs.Bytes as Bytes;
 ghost use Rattle.geometry.specs.Sizes as Sizes;
-ghost use Rattle.coding.specs.Encode.{codeOf};
 ghost use Rattle.packing.specs.Placing.{changes};
 ghost use Rattle.sessions.specs.Session.{idle};
 ghost use Rattle.steps.specs.Effects.{sectorAt, storeEffect, blockedEffect, plainDo, plainAll};
@@ -88,23 +86,13 @@ pub fn write_coded(image: &mut [u8], e: Entry, p: Place, code: &[u8])
 
 // ---- the code of a record
 
-// Codes the bytes given as a record of n characters, with blanks behind them.
-fn encode_in(record: &mut [u8; 132], given: &[u8], n: usize, code: &mut [u8]) -> usize
-    requires { ⌜ (length (now given) ≤ n) × (n ≤ 132) ⌝ }
-    ensures { λ r. ⌜ (r ≡ length (codeOf n (now (given .entry)))) × (now (code .exit) ≡ sets (now (code .entry)) 0 (codeOf n (now (given .entry)))) ⌝ }
-{
-    lay_padded(record, 0, given, 132, Geometry::BLANK);
-    encode(part(record, 0, n), code)
-}
-
-// Codes the bytes given, if they may be a record of a compressed file; how many bytes their code has.
+// Codes the bytes given, if they may be a record of a compressed file; how many bytes their code has. Blanks behind them would be dropped, so none are put there.
 pub fn encode_given(e: Entry, given: &[u8], code: &mut [u8]) -> usize
     ensures { λ r. ⌜ (r ≡ length (codeGiven e (now (given .entry)))) × (now (code .exit) ≡ sets (now (code .entry)) 0 (codeGiven e (now (given .entry)))) ⌝ }
 {
     let n = e.length as usize;
     if (e.kind == Geometry::COMPRESSED) & ((given.len() <= n) & (n <= 132)) {
-        let mut record = [0u8; 132];
-        encode_in(&mut record, given, n, code)
+        encode(given, code)
     } else {
         0
     }

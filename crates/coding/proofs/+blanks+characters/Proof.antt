@@ -1,34 +1,27 @@
--- `coding::blanks` and `coding::characters`, which call each other, meet their contracts. The measure is twice the bytes that are left, and one more where
--- a run of characters is under way.
-use Prim.Native.Nat.{ℕ, _<_, _+_, _*_, _-_}
+use mathlib.Core.Path.{_≡_, refl, sym, _∙_}
+use Prim.Native.Nat.{ℕ, _<_, _≤_, _+_, _*_, _-_}
 use native.Mathlib.Omega.{arith}
-use lib.ListN.{length, take, getD, replicate, length-replicate}
-use lib.Seq.{length-take-le}
+use lib.ListN.{length, getD}
 use borrow.Author.Needs.{needs}
 use borrow.Fn.Kinds.{In}
 use borrow.Fn.PlainCycle.{Measures, is, falls, and}
-use mathlib.Core.Path.{sym}
-use Rattle.geometry.specs.Sizes.{blank}
-use Rattle.coding.specs.Decode.{decodeFrom, run}
-use Rattle.coding.proofs.Parts.{tail}
-use Rattle.coding.proofs.Reader.{at-end, at-stop, at-characters, at-goOn, at-full, at-blanks, run-short, run-full, run-on}
-use Rattle.coding.proofs.Answers.{says, says-bad, says-stop, says-on}
+use Rattle.coding.specs.Decode.{Awaited, filled}
+use Rattle.coding.proofs.Filled.{Next, Run, Passed, Copied, inside, stops, passes, turns, run-fits, copied}
 use Rattle.coding.proofs.blanks.Reads as blanks
 use Rattle.coding.proofs.blanks.Kinds as blanks-kinds
 use Rattle.coding.proofs.+blanks+characters.Lts-blanks as blanks-lts
 use Rattle.coding.proofs.characters.Reads as characters
 use Rattle.coding.proofs.characters.Kinds as characters-kinds
 use Rattle.coding.proofs.+blanks+characters.Lts-characters as characters-lts
-use Rattle.geometry.proofs.fill.Reads as fill-reads
-use Rattle.geometry.proofs.lay.Reads as lay-reads
+use Rattle.coding.proofs.copy.Reads as copy-reads
 use Rattle.coding.proofs.+blanks+characters.{statement}
 use Rattle.coding.proofs.+blanks+characters.Tie.{close}
 
 abbrev μ-blanks : Measures 2 blanks-kinds.ps ℕ
-μ-blanks κs a = 2 * length (a .0 .now) + 1
+μ-blanks κs a = 2 * (length (a .0 .now) - a .1 .0) + 1
 
 abbrev μ-characters : Measures 2 characters-kinds.ps ℕ
-μ-characters κs a = 2 * length (a .0 .now) + 2
+μ-characters κs a = 2 * (length (a .0 .now) - a .1 .0)
 
 abbrev blanks-at : ℕ → In 2 blanks-kinds.ps
 blanks-at t = and 2 blanks-kinds.ps (is 2 blanks-kinds.ps μ-blanks t) blanks.Pre
@@ -46,146 +39,161 @@ characters-below t =
 
 -- what a member knows of those that it calls
 abbrev blanks-knows : ℕ → blanks-lts.Claims
-blanks-knows t = (fill-reads.Asked, fill-reads.Learnt, characters-below t, characters.Post, blanks-below t, blanks.Post)
+blanks-knows t = (characters-below t, characters.Post)
 
 abbrev characters-knows : ℕ → characters-lts.Claims
-characters-knows t = (lay-reads.Asked, lay-reads.Learnt, blanks-below t, blanks.Post)
+characters-knows t = (copy-reads.Asked, copy-reads.Learnt, blanks-below t, blanks.Post)
 
-blanks-returns : (t : ℕ) → blanks-lts.Need-returns (blanks-knows t) (blanks-at t) blanks.Post
-blanks-returns t c =
+abbrev blanks-Inv-loop : blanks-lts.InvT-loop
+blanks-Inv-loop s at out to i₀ j₀ i j = (at ≤ i) × Awaited (Next s i out j) out j × (filled (Next s at out to) out to ≡ filled (Next s i out j) out j)
+
+abbrev blanks-μ-loop : blanks-lts.MeasureT-loop
+blanks-μ-loop s at out to i₀ j₀ i j = length s - i
+
+-- the control byte at hand is there
+seen : {t : ℕ} (c : blanks-lts.At-loop (blanks-knows t) (blanks-at t) blanks.Post blanks-Inv-loop blanks-μ-loop)
+    → c .loop .i < length (c .before .before .before .args .s .now)
+seen c =
     let a = c .before .before .before .args in
-    let s = a .s .now in
-    let r = length (a .out .now) in
-    says-bad (decodeFrom 0 r (a .at) s) (a .at) (a .out .now) (at-end r (a .at) s (c .if1 .taken))
+    inside (a .s .now) (c .loop .i) (a .out .now) (c .loop .j) (c .loop .inv .1)
 
-blanks-cast-c : (t : ℕ) → blanks-lts.Need-cast-c (blanks-knows t) (blanks-at t) blanks.Post
-blanks-cast-c t c = omega (arith, c .shared-slice-known2 .given 0)
+blanks-loop-holds : (t : ℕ) → blanks-lts.Need-loop-holds (blanks-knows t) (blanks-at t) blanks.Post blanks-Inv-loop blanks-μ-loop
+blanks-loop-holds t c = (omega arith, c .before .before .pre .1, refl)
 
-blanks-returns-2 : (t : ℕ) → blanks-lts.Need-returns-2 (blanks-knows t) (blanks-at t) blanks.Post
+blanks-shared-slice-read-if1 : (t : ℕ) → blanks-lts.Need-shared-slice-read-if1 (blanks-knows t) (blanks-at t) blanks.Post blanks-Inv-loop blanks-μ-loop
+blanks-shared-slice-read-if1 t c = seen (c .before)
+
+blanks-shared-slice-read-j : (t : ℕ) → blanks-lts.Need-shared-slice-read-j (blanks-knows t) (blanks-at t) blanks.Post blanks-Inv-loop blanks-μ-loop
+blanks-shared-slice-read-j t c = seen (c .before .before .before)
+
+blanks-cast-j : (t : ℕ) → blanks-lts.Need-cast-j (blanks-knows t) (blanks-at t) blanks.Post blanks-Inv-loop blanks-μ-loop
+blanks-cast-j t c = omega (arith, c .shared-slice-known3 .given (c .before .before .before .loop .i))
+
+blanks-sub-j : (t : ℕ) → blanks-lts.Need-sub-j (blanks-knows t) (blanks-at t) blanks.Post blanks-Inv-loop blanks-μ-loop
+blanks-sub-j t c = omega arith
+
+-- a run of blanks
+passed : {t : ℕ} (c : blanks-lts.After-shared-slice-known3 (blanks-knows t) (blanks-at t) blanks.Post blanks-Inv-loop blanks-μ-loop)
+    → let l = c .before .before .before in let a = l .before .before .before .args in Passed (a .s .now) (l .loop .i) (a .out .now) (l .loop .j) (getD (a .s .now) (l .loop .i) 0 - 128)
+passed c =
+    let l = c .before .before .before in
+    let a = l .before .before .before .args in
+    passes (a .s .now) (l .loop .i) (a .out .now) (l .loop .j) (l .loop .inv .1) (c .before .if1 .taken)
+
+blanks-add-j : (t : ℕ) → blanks-lts.Need-add-j (blanks-knows t) (blanks-at t) blanks.Post blanks-Inv-loop blanks-μ-loop
+blanks-add-j t c = omega (arith, passed c .0)
+
+blanks-add-i : (t : ℕ) → blanks-lts.Need-add-i (blanks-knows t) (blanks-at t) blanks.Post blanks-Inv-loop blanks-μ-loop
+blanks-add-i t c = omega (arith, seen (c .before .before .before))
+
+blanks-loop-less : (t : ℕ) → blanks-lts.Need-loop-less (blanks-knows t) (blanks-at t) blanks.Post blanks-Inv-loop blanks-μ-loop
+blanks-loop-less t c = omega (arith, seen (c .before .before .before))
+
+blanks-loop-again : (t : ℕ) → blanks-lts.Need-loop-again (blanks-knows t) (blanks-at t) blanks.Post blanks-Inv-loop blanks-μ-loop
+blanks-loop-again t c = let p = passed c in let l = c .before .before .before .loop in (omega arith, p .1, l .inv .2 ∙ p .2)
+
+-- a run of characters
+turned : {t : ℕ} (c : blanks-lts.Then2 (blanks-knows t) (blanks-at t) blanks.Post blanks-Inv-loop blanks-μ-loop)
+    → let l = c .before .before .before .before in let a = l .before .before .before .args in Next (a .s .now) (l .loop .i) (a .out .now) (l .loop .j) ≡ Run (a .s .now) (l .loop .i) (getD (a .s .now) (l .loop .i) 0) (a .out .now) (l .loop .j)
+turned c =
+    let l = c .before .before .before .before in
+    let a = l .before .before .before .args in
+    turns (a .s .now) (l .loop .i) (a .out .now) (l .loop .j) (l .loop .inv .1) (c .if2 .taken) (c .before .before .if1 .left)
+
+blanks-shared-slice-read-n : (t : ℕ) → blanks-lts.Need-shared-slice-read-n (blanks-knows t) (blanks-at t) blanks.Post blanks-Inv-loop blanks-μ-loop
+blanks-shared-slice-read-n t c = seen (c .before .before .before)
+
+blanks-cast-n : (t : ℕ) → blanks-lts.Need-cast-n (blanks-knows t) (blanks-at t) blanks.Post blanks-Inv-loop blanks-μ-loop
+blanks-cast-n t c = omega (arith, c .shared-slice-known4 .given (c .before .before .before .loop .i))
+
+blanks-characters-requires : (t : ℕ) → blanks-lts.Need-characters-requires (blanks-knows t) (blanks-at t) blanks.Post blanks-Inv-loop blanks-μ-loop
+blanks-characters-requires t c κs =
+    let l = c .before .before .before .before .before in
+    (omega (arith, seen l), (seen l, rw (turned (c .before)) at (l .loop .inv .1)))
+
+blanks-same-length : (t : ℕ) → blanks-lts.Need-same-length (blanks-knows t) (blanks-at t) blanks.Post blanks-Inv-loop blanks-μ-loop
+blanks-same-length t c = search needs
+
+blanks-returns : (t : ℕ) → blanks-lts.Need-returns (blanks-knows t) (blanks-at t) blanks.Post blanks-Inv-loop blanks-μ-loop
+blanks-returns t c = c .before .before .characters .ensures ∙ rw (turned (c .before .before .before .before)) at (sym (c .before .before .before .before .before .before .before .before .loop .inv .2))
+
+blanks-returns-2 : (t : ℕ) → blanks-lts.Need-returns-2 (blanks-knows t) (blanks-at t) blanks.Post blanks-Inv-loop blanks-μ-loop
 blanks-returns-2 t c =
-    let a = c .before .before .before .before .before .before .before .before .before .args in
-    let s = a .s .now in
-    let r = length (a .out .now) in
-    let some : 0 < length s = omega arith in
-    says-stop (decodeFrom 0 r (a .at) s) (a .at) (a .out .now) (c .before .before .fill .last .0) (at-stop r (a .at) s some (c .before .before .before .before .if2 .taken)) (c .before .before .fill .ensures)
+    let l = c .before .before .before .before in
+    let a = l .before .before .before .args in
+    stops (a .s .now) (l .loop .i) (a .out .now) (l .loop .j) (l .loop .inv .1) (c .if2 .left) ∙ sym (l .loop .inv .2)
 
-blanks-returns-3 : (t : ℕ) → blanks-lts.Need-returns-3 (blanks-knows t) (blanks-at t) blanks.Post
-blanks-returns-3 t c =
-    let a = c .before .before .before .before .before .before .before .before .before .before .before .args in
-    let s = a .s .now in
-    let r = length (a .out .now) in
-    let some : 0 < length s = omega arith in
-    says (decodeFrom 0 r (a .at) s) _ _ _ (at-characters r (a .at) s some (c .before .before .before .before .before .before .if2 .left) (c .before .before .before .before .before .if3 .taken)) (rw tail at (c .before .before .characters .ensures))
+-- the run fits
+fit : {t : ℕ} (c : characters-lts.Start (characters-knows t) (characters-at t) characters.Post)
+    → (c .args .at + 1 + c .args .n ≤ length (c .args .s .now)) × (c .args .to + c .args .n ≤ length (c .args .out .now))
+fit c =
+    let a = c .args in
+    run-fits (a .s .now) (a .at) (a .out .now) (a .to) (a .n) (c .pre .1 .0) (c .pre .1 .1)
 
-blanks-returns-4 : (t : ℕ) → blanks-lts.Need-returns-4 (blanks-knows t) (blanks-at t) blanks.Post
-blanks-returns-4 t c =
+characters-add-copy : (t : ℕ) → characters-lts.Need-add-copy (characters-knows t) (characters-at t) characters.Post
+characters-add-copy t c = omega arith
+
+characters-copy-requires : (t : ℕ) → characters-lts.Need-copy-requires (characters-knows t) (characters-at t) characters.Post
+characters-copy-requires t c κs = fit (c .before .before .before)
+
+-- and is copied
+copies : {t : ℕ} (c : characters-lts.After-blanks-arg (characters-knows t) (characters-at t) characters.Post)
+    → let a = c .before .before .before .before .before .before .before .args in Copied (a .s .now) (a .at) (a .n) (a .out .now) (a .to) (c .before .before .before .copy .last .1 .1 .1 .0)
+copies c =
     let a = c .before .before .before .before .before .before .before .args in
-    let s = a .s .now in
-    let r = length (a .out .now) in
-    let some : 0 < length s = omega arith in
-    says-bad (decodeFrom 0 r (a .at) s) (a .at) (a .out .now) (at-goOn r (a .at) s some (c .if4 .taken))
+    let p = c .before .before .before .before .before .before .before .pre .1 in
+    copied (a .s .now) (a .at) (a .out .now) (a .to) (a .n) (p .0) (p .1) (c .before .before .before .copy .last .1 .1 .1 .0) (c .before .before .before .copy .ensures)
 
-blanks-returns-5 : (t : ℕ) → blanks-lts.Need-returns-5 (blanks-knows t) (blanks-at t) blanks.Post
-blanks-returns-5 t c =
-    let a = c .before .before .before .before .before .before .before .before .args in
-    let s = a .s .now in
-    let r = length (a .out .now) in
-    let some : 0 < length s = omega arith in
-    let most : 128 < getD s 0 0 = omega arith in
-    says-bad (decodeFrom 0 r (a .at) s) (a .at) (a .out .now) (at-full r (a .at) s some most (c .if5 .taken))
+characters-add-blanks : (t : ℕ) → characters-lts.Need-add-blanks (characters-knows t) (characters-at t) characters.Post
+characters-add-blanks t c = omega arith
 
-blanks-returns-6 : (t : ℕ) → blanks-lts.Need-returns-6 (blanks-knows t) (blanks-at t) blanks.Post
-blanks-returns-6 t c =
-    let a = c .before .before .before .before .before .before .before .before .before .before .before .before .before .before .before .before .before .args in
-    let s = a .s .now in
-    let r = length (a .out .now) in
-    let some : 0 < length s = omega arith in
-    let most : 128 < getD s 0 0 = omega arith in
-    let n = getD s 0 0 - 128 in
-    let b = c .before .before .blanks in
-    let f = c .before .before .before .before .before .before .before .fill2 in
-    let fits = c .before .before .before .before .before .before .before .before .before .if5 .left in
-    says-on (decodeFrom 0 r (a .at) s) (replicate n blank) (a .out .now) (f .last .0) (b .last .1 .1 .0) s n 1 (a .at + 1) (b .result)
-    (at-blanks r (a .at) s some most fits) (length-replicate n blank) fits (f .ensures) (b .ensures)
+characters-add-blanks-2 : (t : ℕ) → characters-lts.Need-add-blanks-2 (characters-knows t) (characters-at t) characters.Post
+characters-add-blanks-2 t c = omega (arith, fit (c .before .before .before .before .before .before) .0)
+
+characters-add-blanks-3 : (t : ℕ) → characters-lts.Need-add-blanks-3 (characters-knows t) (characters-at t) characters.Post
+characters-add-blanks-3 t c = omega (arith, fit (c .before .before .before .before .before .before .before) .1)
+
+characters-blanks-requires : (t : ℕ) → characters-lts.Need-blanks-requires (characters-knows t) (characters-at t) characters.Post
+characters-blanks-requires t c κs =
+    let a = c .before .before .before .before .before .before .before in
+    (omega (arith, fit a .0, a .pre .0, a .pre .1 .0), copies c .0)
+
+characters-same-length : (t : ℕ) → characters-lts.Need-same-length (characters-knows t) (characters-at t) characters.Post
+characters-same-length t c = search needs
 
 characters-returns : (t : ℕ) → characters-lts.Need-returns (characters-knows t) (characters-at t) characters.Post
-characters-returns t c =
-    let a = c .before .before .before .args in
-    let s = a .s .now in
-    let r = length (a .out .now) in
-    says-bad (run (a .n) r (a .at) s) (a .at) (a .out .now) (run-short r (a .at) (a .n) s (c .if1 .taken))
-
-characters-returns-2 : (t : ℕ) → characters-lts.Need-returns-2 (characters-knows t) (characters-at t) characters.Post
-characters-returns-2 t c =
-    let a = c .before .before .before .before .args in
-    let s = a .s .now in
-    let r = length (a .out .now) in
-    says-bad (run (a .n) r (a .at) s) (a .at) (a .out .now) (run-full r (a .at) (a .n) s (c .before .if1 .left) (c .if2 .taken))
-
-characters-slice-aggregate-lay : (t : ℕ) → characters-lts.Need-slice-aggregate-lay (characters-knows t) (characters-at t) characters.Post
-characters-slice-aggregate-lay t c =
-    let a = c .before .before .before .before .before .before .args in
-    sym (length-take-le (a .n) (a .s .now) (c .before .before .before .if1 .left))
-
-characters-returns-3 : (t : ℕ) → characters-lts.Need-returns-3 (characters-knows t) (characters-at t) characters.Post
-characters-returns-3 t c =
-    let a = c .before .before .before .before .before .before .before .before .before .before .before .before .before .before .args in
-    let s = a .s .now in
-    let r = length (a .out .now) in
-    let n = a .n in
-    let b = c .before .before .blanks in
-    let l = c .before .before .before .before .before .before .before .lay in
-    let g = c .before .before .before .before .before .before .before .before .before .before .before .if1 .left in
-    let fits = c .before .before .before .before .before .before .before .before .before .before .if2 .left in
-    says-on (run n r (a .at) s) (take n s) (a .out .now) (l .last .0) (b .last .1 .1 .0) s n n (a .at + 1 + n) (b .result)
-    (run-on r (a .at) n s g fits) (length-take-le n s g) fits (l .ensures) (b .ensures)
+characters-returns t c = c .before .before .blanks .ensures ∙ sym (copies (c .before .before .before) .1)
 
 pub +blanks+characters-spec : {M : Type 1} → statement M
 +blanks+characters-spec = close μ-blanks μ-characters (λ t. blanks-lts.spec (blanks-knows t)
     (blanks-at t)
     blanks.Post
+    blanks-Inv-loop
+    blanks-μ-loop
+    (blanks-loop-holds t)
+    (blanks-shared-slice-read-if1 t)
+    (blanks-shared-slice-read-j t)
+    (blanks-cast-j t)
+    (blanks-sub-j t)
+    (blanks-add-j t)
+    (blanks-add-i t)
+    (blanks-loop-less t)
+    (blanks-loop-again t)
+    (blanks-shared-slice-read-n t)
+    (blanks-cast-n t)
+    (blanks-characters-requires t)
+    (blanks-same-length t)
     (blanks-returns t)
-    (λ c. search needs)
-    (blanks-cast-c t)
-    (λ c κs. search needs)
-    (λ c. search needs)
-    (λ c. search needs)
-    (blanks-returns-2 t)
-    (λ c. search needs)
-    (λ c. search needs)
-    (λ c. search needs)
-    (λ c κs. search needs)
-    (λ c. search needs)
-    (blanks-returns-3 t)
-    (blanks-returns-4 t)
-    (blanks-returns-5 t)
-    (λ c κs. search needs)
-    (λ c. search needs)
-    (λ c. search needs)
-    (λ c. search needs)
-    (λ c. search needs)
-    (λ c. search needs)
-    (λ c. search needs)
-    (λ c. search needs)
-    (λ c κs. search needs)
-    (λ c. search needs)
-    (blanks-returns-6 t))
+    (blanks-returns-2 t))
     λ t. characters-lts.spec
     (characters-knows t)
     (characters-at t)
     characters.Post
+    (characters-add-copy t)
+    (characters-copy-requires t)
+    (characters-add-blanks t)
+    (characters-add-blanks-2 t)
+    (characters-add-blanks-3 t)
+    (characters-blanks-requires t)
+    (characters-same-length t)
     (characters-returns t)
-    (characters-returns-2 t)
-    (characters-slice-aggregate-lay t)
-    (λ c κs. search needs)
-    (λ c. search needs)
-    (λ c. search needs)
-    (λ c. search needs)
-    (λ c. search needs)
-    (λ c. search needs)
-    (λ c. search needs)
-    (λ c. search needs)
-    (λ c. search needs)
-    (λ c κs. search needs)
-    (λ c. search needs)
-    (characters-returns-3 t)

@@ -3,18 +3,25 @@ use mathlib.Core.Path.{sym, _∙_}
 use lib.ListN.{length}
 use borrow.Author.Needs.{needs}
 use Rattle.coding.specs.Decode.{decode}
-use Rattle.coding.proofs.Answers.{decoded-good, decoded-bad}
+use Rattle.coding.proofs.Filled.{awaited, decoded-good, decoded-bad}
 use Rattle.coding.proofs.decode.Statement.{statement}
 use Rattle.coding.proofs.decode.Tie as tie
 
 measure-requires : tie.Need-measure-requires
 measure-requires c κs = search needs
 
-enum-told : tie.Need-enum-told
-enum-told c = search needs
+enum-known-e : tie.Need-enum-known-e
+enum-known-e c = search needs
+
+fill-requires : tie.Need-fill-requires
+fill-requires c κs = search needs
 
 blanks-requires : tie.Need-blanks-requires
-blanks-requires c κs = search needs
+blanks-requires c κs =
+    let a = c .before .before .before .before .before .before .before .before .before .before .before .args in
+    let g = c .before .before .before .before .before .before .e .given in
+    let f = c .before .before .before .fill in
+    awaited (a .s .now) (a .out .now) (f .last .0) (g .0 .0) (sym (g .1) ∙ c .before .before .before .before .before .before .before .before .measure .ensures) (f .ensures)
 
 enum-known-k : tie.Need-enum-known-k
 enum-known-k c = search needs
@@ -23,27 +30,25 @@ same-length : tie.Need-same-length
 same-length c = search needs
 
 returns : tie.Need-returns
-unfolding decode
 returns c =
-    let a = c .before .before .before .before .before .before .before .before .before .args in
-    let b = c .before .before .blanks in
-    let m = c .before .before .before .before .before .before .measure in
-    let g = c .before .before .before .before .enum-told .given in
-    decoded-good (decode (length (a .out .now)) (a .s .now)) (g .0 .0) (a .out .now) (b .last .1 .1 .0) (b .result) (sym (g .1) ∙ m .ensures) (b .ensures)
+    let a = c .before .before .before .before .before .before .before .before .before .before .before .before .before .before .args in
+    let g = c .before .before .before .before .before .before .before .before .before .e .given in
+    let f = c .before .before .before .before .before .before .fill in
+    decoded-good (a .s .now) (a .out .now) (f .last .0) _ (g .0 .0) (sym (g .1) ∙ c .before .before .before .before .before .before .before .before .before .before .before .measure .ensures) (f .kept .0) (c .before .before .blanks .ensures)
 
 returns-2 : tie.Need-returns-2
 returns-2 c =
     let a = c .before .before .before .before .before .before .args in
-    let m = c .before .before .before .measure in
     let g = c .before .k .given in
-    decoded-bad (decode (length (a .out .now)) (a .s .now)) (g .0 .0) (a .out .now) (sym (g .1) ∙ m .ensures)
+    decoded-bad (decode (length (a .out .now)) (a .s .now)) (g .0 .0) (a .out .now) (sym (g .1) ∙ c .before .before .before .measure .ensures)
 
 pub decode-spec : {M : Type 1} → statement M
 decode-spec =
     tie.close
     (tie.spec
     measure-requires
-    enum-told
+    enum-known-e
+    fill-requires
     blanks-requires
     enum-known-k
     same-length

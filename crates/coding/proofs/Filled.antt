@@ -1,0 +1,183 @@
+-- What the two decoding functions leave: blanks are there already, characters are copied, and the rest of the code is read behind them.
+use mathlib.Core.Path.{_≡_, refl, sym, ap, _∙_}
+use mathlib.Core.Logic.{_≢_}
+use mathlib.Core.Bool.{true, true≢false}
+use mathlib.Core.List.{List, [], _++_, append-assoc}
+use Prim.Native.Nat.{ℕ, _+_, _-_, _≤_, _<_}
+use native.Mathlib.Nat.{add-zero, sub-zero}
+use native.Mathlib.Omega.{arith}
+use native.Mathlib.Decide.{decLt}
+use lib.ListN.{length, take, drop, getD, replicate, length-drop, length-replicate, take-append-drop, replicate-append-replicate}
+use lib.Seq.{take-at, drop-at, take-add, drop-drop, getD-drop, paste, length-paste, take-paste, drop-paste}
+use Rattle.geometry.specs.Sizes.{blank}
+use Rattle.geometry.specs.Bytes.{lay}
+use Rattle.geometry.proofs.Bytes.{length-lay}
+use Rattle.coding.specs.declared.Coded.{Coded}
+use Rattle.coding.specs.Decode.{Decoded, good, bad, before, decodeFrom, run, decode, answer, given, isGood, Awaited, filled}
+use Rattle.coding.proofs.Parts.{lay-all}
+use Rattle.coding.proofs.Reader.{at-end, at-stop, at-goOn, at-characters, at-full, at-blanks, run-short, run-full, run-on, answer-good, answer-bad}
+
+-- ---- good codes
+
+not-bad : (f : Decoded) (k : ℕ) → isGood f ≡ true → f ≡ bad k → ⊥
+unfolding isGood
+not-bad f k g e = true≢false (sym g ∙ rw e)
+
+-- characters before a good record
+good-before : (xs : List ℕ) (f : Decoded) → isGood (before xs f) ≡ true → (isGood f ≡ true) × (given (before xs f) [] ≡ xs ++ given f [])
+unfolding before isGood given
+good-before xs (good ys e) g = (refl, refl)
+good-before xs (bad k) g = absurd (true≢false (sym g))
+
+-- what a good code asks for is there
+module _ (room at : ℕ) (s : List ℕ) where
+  good-some : isGood (decodeFrom 0 room at s) ≡ true → 0 < length s
+  good-some g = go (decLt 0 (length s))
+    where
+      go : Dec (0 < length s) → 0 < length s
+      go (yes h) = h
+      go (no h) = absurd (not-bad _ at g (at-end room at s (omega arith)))
+
+  good-blanks : isGood (decodeFrom 0 room at s) ≡ true → 128 < getD s 0 0 → getD s 0 0 - 128 ≤ room
+  good-blanks g most = go (decLt room (getD s 0 0 - 128))
+    where
+      go : Dec (room < getD s 0 0 - 128) → getD s 0 0 - 128 ≤ room
+      go (yes h) = absurd (not-bad _ at g (at-full room at s (good-some g) most h))
+      go (no h) = omega arith
+
+  good-few : isGood (decodeFrom 0 room at s) ≡ true → getD s 0 0 ≤ 128 → getD s 0 0 < 128
+  good-few g few = go (decLt (getD s 0 0) 128)
+    where
+      go : Dec (getD s 0 0 < 128) → getD s 0 0 < 128
+      go (yes h) = h
+      go (no h) = absurd (not-bad _ at g (at-goOn room at s (good-some g) (omega arith)))
+
+  good-run : (n : ℕ) → isGood (run n room at s) ≡ true → (n ≤ length s) × (n ≤ room)
+  good-run n g = go (decLt (length s) n) (decLt room n)
+    where
+      go : Dec (length s < n) → Dec (room < n) → (n ≤ length s) × (n ≤ room)
+      go (yes h) l = absurd (not-bad _ at g (run-short room at n s h))
+      go (no h) (yes l) = absurd (not-bad _ at g (run-full room at n s (omega arith) l))
+      go (no h) (no l) = (omega arith, omega arith)
+
+-- n of the blanks that are awaited, and the others
+blanks-split : (out : List ℕ) (to n : ℕ) → to + n ≤ length out → drop to out ≡ replicate (length out - to) blank
+    → drop to out ≡ replicate n blank ++ replicate (length out - (to + n)) blank
+blanks-split out to n fits empty =
+    let left : length out - to ≡ n + (length out - (to + n)) = omega arith in
+    empty ∙ ap (λ k. replicate k blank) left ∙ sym (replicate-append-replicate n (length out - (to + n)) blank)
+
+-- ---- one run: out becomes new, with the n characters xs behind those that it had, and what follows is read by g
+
+one-run : (f g : Decoded) (xs out new : List ℕ) (to n : ℕ) → f ≡ before xs g → to + n ≤ length out → length new ≡ length out
+    → take (to + n) new ≡ take to out ++ xs → drop (to + n) new ≡ drop (to + n) out → Awaited f out to
+    → Awaited g new (to + n) × (filled f out to ≡ filled g new (to + n))
+unfolding filled
+one-run f g xs out new to n is fits long front behind w =
+    let b = good-before xs g (rw is at (w .sound)) in
+    let left : drop (to + n) out ≡ replicate (length out - (to + n)) blank =
+    sym (drop-drop n to out) ∙ ap (drop n) (blanks-split out to n fits (w .empty)) ∙ drop-at (replicate n blank) _ n (length-replicate n blank) in (
+      record { sound = b .0; fits = omega arith; empty = behind ∙ left ∙ ap (λ k. replicate (k - (to + n)) blank) (sym long) },
+      ap (λ (d : Decoded). take to out ++ given d []) is ∙ ap (λ (l : List ℕ). take to out ++ l) (b .1) ∙ sym (append-assoc (take to out) xs (given g []))
+          ∙ ap (λ (l : List ℕ). l ++ given g []) (sym front),
+    )
+
+-- ---- at the control byte at offset `at` of s, with room in out from `to` on
+
+abbrev pub Next : List ℕ → ℕ → List ℕ → ℕ → Decoded
+Next s at out to = decodeFrom 0 (length out - to) at (drop at s)
+
+-- the same where the control byte stands before n characters
+abbrev pub Run : List ℕ → ℕ → ℕ → List ℕ → ℕ → Decoded
+Run s at n out to = run n (length out - to) at (drop (at + 1) s)
+
+-- a run of n blanks is passed over
+abbrev pub Passed : List ℕ → ℕ → List ℕ → ℕ → ℕ → Type 0
+Passed s at out to n =
+    (to + n ≤ length out) × Awaited (Next s (at + 1) out (to + n)) out (to + n) × (filled (Next s at out to) out to ≡ filled (Next s (at + 1) out (to + n)) out (to + n))
+
+-- a run of n characters is copied
+abbrev pub Copied : List ℕ → ℕ → ℕ → List ℕ → ℕ → List ℕ → Type 0
+Copied s at n out to new =
+    Awaited (Next s (at + 1 + n) new (to + n)) new (to + n) × (filled (Run s at n out to) out to ≡ filled (Next s (at + 1 + n) new (to + n)) new (to + n))
+
+module _ (s : List ℕ) (at : ℕ) (out : List ℕ) (to : ℕ) where
+  first : getD (drop at s) 0 0 ≡ getD s at 0
+  first = rw (getD-drop, add-zero)
+
+  module _ (w : Awaited (Next s at out to) out to) where
+    some : 0 < length (drop at s)
+    some = good-some (length out - to) at (drop at s) (w .sound)
+
+    pub inside : at < length s
+    inside = let h = some in let l = length-drop at s in omega arith
+
+    pub stops : getD s at 0 ≡ 0 → out ≡ filled (Next s at out to) out to
+    unfolding filled given
+    stops z = rw (at-stop (length out - to) at (drop at s) some (first ∙ z), ← (w .empty)) (sym (take-append-drop to out))
+
+    pub passes : 128 < getD s at 0 → Passed s at out to (getD s at 0 - 128)
+    passes most =
+        let n = getD s at 0 - 128 in
+        let m : getD (drop at s) 0 0 - 128 ≡ n = rw first refl in
+        let most′ : 128 < getD (drop at s) 0 0 = rw first most in
+        let fits : n ≤ length out - to = rw m at (good-blanks (length out - to) at (drop at s) (w .sound) most′) in
+        let within = w .fits in
+        let rest : length out - to - n ≡ length out - (to + n) = omega arith in
+        let is : Next s at out to ≡ before (replicate n blank) (Next s (at + 1) out (to + n)) =
+        rw (m, rest, drop-drop) at (at-blanks (length out - to) at (drop at s) some most′ (rw m fits)) in
+        let split = blanks-split out to n (omega arith) (w .empty) in
+        let front : take (to + n) out ≡ take to out ++ replicate n blank =
+        take-add to n out ∙ ap (λ (l : List ℕ). take to out ++ take n l) split ∙ ap (λ (l : List ℕ). take to out ++ l) (take-at (replicate n blank) _ n (length-replicate n blank)) in
+        let r = one-run _ _ (replicate n blank) out out to n is (omega arith) refl front refl w in
+        (omega arith, r .0, r .1)
+
+    -- a run of characters begins
+    pub turns : getD s at 0 ≢ 0 → getD s at 0 ≤ 128 → Next s at out to ≡ Run s at (getD s at 0) out to
+    turns more few =
+        let below = good-few (length out - to) at (drop at s) (w .sound) (rw first few) in
+        rw (first, drop-drop) at (at-characters (length out - to) at (drop at s) some (rw first more) below)
+
+  -- a run of n characters
+  module _ (n : ℕ) (h : at < length s) (w : Awaited (Run s at n out to) out to) where
+    pub run-fits : (at + 1 + n ≤ length s) × (to + n ≤ length out)
+    run-fits =
+        let r = good-run (length out - to) at (drop (at + 1) s) n (w .sound) in
+        let l = length-drop (at + 1) s in
+        let within = w .fits in
+        (omega arith, omega arith)
+
+    pub copied : (new : List ℕ) → new ≡ paste out to (drop (at + 1) s) n → Copied s at n out to new
+    copied new e =
+        let r = good-run (length out - to) at (drop (at + 1) s) n (w .sound) in
+        let f = run-fits in
+        let long : length new ≡ length out = ap length e ∙ length-paste out to (drop (at + 1) s) n (f .1) (r .0) in
+        let rest : length out - to - n ≡ length new - (to + n) = omega arith in
+        let is : Run s at n out to ≡ before (take n (drop (at + 1) s)) (Next s (at + 1 + n) new (to + n)) =
+        run-on (length out - to) at n (drop (at + 1) s) (r .0) (r .1) ∙ rw (rest, drop-drop) in
+        one-run _ _ (take n (drop (at + 1) s)) out new to n is (f .1) long
+        (ap (take (to + n)) e ∙ take-paste out to (drop (at + 1) s) n (w .fits) (r .0))
+        (ap (drop (to + n)) e ∙ drop-paste out to (drop (at + 1) s) n (w .fits) (r .0)) w
+
+-- ---- measured first
+
+-- a buffer that is filled with blanks awaits a good record
+pub awaited : (s old out : List ℕ) (e : ℕ) → Coded.Good e ≡ answer (decode (length old) s) → out ≡ lay old 0 (replicate (length old) blank) → Awaited (Next s 0 out 0) out 0
+unfolding decode isGood
+awaited s old out e is laid =
+    let g = answer-good (decode (length old) s) e (sym is) in
+    let long : length out ≡ length old = ap length laid ∙ length-lay old 0 _ in
+    let blanks : out ≡ replicate (length old) blank = laid ∙ lay-all old _ (length-replicate (length old) blank) in
+    record { sound = rw (long, sub-zero, g .1); fits = omega arith; empty = rw (sub-zero, long) blanks }
+
+-- which is then in it
+pub decoded-good : (s old out new : List ℕ) (e : ℕ) → Coded.Good e ≡ answer (decode (length old) s) → length out ≡ length old → new ≡ filled (Next s 0 out 0) out 0
+    → (Coded.Good e ≡ answer (decode (length old) s)) × (new ≡ given (decode (length old) s) old)
+unfolding decode given filled
+decoded-good s old out new e is long left =
+    let g = answer-good (decode (length old) s) e (sym is) in
+    (is, left ∙ rw (sub-zero, long, g .1))
+
+pub decoded-bad : (f : Decoded) (k : ℕ) (old : List ℕ) → Coded.Bad k ≡ answer f → (Coded.Bad k ≡ answer f) × (old ≡ given f old)
+unfolding given
+decoded-bad f k old is = (is, rw (answer-bad f k (sym is)))
