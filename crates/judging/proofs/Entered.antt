@@ -1,11 +1,12 @@
 -- The first two tests, 12 and 8, are made before anything else; behind them the entry and its state are lawful, and the extent is whole.
-use mathlib.Core.Path.{_≡_}
-use mathlib.Core.Bool.{Bool, true, false, _&&_, not}
-use mathlib.Core.List.{List}
+use mathlib.Core.Path.{_≡_, refl, ap}
+use mathlib.Core.Bool.{Bool, true, false, not}
+use mathlib.Core.List.{List, []}
 use Prim.Native.Nat.{ℕ, _*_}
 use native.Mathlib.Omega.{arith}
 use lib.ListN.{length}
 use borrow.Author.Tests.{eqb-false, eq-eqb, ne-eqb, not-true, not-false}
+use Rattle.geometry.specs.Bytes.{part}
 use Rattle.geometry.specs.Sizes.{sector, sectorsOf}
 use Rattle.geometry.proofs.Bytes.{length-part}
 use Rattle.geometry.proofs.Places.{lawful-whole}
@@ -18,6 +19,8 @@ use Rattle.steps.specs.Next.{Scene, factsWith}
 use Rattle.steps.specs.Verdict.{seenBytes, seenScene, entryNext, fileWith, bufferNext, answerOf, verdictOf}
 use Rattle.steps.proofs.Lawful.{Lawful}
 use Rattle.steps.proofs.Inside.{lawful}
+use Rattle.storing.specs.Lent.{seenOf}
+use Rattle.storing.specs.declared.lawful.Seen.{Seen}
 use Rattle.judging.specs.Turns.{Stands, sceneOf}
 use Rattle.directory.specs.declared.Entry.{Entry}
 use Rattle.sessions.specs.declared.OpenFile.{OpenFile}
@@ -81,10 +84,28 @@ stands image s i e f ok ee ef el l used =
     rw (ee, ef) (lawful image s (el l) i u, extent-long image s i (el l) u)
 
 -- what a session's entry and state are judged to be is the session's verdict
-pub by-session : (image : List ℕ) (s : Session) (sound : Bool) (held : ℕ) (over : List ℕ) (i : ℕ) (q : Request) (given : List ℕ) (code : ℕ) (buffer : List ℕ)
-    (l : Bool) (files : ℕ) (e : Entry) (f : OpenFile) → l ≡ legal image s → files ≡ openFiles (s .files) → e ≡ entryAt (s .table) i → f ≡ fileOf (s .files) i
-    → (v : Verdict) (b : List ℕ) → Comes image (l && sound) files e f held over i q given code buffer v b
-    → (v ≡ verdictOf (legal image s && sound) (openFiles (s .files)) (length buffer) code q (seenScene image s held over i given))
-    × (b ≡ bufferNext (answerOf (legal image s && sound) (openFiles (s .files)) (length buffer) code q (seenScene image s held over i given)) q (seenScene image s held over i given) buffer)
+pub by-session : (image : List ℕ) (s : Session) (held : ℕ) (over : List ℕ) (i : ℕ) (q : Request) (given : List ℕ) (code : ℕ) (buffer : List ℕ)
+    (ok l : Bool) (files : ℕ) (e : Entry) (f : OpenFile) → l ≡ ok → files ≡ openFiles (s .files) → e ≡ entryAt (s .table) i → f ≡ fileOf (s .files) i
+    → (v : Verdict) (b : List ℕ) → Comes image l files e f held over i q given code buffer v b
+    → (v ≡ verdictOf ok (openFiles (s .files)) (length buffer) code q (seenScene image s held over i given))
+    × (b ≡ bufferNext (answerOf ok (openFiles (s .files)) (length buffer) code q (seenScene image s held over i given)) q (seenScene image s held over i given) buffer)
 unfolding seenScene
-by-session image s sound held over i q given code buffer l files e f el en ee ef v b h = rw (el, en, ee, ef) at h
+by-session image s held over i q given code buffer ok l files e f el en ee ef v b h = rw (el, en, ee, ef) at h
+
+-- ---- a session in lent bytes
+
+pub part-none : (xs : List ℕ) → part xs 0 0 ≡ []
+unfolding part
+part-none xs = refl
+
+pub seen-stands : (image : List ℕ) (s : Session) (i : ℕ) (x : Seen) (ok : Bool) → x ≡ seenOf s i → (ok ≡ true → legal image s ≡ true) → Stands image ok (x .entry) (x .file)
+unfolding seenOf
+seen-stands image s i x ok ex = stands image s i (x .entry) (x .file) ok (ap (λ (y : Seen). y .entry) ex) (ap (λ (y : Seen). y .file) ex)
+
+pub by-seen : (image : List ℕ) (s : Session) (held : ℕ) (over : List ℕ) (i : ℕ) (q : Request) (given : List ℕ) (code : ℕ) (buffer : List ℕ)
+    (ok l : Bool) (x : Seen) (lent : List ℕ) → l ≡ ok → x ≡ seenOf s i → lent ≡ over
+    → (v : Verdict) (b : List ℕ) → Comes image l (x .opened) (x .entry) (x .file) held lent i q given code buffer v b
+    → (v ≡ verdictOf ok (openFiles (s .files)) (length buffer) code q (seenScene image s held over i given))
+    × (b ≡ bufferNext (answerOf ok (openFiles (s .files)) (length buffer) code q (seenScene image s held over i given)) q (seenScene image s held over i given) buffer)
+unfolding seenScene seenOf
+by-seen image s held over i q given code buffer ok l x lent el ex eo v b h = rw (el, ex, eo) at h

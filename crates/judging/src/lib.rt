@@ -29,6 +29,10 @@ use sessions::idle;
 use sessions::is_legal;
 use sessions::open_files;
 use steps::Verdict;
+use storing::find_buffered_in;
+use storing::find_in;
+use storing::is_legal_buffered_in;
+use storing::is_legal_in;
 ghost use mathlib.Core.Path.{_≡_};
 ghost use mathlib.Core.Bool.{true, false, _&&_};
 ghost use mathlib.Core.List.{[]};
@@ -40,9 +44,10 @@ ghost use Rattle.geometry.specs.Places.{origin};
 ghost use Rattle.geometry.specs.Sizes.{blocked, compressed, random};
 ghost use Rattle.geometry.specs.Sizes as Sizes;
 ghost use Rattle.directory.specs.Entries.{isKind};
-ghost use Rattle.sessions.specs.Session.{openFiles, extent, legal};
+ghost use Rattle.sessions.specs.Session.{bare, openFiles, extent, legal, bufferedLegal};
 ghost use Rattle.steps.specs.Look.{shown};
 ghost use Rattle.requests.specs.declared.Answer.the-variants.{Done};
+ghost use Rattle.storing.specs.Stored.{sessionIn, bufferedIn};
 ghost use Rattle.judging.specs.Looks.{lookNumber, lookPart};
 ghost use Rattle.steps.specs.Next.{moved, counted, fileMet, entryDone};
 ghost use Rattle.steps.specs.Verdict.{seenBytes, seenScene, bufferNext, answerOf, verdictOf};
@@ -522,6 +527,81 @@ pub fn verdict(
         image,
         lawful,
         n,
+        e,
+        f,
+        held,
+        over,
+        i,
+        q,
+        given,
+        code,
+        buffer,
+    )
+}
+
+// The verdict on a request, the session standing in lent bytes.
+pub fn verdict_in(
+    image: &[u8],
+    session: &[u8],
+    i: usize,
+    q: Request,
+    given: &[u8],
+    code: usize,
+    buffer: &mut [u8],
+) -> Verdict
+    ensures { λ r. ⌜ (r ≡ verdictOf (legal (now (image .entry)) (sessionIn (now (session .entry)))) (openFiles (sessionIn (now (session .entry)) .files))
+        (length (now (buffer .entry))) code q (seenScene (now (image .entry)) (sessionIn (now (session .entry))) 0 [] i (now (given .entry))))
+        × (now (buffer .exit) ≡ bufferNext (answerOf (legal (now (image .entry)) (sessionIn (now (session .entry)))) (openFiles (sessionIn (now (session .entry)) .files))
+        (length (now (buffer .entry))) code q (seenScene (now (image .entry)) (sessionIn (now (session .entry))) 0 [] i (now (given .entry)))) q
+        (seenScene (now (image .entry)) (sessionIn (now (session .entry))) 0 [] i (now (given .entry))) (now (buffer .entry))) ⌝ }
+{
+    let seen = find_in(session, i);
+    let e = seen.entry;
+    let f = seen.file;
+    let lawful = is_legal_in(image, session);
+    let none = part(given, 0, 0);
+    verdict_on(
+        image,
+        lawful,
+        seen.opened,
+        e,
+        f,
+        0,
+        none,
+        i,
+        q,
+        given,
+        code,
+        buffer,
+    )
+}
+
+// The verdict on a request, the session with its buffers standing in lent bytes; the held sector of this file, if there is one, is lent as over.
+pub fn verdict_buffered_in(
+    image: &[u8],
+    session: &[u8],
+    held: u32,
+    over: &[u8],
+    i: usize,
+    q: Request,
+    given: &[u8],
+    code: usize,
+    buffer: &mut [u8],
+) -> Verdict
+    ensures { λ r. ⌜ (r ≡ verdictOf (bufferedLegal (now (image .entry)) (bufferedIn (now (session .entry)))) (openFiles (bare (bufferedIn (now (session .entry))) .files))
+        (length (now (buffer .entry))) code q (seenScene (now (image .entry)) (bare (bufferedIn (now (session .entry)))) held (now (over .entry)) i (now (given .entry))))
+        × (now (buffer .exit) ≡ bufferNext (answerOf (bufferedLegal (now (image .entry)) (bufferedIn (now (session .entry)))) (openFiles (bare (bufferedIn (now (session .entry))) .files))
+        (length (now (buffer .entry))) code q (seenScene (now (image .entry)) (bare (bufferedIn (now (session .entry)))) held (now (over .entry)) i (now (given .entry)))) q
+        (seenScene (now (image .entry)) (bare (bufferedIn (now (session .entry)))) held (now (over .entry)) i (now (given .entry))) (now (buffer .entry))) ⌝ }
+{
+    let seen = find_buffered_in(session, i);
+    let e = seen.entry;
+    let f = seen.file;
+    let lawful = is_legal_buffered_in(image, session);
+    verdict_on(
+        image,
+        lawful,
+        seen.opened,
         e,
         f,
         held,

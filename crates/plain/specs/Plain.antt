@@ -3,7 +3,10 @@ use mathlib.Core.List.{List}
 use Prim.Native.Nat.{ℕ}
 use Rattle.sessions.specs.Session.{extent}
 use Rattle.steps.specs.Next.{Scene}
-use Rattle.steps.specs.Step.{After}
+use Rattle.steps.specs.Step.{After, plainStep}
+use Rattle.judging.specs.Lent.{lentAfter}
+use Rattle.storing.specs.Stored.{isStored, sessionIn, stored}
+use Rattle.requests.specs.declared.Request.{Request}
 use Rattle.directory.specs.declared.Entry.{Entry}
 use Rattle.sessions.specs.declared.OpenFile.{OpenFile}
 use Rattle.sessions.specs.declared.Session.{Session}
@@ -16,3 +19,7 @@ sceneIn image i e f given = record { number = i; entry = e; file = f; bytes = ex
 -- a reply, with the image and the caller's buffer behind it
 abbrev pub after : Reply → List ℕ → List ℕ → After Session
 after r image buffer = record { answer = r .answer; image = image; session = r .session; buffer = buffer }
+
+-- a request on the session that lent bytes are
+unfoldable pub served : List ℕ → List ℕ → ℕ → Request → List ℕ → List ℕ → After (List ℕ)
+served image session i q given buffer = lentAfter (isStored session) stored session (plainStep image (sessionIn session) i q given buffer)

@@ -5,6 +5,7 @@ use directory::stamp;
 use geometry::Geometry;
 use geometry::part;
 use judging::verdict;
+use judging::verdict_in;
 use mounting::PlainMounted;
 use requests::Answer;
 use requests::Order;
@@ -16,6 +17,9 @@ use sessions::file_of;
 use sessions::slot_of;
 use sessions::spot_of;
 use steps::Verdict;
+use storing::find_in;
+use storing::put_entry;
+use storing::put_file;
 use straight::encode_given;
 use straight::store;
 use straight::write_blocked;
@@ -23,7 +27,7 @@ use straight::write_coded;
 ghost use mathlib.Core.Path.{_≡_};
 ghost use mathlib.Core.Bool.{true};
 ghost use Prim.Native.Nat.{_<_};
-ghost use lib.ListN.{set};
+ghost use lib.ListN.{length, set};
 ghost use Rattle.geometry.specs.Sizes.{compressed, entries};
 ghost use Rattle.coding.specs.Encode.{codeOf};
 ghost use Rattle.directory.specs.Entries.{isKind};
@@ -33,7 +37,9 @@ ghost use Rattle.steps.specs.Step.{plainStep};
 ghost use Rattle.steps.specs.Look.{plainLookAnswer, plainLook};
 ghost use Rattle.steps.specs.Effects.{writeEffects, effects, plainAll};
 ghost use Rattle.straight.specs.Straight.{writing, Encoded};
-ghost use Rattle.plain.specs.Plain.{sceneIn, after};
+ghost use Rattle.storing.specs.Stored.{entryWidth, entryStored, layEntry, layFile};
+ghost use Rattle.judging.specs.Lent.{afterIn};
+ghost use Rattle.plain.specs.Plain.{sceneIn, after, served};
 
 // ---- what a request answered 0 does to the image
 
@@ -170,6 +176,67 @@ pub fn request(
 {
     let mut code = [0u8; 135];
     request_in(image, s, i, q, given, &mut code, buffer)
+}
+
+// ---- a request on a session in lent bytes
+
+// Lays the entry and the state of a verdict over those of entry i and of state k.
+fn put_next(session: &mut [u8], i: usize, k: usize, v: Verdict)
+    ensures { λ _. ⌜ (now (session .exit) ≡ layFile (layEntry (now (session .entry)) i (v .entry)) k (v .file)) × (length (entryStored (v .entry)) ≡ entryWidth) ⌝ }
+{
+    let e = v.entry;
+    let f = v.file;
+    put_entry(session, i, e);
+    put_file(session, k, f);
+}
+
+// A request, with room for a code.
+fn serve_in(
+    image: &mut [u8],
+    session: &mut [u8],
+    i: usize,
+    q: Request,
+    given: &[u8],
+    code: &mut [u8; 135],
+    buffer: &mut [u8],
+) -> Answer
+    ensures { λ r. ⌜ afterIn r (now (image .exit)) (now (session .exit)) (now (buffer .exit))
+        ≡ served (now (image .entry)) (now (session .entry)) i q (now (given .entry)) (now (buffer .entry)) ⌝ }
+{
+    let seen = find_in(session, i);
+    let e = seen.entry;
+    let f = seen.file;
+    let n = encode_given(e, given, code);
+    let v = verdict_in(image, session, i, q, given, n, buffer);
+    let a = v.answer;
+    match a {
+        Answer::Done => {
+            act(image, i, e, f, q, given, part(code, 0, n));
+            put_next(session, i, seen.slot, v);
+            a
+        }
+        Answer::Met(_) => {
+            put_next(session, i, seen.slot, v);
+            a
+        }
+        Answer::Refused(_) => a,
+    }
+}
+
+// One request on entry i of the session that the lent bytes are, as `request` does it.
+pub fn serve(
+    image: &mut [u8],
+    session: &mut [u8],
+    i: usize,
+    q: Request,
+    given: &[u8],
+    buffer: &mut [u8],
+) -> Answer
+    ensures { λ r. ⌜ afterIn r (now (image .exit)) (now (session .exit)) (now (buffer .exit))
+        ≡ served (now (image .entry)) (now (session .entry)) i q (now (given .entry)) (now (buffer .entry)) ⌝ }
+{
+    let mut code = [0u8; 135];
+    serve_in(image, session, i, q, given, &mut code, buffer)
 }
 
 // ---- mounting, looks and positions

@@ -1,7 +1,9 @@
 -- The session's entry and state are those that it is judged by.
 use Rattle.geometry.proofs.Tests.{and-left}
+use Rattle.sessions.specs.Session.{legal}
 use Rattle.judging.proofs.Entered.{stands, by-session}
-use mathlib.Core.Path.{sym, _∙_}
+use mathlib.Core.Bool.{Bool, _&&_}
+use mathlib.Core.Path.{sym, ap, _∙_}
 use borrow.Author.Needs.{needs}
 use Rattle.judging.proofs.verdict.Statement.{statement}
 use Rattle.judging.proofs.verdict.Tie as tie
@@ -30,9 +32,8 @@ same-length c = search needs
 returns : tie.Need-returns
 returns c =
     let a = c .before .before .before .before .before .before .before .before .before .before .before .before .before .before .args in
-    by-session (a .image .now) (a .s) (a .sound) (a .held) (a .over .now) (a .i) (a .q) (a .given .now) (a .code) (a .buffer .now)
-    (c .before .before .before .before .before .is-legal .result) (c .before .before .before .before .open-files .result) (c .before .before .before .before .before .before .before .entry-of .result) (c .before .before .before .before .before .before .file-of .result)
-    (c .before .before .before .before .before .is-legal .ensures) (c .before .before .before .before .open-files .ensures) (c .before .before .before .before .before .before .before .entry-of .ensures) (c .before .before .before .before .before .before .file-of .ensures) _ _ (c .before .before .verdict-on .ensures)
+    by-session (a .image .now) (a .s) (a .held) (a .over .now) (a .i) (a .q) (a .given .now) (a .code) (a .buffer .now) (legal (a .image .now) (a .s) && a .sound) _ (c .before .before .before .before .open-files .result) (c .before .before .before .before .before .before .before .entry-of .result) (c .before .before .before .before .before .before .file-of .result)
+    (ap (λ (l : Bool). l && a .sound) (c .before .before .before .before .before .is-legal .ensures)) (c .before .before .before .before .open-files .ensures) (c .before .before .before .before .before .before .before .entry-of .ensures) (c .before .before .before .before .before .before .file-of .ensures) _ _ (c .before .before .verdict-on .ensures)
 
 pub verdict-spec : {M : Type 1} → statement M
 verdict-spec =
