@@ -44,10 +44,6 @@ nothing-over e f bytes = either (f .used && (isKind blocked e || isKind compress
     (λ (t : f .used && (isKind blocked e || isKind compressed e) ≡ true). rw (t, seenBytes))
     (λ (t : f .used && (isKind blocked e || isKind compressed e) ≡ false). rw (t, seenBytes))
 
-pub part-none : (xs : List ℕ) → part xs 0 0 ≡ []
-unfolding part
-part-none xs = refl
-
 and-true : (b : Bool) → b && true ≡ b
 and-true true = refl
 and-true false = refl
@@ -79,16 +75,23 @@ module _ (image : List ℕ) (s : Session) (i : ℕ) (q : Request) (given buffer 
   abbrev n : ℕ
   n = length (codeGiven (entryAt (s .table) i) given)
 
+  pub verdict-now : verdictOf (legal image s) (openFiles (s .files)) (length buffer) n q (seenScene image s 0 [] i given) ≡ j
+  unfolding seenScene plainScene
+  verdict-now = judged (openFiles (s .files)) (length buffer) q (legal image s) n (seenScene image s 0 [] i given) c refl refl (λ h. seen image s i given) (right image s i given)
+
+  pub buffer-now : bufferNext (answerOf (legal image s) (openFiles (s .files)) (length buffer) n q (seenScene image s 0 [] i given)) q (seenScene image s 0 [] i given) buffer
+      ≡ bufferNext a q c buffer
+  unfolding seenScene plainScene
+  buffer-now = buffer-judged (openFiles (s .files)) (length buffer) q (legal image s) n (seenScene image s 0 [] i given) c (λ h. seen image s i given) (right image s i given) buffer
+
   pub verdict-is : verdictOf (legal image s && true) (openFiles (s .files)) (length buffer) n q (seenScene image s 0 [] i given) ≡ j
   unfolding seenScene plainScene
-  verdict-is = ap (λ (b : Bool). verdictOf b (openFiles (s .files)) (length buffer) n q (seenScene image s 0 [] i given)) (and-true (legal image s))
-      ∙ judged (openFiles (s .files)) (length buffer) q (legal image s) n (seenScene image s 0 [] i given) c refl refl (λ h. seen image s i given) (right image s i given)
+  verdict-is = ap (λ (b : Bool). verdictOf b (openFiles (s .files)) (length buffer) n q (seenScene image s 0 [] i given)) (and-true (legal image s)) ∙ verdict-now
 
   pub buffer-is : bufferNext (answerOf (legal image s && true) (openFiles (s .files)) (length buffer) n q (seenScene image s 0 [] i given)) q (seenScene image s 0 [] i given) buffer
       ≡ bufferNext a q c buffer
   unfolding seenScene plainScene
-  buffer-is = ap (λ (b : Bool). bufferNext (answerOf b (openFiles (s .files)) (length buffer) n q (seenScene image s 0 [] i given)) q (seenScene image s 0 [] i given) buffer) (and-true (legal image s))
-      ∙ buffer-judged (openFiles (s .files)) (length buffer) q (legal image s) n (seenScene image s 0 [] i given) c (λ h. seen image s i given) (right image s i given) buffer
+  buffer-is = ap (λ (b : Bool). bufferNext (answerOf b (openFiles (s .files)) (length buffer) n q (seenScene image s 0 [] i given)) q (seenScene image s 0 [] i given) buffer) (and-true (legal image s)) ∙ buffer-now
 
   -- the session with the verdict's entry and state
   abbrev next : Verdict → Session

@@ -5,7 +5,8 @@ use Rattle.sessions.specs.Session.{openFiles, legal}
 use Rattle.steps.specs.Step.{plainScene}
 use Rattle.steps.specs.Verdict.{bufferNext}
 use Rattle.straight.proofs.Judged.{judgement}
-use Rattle.plain.proofs.Stepped.{part-none, verdict-is, buffer-is, done-after, met-after, refused-after, there, encoded}
+use Rattle.judging.proofs.Entered.{part-none}
+use Rattle.plain.proofs.Stepped.{verdict-is, buffer-is, done-after, met-after, refused-after, there, encoded}
 use Rattle.requests.specs.declared.Answer.{Answer}
 use Rattle.requests.specs.declared.Answer.the-variants.{Done}
 use mathlib.Core.Path.{_≡_, sym, ap, _∙_}
