@@ -30,8 +30,7 @@ use Rattle.sessions.specs.Session.{bare, fileOf, openFiles, extent, extentWith,
 use Rattle.sessions.proofs.Legal.{bare-legal, good-table}
 use Rattle.settling.proofs.Kept.{table-length}
 use Rattle.settling.proofs.Bench.{takes-held}
-use Rattle.settling.proofs.Next.{withBuffer, kept-used, kept-file}
-use Rattle.settling.proofs.Standing.{Standing, isOpen, isShut, standing, held-file, held-set}
+use Rattle.steps.proofs.Standing.{withBuffer, kept-used, kept-file, Standing, isOpen, isShut, standing, held-file, held-set}
 use Rattle.demands.specs.Demand3.{changed, readIn, putFirst, liesIn, goesIn, Holds, Buffers, Buffering, PutsBack, leaves, puts, stamps, OnlyPutsBack, isGranule, ByPuttingBack}
 use Rattle.geometry.specs.declared.Place.{Place}
 use Rattle.directory.specs.declared.Entry.{Entry}

@@ -28,8 +28,8 @@ use Rattle.steps.specs.Effects.{Effect, hold, change, store, stamp, putBack, wr
 use Rattle.steps.specs.Next.{Scene, counted, fileDone, entryDone}
 use Rattle.steps.specs.Step.{After, heldOf, plainScene, plainAnswer, plainAfter, plainStep, bufferedScene, bufferedAnswer, bufferedAfter, bufferedStep}
 use Rattle.settling.proofs.Bench.{takes-held}
-use Rattle.settling.proofs.Next.{withBuffer, entry-shape, shape-at}
-use Rattle.settling.proofs.Standing.{held-file}
+use Rattle.steps.proofs.Standing.{withBuffer, held-file}
+use Rattle.settling.proofs.Next.{entry-shape, shape-at}
 use Rattle.tapes.specs.Model.{Asked}
 use Rattle.demands.specs.Engine.{Engine, plainEngine, bufferedEngine, Standing, answered, stepOf, reportOf, reports, run}
 use Rattle.demands.specs.Demand2.{writing}

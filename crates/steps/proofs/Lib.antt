@@ -3,3 +3,5 @@ pub mod Compressed
 pub mod Inside
 pub mod Frame
 pub mod Coded
+pub mod Standing
+pub mod Seen
