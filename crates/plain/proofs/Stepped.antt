@@ -1,6 +1,6 @@
 -- A request is what its verdict says: nothing is held, so the scene that is judged is the engine's own; and each answer is its own case of the step.
 use mathlib.Core.Path.{_≡_, refl, ap, _∙_}
-use mathlib.Core.Bool.{Bool, true, false, _&&_}
+use mathlib.Core.Bool.{Bool, true, _&&_, and-true}
 use mathlib.Core.List.{List, []}
 use Prim.Native.Nat.{ℕ, _<_}
 use lib.ListN.{length, set}
@@ -32,10 +32,6 @@ use Rattle.steps.specs.declared.Verdict.{Verdict}
 pub part-none : (xs : List ℕ) → part xs 0 0 ≡ []
 unfolding part
 part-none xs = refl
-
-and-true : (b : Bool) → b && true ≡ b
-and-true true = refl
-and-true false = refl
 
 module _ (image : List ℕ) (s : Session) (i : ℕ) (given : List ℕ) where
   abbrev e : Entry

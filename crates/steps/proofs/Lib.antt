@@ -5,3 +5,4 @@ pub mod Frame
 pub mod Coded
 pub mod Standing
 pub mod Seen
+pub mod Answered
