@@ -1,3 +1,2 @@
 pub mod Acts
-pub mod Goes
 pub mod Stepped

@@ -9,30 +9,31 @@ use native.Mathlib.Omega.{arith}
 use native.Mathlib.Decide.{decLt}
 use lib.Dec.{eqb}
 use lib.Seq.{sets}
-use lib.ListN.{length, getD, set, List·getD-map, List·getD-eq-default}
+use lib.ListN.{length, getD, set, List·getD-eq-default}
 use borrow.Author.Tests.{eq-eqb, not-true}
 use Rattle.geometry.specs.Bytes.{part, lay}
 use Rattle.geometry.specs.Lists.{every, firstWith}
 use Rattle.geometry.specs.Sizes.{sector, entries, blocked, compressed}
 use Rattle.geometry.proofs.Bytes.{part-all}
-use Rattle.geometry.proofs.Tests.{either, both-ways, and-both, first-holds}
+use Rattle.geometry.proofs.Tests.{either, both-ways, chosen, not-chosen, and-both, first-holds}
 use Rattle.directory.specs.Entries.{entryAt, isKind}
 use Rattle.directory.proofs.Table.{getD-any}
 use Rattle.packing.specs.Reading.{overlaid, startOf}
 use Rattle.requests.specs.Judge.{judge}
 use Rattle.sessions.specs.Session.{idle, fresh, bare, fileOf, slotOf, openFiles, extent, extentWith, heldGood, legal, bufferedLegal}
-use Rattle.sessions.proofs.Files.{Finds, opened, closed, finds}
 use Rattle.sessions.proofs.Legal.{bare-legal, held-inside}
 use Rattle.steps.specs.Effects.{Bench, effects, bufferedAll}
 use Rattle.steps.specs.Next.{Scene, codeLength, factsOf}
 use Rattle.steps.specs.Step.{heldOf, kept, bufferedScene, bufferedAnswer, bufferedAfter, bufferedStep}
 use Rattle.steps.proofs.Inside.{AllSuit}
+use Rattle.steps.proofs.Seen.{nothing-over}
+use Rattle.steps.proofs.Standing.{heldAt, bare-at, Standing, isOpen, isShut, standing, held-file}
 use Rattle.steps.specs.Verdict.{seenBytes, seenScene, entryNext, fileNext, bufferNext, answerOf, verdictOf}
 use Rattle.straight.specs.Straight.{codeGiven, Encoded}
 use Rattle.straight.proofs.Judged.{judgement, judged, buffer-judged}
 use Rattle.held.specs.Held.{bench}
 use Rattle.buffered.specs.Buffered.{sceneWith, Found, stateAt, lentBy}
-use Rattle.buffered.proofs.Goes.{right, there, room, suits, lies-in, encoded}
+use Rattle.straight.proofs.Goes.{right, there, room, suits, lies-in, encoded}
 use Rattle.directory.specs.declared.Entry.{Entry}
 use Rattle.requests.specs.declared.Request.{Request}
 use Rattle.requests.specs.declared.Answer.{Answer}
@@ -51,21 +52,6 @@ pub lent : (b : BufferedFile) (n : ℕ) → length (b .buffer) ≡ sector → ((
 unfolding lentBy part
 lent b n l (inl h) = rw (h .0, h .1, lentBy) (part-all (b .buffer) sector l)
 lent b n l (inr h) = rw (h .0, h .1, lentBy)
-
--- a case whose test is known
-chosen : {A : Type 0} (t : Bool) (x y : A) → t ≡ true → elim t [ true ↦ x | false ↦ y ] ≡ x
-chosen true x y h = refl
-chosen false x y h = both-ways false h refl
-
-not-chosen : {A : Type 0} (t : Bool) (x y : A) → t ≡ false → elim t [ true ↦ x | false ↦ y ] ≡ y
-not-chosen true x y h = both-ways true refl h
-not-chosen false x y h = refl
-
-nothing-over : (e : Entry) (f : OpenFile) (bytes : List ℕ) (held : ℕ) → seenBytes e f bytes held [] ≡ bytes
-unfolding seenBytes overlaid
-nothing-over e f bytes held = either (f .used && (isKind blocked e || isKind compressed e))
-    (λ (t : f .used && (isKind blocked e || isKind compressed e) ≡ true). rw (t, seenBytes))
-    (λ (t : f .used && (isKind blocked e || isKind compressed e) ≡ false). rw (t, seenBytes))
 
 -- the held sector is seen where it is held, if only a file that has a buffer holds one
 seen-held : (e : Entry) (f : OpenFile) (b : BufferedFile) (image : List ℕ) → length (b .buffer) ≡ sector
@@ -102,14 +88,6 @@ module _ (files : List BufferedFile) (k : ℕ) (d : BufferedFile) where
       go (yes l) = rw (getD-any files k (fresh idle) d l) h
       go (no l) = ap (λ (b : BufferedFile). b .file .used) (List·getD-eq-default files (fresh idle) (omega arith))
 
-pub kept-open : (f : OpenFile) (b : BufferedFile) → f .used ≡ true → record { file = f; holds = b .holds; held = b .held; changed = b .changed; buffer = b .buffer } ≡ kept f b
-unfolding kept
-kept-open f b h = sym (chosen (f .used) _ _ h)
-
-pub kept-closed : (f : OpenFile) (b : BufferedFile) → f .used ≡ false → fresh f ≡ kept f b
-unfolding kept
-kept-closed f b h = sym (not-chosen (f .used) _ _ h)
-
 module _ (s : BufferedSession) (i : ℕ) where
   abbrev k : ℕ
   k = slotOf (bare s .files) i
@@ -120,21 +98,17 @@ module _ (s : BufferedSession) (i : ℕ) where
   abbrev b : BufferedFile
   b = getD (s .files) k (fresh idle)
 
-  bare-at : getD (bare s .files) k idle ≡ b .file
-  unfolding bare
-  bare-at = List·getD-map (λ f. f .file) (s .files) k (fresh idle)
-
   -- it is in use where the entry is open
   in-use : f .used ≡ b .file .used
-  in-use = go (finds (bare s .files) i)
+  in-use = go (standing s i)
     where
       unused : (n : ℕ) → n ≡ firstWith (λ f. not (f .used)) (bare s .files) → Dec (n < length (bare s .files)) → getD (bare s .files) n idle .used ≡ false
       unused n h (yes l) = rw h (not-true _ (first-holds (λ f. not (f .used)) (bare s .files) idle (rw h at l)))
       unused n h (no l) = ap (λ (f : OpenFile). f .used) (List·getD-eq-default (bare s .files) idle (omega arith))
 
-      go : Finds (bare s .files) i → f .used ≡ b .file .used
-      go (opened h p u e n) = ap (λ (f : OpenFile). f .used) (p ∙ bare-at)
-      go (closed p h n) = ap (λ (f : OpenFile). f .used) p ∙ sym (unused k h (decLt k (length (bare s .files)))) ∙ ap (λ (f : OpenFile). f .used) bare-at
+      go : Standing s i → f .used ≡ b .file .used
+      go (isOpen n o) = ap (λ (f : OpenFile). f .used) (o .file) ∙ ap (λ (n : ℕ). heldAt s n .file .used) (sym (o .slot))
+      go (isShut z) = ap (λ (f : OpenFile). f .used) (z .file) ∙ sym (unused k (z .slot) (decLt k (length (bare s .files)))) ∙ ap (λ (f : OpenFile). f .used) (bare-at s k)
 
   state-is : stateAt (s .files) k ≡ heldOf s i
   unfolding stateAt heldOf
@@ -146,26 +120,15 @@ module _ (s : BufferedSession) (i : ℕ) where
   pub state-told : (n : ℕ) (x : BufferedFile) → n ≡ k → x ≡ stateAt (s .files) n → x ≡ heldOf s i
   state-told n x h z = z ∙ ap (stateAt (s .files)) h ∙ state-is
 
-  pub held-file : heldOf s i .file ≡ f
-  held-file = go (finds (bare s .files) i)
-    where
-      go : Finds (bare s .files) i → heldOf s i .file ≡ f
-      go (opened h p u e n) = unfold heldOf in ap (λ (b : BufferedFile). b .file) (chosen (f .used) b (fresh idle) u) ∙ sym (p ∙ bare-at)
-      go (closed p h n) = unfold heldOf in ap (λ (b : BufferedFile). b .file) (not-chosen (f .used) b (fresh idle) (ap (λ (f : OpenFile). f .used) p)) ∙ sym p
-
   -- only an open blocked or compressed file holds a sector
   only-buffers : (image : List ℕ) → bufferedLegal image s ≡ true → heldOf s i .holds ≡ true
       → f .used && (isKind blocked (entryAt (s .table) i) || isKind compressed (entryAt (s .table) i)) ≡ true
-  only-buffers image ok h = go (finds (bare s .files) i)
+  only-buffers image ok h = go (standing s i)
     where
-      go : Finds (bare s .files) i → f .used && (isKind blocked (entryAt (s .table) i) || isKind compressed (entryAt (s .table) i)) ≡ true
-      go (opened l p u e n) =
-          let q : f ≡ b .file = p ∙ bare-at in
-          let o : heldOf s i ≡ b = unfold heldOf in chosen (f .used) b (fresh idle) u in
-          and-both _ _ u (held-inside image s ok k b (entryAt (s .table) i) refl (ap (entryAt (s .table)) (sym e ∙ ap (λ (f : OpenFile). f .entry) q)) (ap (λ (f : OpenFile). f .used) (sym q) ∙ u) (ap (λ (b : BufferedFile). b .holds) (sym o) ∙ h) .0)
-      go (closed p l n) =
-          let o : heldOf s i ≡ fresh idle = unfold heldOf in not-chosen (f .used) b (fresh idle) (ap (λ (f : OpenFile). f .used) p) in
-          both-ways (heldOf s i .holds) h (ap (λ (b : BufferedFile). b .holds) o)
+      go : Standing s i → f .used && (isKind blocked (entryAt (s .table) i) || isKind compressed (entryAt (s .table) i)) ≡ true
+      go (isOpen n o) = and-both _ _ (ap (λ (f : OpenFile). f .used) (o .file) ∙ o .used)
+          (held-inside image s ok n (heldAt s n) (entryAt (s .table) i) refl (ap (entryAt (s .table)) (sym (o .entry))) (o .used) (ap (λ (b : BufferedFile). b .holds) (sym (o .buffer)) ∙ h) .0)
+      go (isShut z) = both-ways (heldOf s i .holds) h (ap (λ (b : BufferedFile). b .holds) (z .buffer))
 
 -- ---- each answer
 

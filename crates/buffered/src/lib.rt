@@ -1,6 +1,7 @@
 // The engine with a blocking buffer for each open blocked or compressed file.
 use directory::Entry;
 use directory::entry_of;
+use directory::with_entry;
 use geometry::Geometry;
 use geometry::part;
 use held::Holding;
@@ -172,19 +173,6 @@ fn kept(f: OpenFile, b: BufferedFile) -> BufferedFile
         next
     } else {
         fresh(f)
-    }
-}
-
-// The table with another entry of number i, if it has one of that number.
-fn with_entry(table: [Entry; 18], i: usize, e: Entry) -> [Entry; 18]
-    ensures { λ r. ⌜ r ≡ set table i e ⌝ }
-{
-    if i < 18 {
-        let mut t = table;
-        t[i] = e;
-        t
-    } else {
-        table
     }
 }
 

@@ -16,7 +16,8 @@ use Rattle.mounting.proofs.Mounted.{mounts-length}
 use Rattle.tapes.specs.Model.{Asked, modelAt, isOpenModel}
 use Rattle.serving.proofs.Mounted.{none-open}
 use Rattle.serving.proofs.View.{view, view-at, open-at}
-use Rattle.settling.proofs.Kept.{Kept, heldAt, bare-at, settle-elsewhere, settle-table}
+use Rattle.steps.proofs.Standing.{heldAt, bare-at}
+use Rattle.settling.proofs.Kept.{Kept, settle-elsewhere, settle-table}
 use Rattle.settling.proofs.Step.{Agrees}
 use Rattle.demands.specs.Engine.{plainEngine, bufferedEngine, Standing, answered, stepOf, run, mounted}
 use Rattle.demands.specs.Demand2.{Faithful, CountsStored}

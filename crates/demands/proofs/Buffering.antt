@@ -28,15 +28,14 @@ use Rattle.requests.proofs.Done.{Live, Allows, done-allows}
 use Rattle.requests.proofs.Live.{done-live}
 use Rattle.sessions.specs.Session.{bare, fileOf, openFiles, extent, extentWith, bufferedLegal, typed}
 use Rattle.sessions.proofs.Legal.{bare-legal, good-table}
+use Rattle.steps.proofs.Answered.{buffered-answered, buffered-is}
 use Rattle.settling.proofs.Kept.{table-length}
 use Rattle.settling.proofs.Bench.{takes-held}
-use Rattle.settling.proofs.Next.{withBuffer, kept-used, kept-file}
-use Rattle.settling.proofs.Standing.{Standing, isOpen, isShut, standing, held-file, held-set}
+use Rattle.steps.proofs.Standing.{withBuffer, kept-used, kept-file, Standing, isOpen, isShut, standing, held-file, held-set}
 use Rattle.demands.specs.Demand3.{changed, readIn, putFirst, liesIn, goesIn, Holds, Buffers, Buffering, PutsBack, leaves, puts, stamps, OnlyPutsBack, isGranule, ByPuttingBack}
 use Rattle.geometry.specs.declared.Place.{Place}
 use Rattle.directory.specs.declared.Entry.{Entry}
-use Rattle.requests.specs.declared.Answer.{Answer}
-use Rattle.requests.specs.declared.Answer.the-variants.{Done, Met, Refused}
+use Rattle.requests.specs.declared.Answer.the-variants.{Done}
 use Rattle.sessions.specs.declared.BufferedFile.{BufferedFile}
 use Rattle.sessions.specs.declared.BufferedSession.{BufferedSession}
 use Rattle.sessions.specs.declared.OpenFile.{OpenFile}
@@ -235,23 +234,9 @@ module _ (image : List ℕ) (s : BufferedSession) (i : ℕ) (given buffer : List
   abbrev scene : Scene
   scene = bufferedScene image s i given
 
-  answer-is : (q : Request) (a : Answer) → bufferedAfter a image s q scene (heldOf s i) buffer .answer ≡ a
-  unfolding bufferedAfter
-  answer-is q Done = refl
-  answer-is q (Met x) = refl
-  answer-is q (Refused x) = refl
-
-  pub is-done : (q : Request) → bufferedStep image s i q given buffer .answer ≡ Done → bufferedAnswer image s i q given (length buffer) ≡ Done
-  unfolding bufferedStep
-  is-done q h = sym (answer-is q (bufferedAnswer image s i q given (length buffer))) ∙ h
-
-  pub step-is : (q : Request) → bufferedStep image s i q given buffer .answer ≡ Done → bufferedStep image s i q given buffer ≡ bufferedAfter Done image s q scene (heldOf s i) buffer
-  unfolding bufferedStep
-  step-is q h = ap (λ (a : Answer). bufferedAfter a image s q scene (heldOf s i) buffer) (is-done q h)
-
   pub allowed : (q : Request) → bufferedStep image s i q given buffer .answer ≡ Done → Allows q (factsOf (bufferedLegal image s) (openFiles (bare s .files)) (length buffer) q scene)
   unfolding bufferedAnswer
-  allowed q d = done-allows q _ (is-done q d)
+  allowed q d = done-allows q _ (sym (buffered-answered image s i q given buffer) ∙ d)
 
   -- a file that stays open is found in the session that is left, with the buffer that it then has
   pub left-is : (q : Request) → Live (factsOf (bufferedLegal image s) (openFiles (bare s .files)) (length buffer) q scene) → fileDone q scene .used ≡ true → fileDone q scene .entry ≡ fileOf (bare s .files) i .entry
@@ -267,7 +252,7 @@ module _ (image : List ℕ) (s : BufferedSession) (i : ℕ) (given buffer : List
           let f : OpenFile = fileDone q scene in
           let w : f .entry ≡ i = e ∙ ap (λ (x : OpenFile). x .entry) (o .file) ∙ o .entry in
           let t : List Entry = set (s .table) i (entryDone q scene) in
-          ap (λ (x : After BufferedSession). heldOf (x .session) i) (step-is q d)
+          ap (λ (x : After BufferedSession). heldOf (x .session) i) (buffered-is image s i q given buffer Done d)
           ∙ ap (λ (m : ℕ). heldOf (record { table = t; files = set (s .files) m (kept f after) }) i) (o .slot)
           ∙ held-set s i n o t (kept f after) (ap (λ (x : OpenFile). x .used) (kept-file f after) ∙ u) (ap (λ (x : OpenFile). x .entry) (kept-file f after) ∙ w)
           ∙ kept-used f after u
@@ -282,14 +267,14 @@ module _ (image : List ℕ) (s : BufferedSession) (i : ℕ) (given buffer : List
     write-inside : bufferedStep image s i Write given buffer .answer ≡ Done → heldOf s i .holds ≡ true
         → every (λ k. eqb k (heldOf s i .held)) (changed (entryAt (s .table) i) (heldOf s i .file) given) ≡ true → bufferedStep image s i Write given buffer .image ≡ image
     unfolding bufferedAfter effects bufferedScene
-    write-inside d h r = ap (λ (x : After BufferedSession). x .image) (step-is Write d) ∙ write-stays scene found kind h (rw (held-file s i) at r)
+    write-inside d h r = ap (λ (x : After BufferedSession). x .image) (buffered-is image s i Write given buffer Done d) ∙ write-stays scene found kind h (rw (held-file s i) at r)
 
     read-inside : bufferedStep image s i Read given buffer .answer ≡ Done → heldOf s i .holds ≡ true
         → every (λ k. eqb k (heldOf s i .held)) (readIn (entryAt (s .table) i) (heldOf s i .file) (extentWith (entryAt (s .table) i) (heldOf s i) image)) ≡ true
         → bufferedStep image s i Read given buffer .image ≡ image
     unfolding bufferedAfter effects bufferedScene
     read-inside d h r =
-        ap (λ (x : After BufferedSession). x .image) (step-is Read d) ∙ ap (λ (w : Bench). w .image) (read-stays scene found kind h
+        ap (λ (x : After BufferedSession). x .image) (buffered-is image s i Read given buffer Done d) ∙ ap (λ (w : Bench). w .image) (read-stays scene found kind h
         (subst (λ (f : OpenFile). every (λ k. eqb k (heldOf s i .held)) (readIn (entryAt (s .table) i) f (extentWith (entryAt (s .table) i) (heldOf s i) image)) ≡ true) (held-file s i) r))
 
     -- an order puts back first, unless it is a skip; a close then writes in the directory alone
@@ -313,7 +298,7 @@ module _ (image : List ℕ) (s : BufferedSession) (i : ℕ) (given buffer : List
 
     order-puts : (o : Order) → bufferedStep image s i (Position o) given buffer .answer ≡ Done
         → extent (entryAt (s .table) i) (bufferedStep image s i (Position o) given buffer .image) ≡ extent (entryAt (s .table) i) (putFirst o (entryAt (s .table) i) found)
-    order-puts o d = ap (λ (x : After BufferedSession). extent (entryAt (s .table) i) (x .image)) (step-is (Position o) d) ∙ after-order o (done-live (Position o) _ (allowed (Position o) d))
+    order-puts o d = ap (λ (x : After BufferedSession). extent (entryAt (s .table) i) (x .image)) (buffered-is image s i (Position o) given buffer Done d) ∙ after-order o (done-live (Position o) _ (allowed (Position o) d))
 
     buffers-well : Buffers image s i given buffer (entryAt (s .table) i) (heldOf s i)
     unfolding fileDone effects bufferedScene

@@ -20,8 +20,8 @@ use Rattle.steps.specs.Verdict.{entryNext, fileNext}
 use Rattle.steps.proofs.Inside.{buffers, lawful, suit}
 use Rattle.serving.proofs.Keeping.{goes-used, goes, Of, done, met, legal-next}
 use Rattle.settling.proofs.Bench.{Within, within-all, length-all}
-use Rattle.settling.proofs.Kept.{heldAt, table-length, files-length}
-use Rattle.settling.proofs.Standing.{Standing, isOpen, isShut, standing}
+use Rattle.steps.proofs.Standing.{heldAt, Standing, isOpen, isShut, standing}
+use Rattle.settling.proofs.Kept.{table-length, files-length}
 use Rattle.settling.proofs.Next.{SameShape, same-shape, entry-shape, bare-next, held-next}
 use Rattle.settling.proofs.Begin.{mounted-kept}
 use Rattle.demands.specs.Engine.{bufferedEngine}

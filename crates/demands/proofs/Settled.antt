@@ -14,7 +14,8 @@ use Rattle.steps.specs.Step.{plainStep}
 use Rattle.tapes.specs.Model.{Asked, Report}
 use Rattle.serving.proofs.Keeping.{legal-step}
 use Rattle.settling.proofs.Settle.{settle}
-use Rattle.settling.proofs.Kept.{Kept, heldAt, bare-at, used-entry, table-length, files-length}
+use Rattle.steps.proofs.Standing.{heldAt, bare-at}
+use Rattle.settling.proofs.Kept.{Kept, used-entry, table-length, files-length}
 use Rattle.settling.proofs.Scene.{settled-legal}
 use Rattle.settling.proofs.Step.{Agrees, step-agrees}
 use Rattle.settling.proofs.Look.{look-agrees}

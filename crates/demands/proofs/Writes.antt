@@ -27,15 +27,16 @@ use Rattle.sessions.specs.Session.{bare, fileOf}
 use Rattle.steps.specs.Effects.{Effect, hold, change, store, stamp, putBack, writeEffects, blockedEffect, effects, Bench, puttingBack, loaded, taking, working, plainDo, plainAll, bufferedDo, bufferedAll}
 use Rattle.steps.specs.Next.{Scene, counted, fileDone, entryDone}
 use Rattle.steps.specs.Step.{After, heldOf, plainScene, plainAnswer, plainAfter, plainStep, bufferedScene, bufferedAnswer, bufferedAfter, bufferedStep}
+use Rattle.steps.proofs.Answered.{plain-is, buffered-is}
 use Rattle.settling.proofs.Bench.{takes-held}
-use Rattle.settling.proofs.Next.{withBuffer, entry-shape, shape-at}
-use Rattle.settling.proofs.Standing.{held-file}
+use Rattle.steps.proofs.Standing.{withBuffer, held-file}
+use Rattle.settling.proofs.Next.{entry-shape, shape-at}
 use Rattle.tapes.specs.Model.{Asked}
 use Rattle.demands.specs.Engine.{Engine, plainEngine, bufferedEngine, Standing, answered, stepOf, reportOf, reports, run}
 use Rattle.demands.specs.Demand2.{writing}
 use Rattle.demands.specs.Writes.{plainWrites, backWrites, takeWrites, bufferedWrites, effectsOf, plainSum, bufferedSum, benchOf, plainCount, bufferedCount, inRun, allDone, records, closing, Counted, BlockedAt, Saving}
 use Rattle.demands.proofs.Answers.{number-done}
-use Rattle.demands.proofs.Buffering.{step-is, allowed, left-is}
+use Rattle.demands.proofs.Buffering.{allowed, left-is}
 use Rattle.directory.specs.declared.Entry.{Entry}
 use Rattle.requests.specs.declared.Answer.{Answer}
 use Rattle.requests.specs.declared.Answer.the-variants.{Done, Met, Refused}
@@ -162,19 +163,10 @@ module _ (w : Standing Session) (i : ℕ) (b : isKind blocked (entryAt (w .sessi
   unfolding plainCount effectsOf plainSum plainWrites blockedEffect plainScene
   plain-one = ap (λ (a : Answer). plainSum (effectsOf a Write plain-scene)) d ∙ ap plainSum (blocked-effects plain-scene b)
 
-  plain-is : answered plainEngine w (writing i given) ≡ plainAfter Done (w .image) (w .session) Write plain-scene []
-  unfolding answered plainStep
-  plain-is = ap (λ (a : Answer). plainAfter a (w .image) (w .session) Write plain-scene []) (sym (answer-is (plainAnswer (w .image) (w .session) i Write given 0)) ∙ d)
-    where
-      answer-is : (a : Answer) → plainAfter a (w .image) (w .session) Write plain-scene [] .answer ≡ a
-      answer-is Done = unfold plainAfter in refl
-      answer-is (Met x) = unfold plainAfter in refl
-      answer-is (Refused x) = unfold plainAfter in refl
-
   still-blocked : isKind blocked (entryAt (stepOf plainEngine w (writing i given) .session .table) i) ≡ true
-  unfolding stepOf plainAfter plainScene
+  unfolding stepOf answered plainAfter plainScene
   still-blocked =
-      ap (λ (x : After Session). isKind blocked (entryAt (x .session .table) i)) plain-is
+      ap (λ (x : After Session). isKind blocked (entryAt (x .session .table) i)) (plain-is (w .image) (w .session) i Write given [] Done d)
       ∙ ap (λ (k : ℕ). eqb k blocked) (shape-at (w .session .table) i (entryDone Write plain-scene) (entry-shape Write plain-scene) i .kind)
       ∙ b
 
@@ -231,7 +223,7 @@ module _ (image : List ℕ) (s : BufferedSession) (i p q : ℕ) (at : BlockedAt 
   entry-then : entryAt (next .table) i ≡ entryDone Write scene
   unfolding bufferedAfter bufferedScene
   entry-then =
-      ap (λ (x : After BufferedSession). entryAt (x .session .table) i) (step-is image s i given buffer Write d)
+      ap (λ (x : After BufferedSession). entryAt (x .session .table) i) (buffered-is image s i Write given buffer Done d)
       ∙ getD-set-same (s .table) i (entryDone Write scene) freeEntry (used-inside (s .table) i (omega (arith, eqb-true (entryAt (s .table) i .kind) blocked is-blocked)))
 
   behind : Behind next i q p

@@ -7,7 +7,7 @@ use geometry::word_at;
 ghost use mathlib.Core.Path.{_≡_};
 ghost use mathlib.Core.List.{_++_};
 ghost use lib.Dec.{eqb};
-ghost use lib.ListN.{drop, replicate};
+ghost use lib.ListN.{drop, replicate, set};
 ghost use Rattle.geometry.specs.Bytes.{padded, word};
 ghost use Rattle.geometry.specs.Bytes as Bytes;
 ghost use Rattle.geometry.specs.Lists.{every};
@@ -156,6 +156,19 @@ pub fn entry_of(t: [Entry; 18], i: usize) -> Entry
         t[i]
     } else {
         free_entry()
+    }
+}
+
+// The table with another entry of number i, if it has one of that number.
+pub fn with_entry(table: [Entry; 18], i: usize, e: Entry) -> [Entry; 18]
+    ensures { λ r. ⌜ r ≡ set table i e ⌝ }
+{
+    if i < Geometry::ENTRIES {
+        let mut t = table;
+        t[i] = e;
+        t
+    } else {
+        table
     }
 }
 

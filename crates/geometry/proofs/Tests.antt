@@ -23,6 +23,15 @@ either false f g = g refl
 pub both-ways : {P : Type 0} (b : Bool) → b ≡ true → b ≡ false → P
 both-ways b h k = absurd (true≢false (sym h ∙ k))
 
+-- a case whose test is known
+pub chosen : {A : Type 0} (t : Bool) (x y : A) → t ≡ true → elim t [ true ↦ x | false ↦ y ] ≡ x
+chosen true x y h = refl
+chosen false x y h = both-ways false h refl
+
+pub not-chosen : {A : Type 0} (t : Bool) (x y : A) → t ≡ false → elim t [ true ↦ x | false ↦ y ] ≡ y
+not-chosen true x y h = both-ways true refl h
+not-chosen false x y h = refl
+
 pub and-left : (a b : Bool) → a && b ≡ true → a ≡ true
 and-left true b h = refl
 and-left false b h = h

@@ -2,6 +2,7 @@
 use directory::Entry;
 use directory::entry_of;
 use directory::stamp;
+use directory::with_entry;
 use geometry::Geometry;
 use geometry::part;
 use judging::verdict;
@@ -82,19 +83,6 @@ fn act(image: &mut [u8], i: usize, e: Entry, f: OpenFile, q: Request, given: &[u
 pub struct Reply {
     pub answer: Answer,
     pub session: Session,
-}
-
-// The table with another entry of number i, if it has one of that number.
-fn with_entry(table: [Entry; 18], i: usize, e: Entry) -> [Entry; 18]
-    ensures { λ r. ⌜ r ≡ set table i e ⌝ }
-{
-    if i < 18 {
-        let mut t = table;
-        t[i] = e;
-        t
-    } else {
-        table
-    }
 }
 
 // The open-file states with another one of number k, if there is one of that number.

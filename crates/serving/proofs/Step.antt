@@ -5,12 +5,11 @@ use mathlib.Core.Bool.{true, false}
 use mathlib.Core.List.{List, []}
 use Prim.Native.Nat.{ℕ, _+_, _*_, _≤_, _<_}
 use native.Mathlib.Omega.{arith}
-use lib.Dec.{eqb}
 use lib.ListN.{length, getD, set, List·getD-map}
 use lib.Seq.{set-getD, map-set-same}
 use borrow.Author.Tests.{eqb-true}
 use Rattle.geometry.specs.Bytes.{part, lay}
-use Rattle.geometry.specs.Sizes.{sector, random, free}
+use Rattle.geometry.specs.Sizes.{sector, random}
 use Rattle.geometry.specs.Places.{placeOf, byteOf, capacity}
 use Rattle.geometry.proofs.Bytes.{lay-nil, part-part}
 use Rattle.geometry.proofs.Places.{record-inside}
@@ -41,29 +40,12 @@ use Rattle.directory.specs.declared.Entry.{Entry}
 use Rattle.sessions.specs.declared.Session.{Session}
 use Rattle.requests.specs.declared.Answer.{Answer}
 use Rattle.requests.specs.declared.Answer.the-variants.{Done, Met, Refused}
+use Rattle.requests.proofs.First.{not-there}
+use Rattle.steps.proofs.Answered.{plain-answered}
 use Rattle.requests.specs.declared.Edge.{Edge}
 use Rattle.requests.specs.declared.Facts.{Facts}
-use Rattle.requests.specs.declared.Order.the-variants.{WriteMark, RewindOnline, RewindOffline, RecordForward, RecordBack, FileForward, FileBack}
-use Rattle.requests.specs.declared.Refusal.the-variants.{NotThere}
 use Rattle.requests.specs.declared.Request.{Request}
 use Rattle.requests.specs.declared.Request.the-variants.{Open, Read, Write, GranuleRead, GranuleWrite, GranuleLook, Position}
-
--- 8 "no such entry"
-not-there : (q : Request) (f : Facts) → f .legal ≡ true → eqb (f .kind) free ≡ true → judge q f ≡ Refused NotThere
-unfolding judge tests firstOf orElse whether
-not-there Open f l k = rw (l, k)
-not-there Read f l k = rw (l, k)
-not-there Write f l k = rw (l, k)
-not-there (GranuleRead g) f l k = rw (l, k)
-not-there (GranuleWrite g) f l k = rw (l, k)
-not-there (GranuleLook g) f l k = rw (l, k)
-not-there (Position WriteMark) f l k = rw (l, k)
-not-there (Position RewindOnline) f l k = rw (l, k)
-not-there (Position RewindOffline) f l k = rw (l, k)
-not-there (Position RecordForward) f l k = rw (l, k)
-not-there (Position RecordBack) f l k = rw (l, k)
-not-there (Position FileForward) f l k = rw (l, k)
-not-there (Position FileBack) f l k = rw (l, k)
 
 -- what a change of one member leaves as it was
 set-alike : {A B : Type 0} (f : A → B) (l : List A) (i : ℕ) (a : A) (k : ℕ) (d : A) → f a ≡ f (getD l i d) → f (getD (set l i a) k d) ≡ f (getD l k d)
@@ -157,12 +139,7 @@ module _ (image : List ℕ) (s : Session) (v : Stands image s) (i : ℕ) (given 
 
     pub answer-step : plainStep image s i q given buffer .answer ≡ modelAnswer ms (asked i q given buffer)
     unfolding plainStep plainScene
-    answer-step = same (plainAnswer image s i q given (length buffer)) ∙ answer-same
-      where
-        same : (a : Answer) → plainAfter a image s q c buffer .answer ≡ a
-        same Done = unfold plainAfter in refl
-        same (Met x) = unfold plainAfter in refl
-        same (Refused x) = unfold plainAfter in refl
+    answer-step = plain-answered image s i q given buffer ∙ answer-same
 
     -- ---- the bytes that are moved
 

@@ -10,7 +10,8 @@ use Rattle.sessions.proofs.Unheld.{bare-unheld, unheld-at, unheld-legal}
 use Rattle.mounting.specs.Mounting.{plainMount, bufferedMount}
 use Rattle.mounting.proofs.Mounted.{mounted-legal, mounted-typed}
 use Rattle.settling.proofs.Settle.{empty, heldBy, holdOf, settle, back-empty}
-use Rattle.settling.proofs.Kept.{Kept, InStep, heldAt, holds, hold-at, hold-used, hold-unused}
+use Rattle.steps.proofs.Standing.{heldAt}
+use Rattle.settling.proofs.Kept.{Kept, InStep, holds, hold-at, hold-used, hold-unused}
 use Rattle.directory.specs.declared.Entry.{Entry}
 use Rattle.sessions.specs.declared.BufferedSession.{BufferedSession}
 use Rattle.sessions.specs.declared.OpenFile.{OpenFile}

@@ -1,9 +1,9 @@
 -- What holds of every session of the buffered engine from a mounting on, and what it says of one file among the others: its buffer is as
 -- legality says, and what the others hold lies elsewhere.
 use mathlib.Core.Path.{_≡_, refl, sym, ap, subst, _∙_}
-use mathlib.Core.Bool.{Bool, true, false, _&&_}
-use mathlib.Core.List.{List, [], _∷_, map}
-use Prim.Native.Nat.{ℕ, zero, suc, _+_, _*_, _≤_, _<_}
+use mathlib.Core.Bool.{true, false, _&&_}
+use mathlib.Core.List.{List, map}
+use Prim.Native.Nat.{ℕ, _+_, _*_, _≤_, _<_}
 use native.Mathlib.Omega.{arith}
 use lib.ListN.{length, getD, set, length-set, List·getD-map}
 use lib.Dec.{eqb}
@@ -13,7 +13,7 @@ use Rattle.geometry.specs.Lists.{every}
 use Rattle.geometry.specs.Sizes.{sector, entries, mostOpen, sectorsOf}
 use Rattle.geometry.proofs.Bytes.{Apart}
 use Rattle.geometry.proofs.Places.{lawful-whole}
-use Rattle.geometry.proofs.Tests.{either, both-ways, and-left, and-right, and-both, every-any, every-set, every-set-same}
+use Rattle.geometry.proofs.Tests.{either, and-left, and-right, and-both, every-any, every-set, every-set-same, chosen, not-chosen}
 use Rattle.directory.specs.Entries.{tableOf, entryAt, freeEntry, isFree}
 use Rattle.directory.specs.Rules.{tableGood}
 use Rattle.directory.proofs.Table.{table-part}
@@ -22,6 +22,7 @@ use Rattle.sessions.specs.Session.{idle, fresh, bare, legal, bufferedLegal, typ
 use Rattle.sessions.proofs.Legal.{lawful-length, good-table, entry-inside, entry-used, bare-legal, held-inside}
 use Rattle.steps.specs.Effects.{sectorAt}
 use Rattle.steps.proofs.Inside.{buffers}
+use Rattle.steps.proofs.Standing.{heldAt, bare-at}
 use Rattle.settling.proofs.Settle.{Hold, empty, holdAt, heldBy, holdOf, settle, back-getD, back-part}
 use Rattle.settling.proofs.Bench.{Fits, Clear, held-off}
 use Rattle.directory.specs.declared.Entry.{Entry}
@@ -34,28 +35,10 @@ abbrev pub InStep : List ℕ → List Entry → BufferedFile → Type 0
 InStep image table b =
     b .file .used ≡ true → b .holds ≡ true → b .changed ≡ false → b .buffer ≡ part image (sectorAt (entryAt table (b .file .entry)) (b .held)) sector
 
--- the state of number k with its buffer
-abbrev pub heldAt : BufferedSession → ℕ → BufferedFile
-heldAt s k = getD (s .files) k (fresh idle)
-
 pub record Kept (image : List ℕ) (s : BufferedSession) : Type 0 where
   pub isLegal : bufferedLegal image s ≡ true
   pub isTyped : typed s ≡ true
   pub inStep : (k : ℕ) → InStep image (s .table) (heldAt s k)
-
--- a case whose test is known
-pub chosen : {A : Type 0} (t : Bool) (x y : A) → t ≡ true → elim t [ true ↦ x | false ↦ y ] ≡ x
-chosen true x y h = refl
-chosen false x y h = both-ways false h refl
-
-pub not-chosen : {A : Type 0} (t : Bool) (x y : A) → t ≡ false → elim t [ true ↦ x | false ↦ y ] ≡ y
-not-chosen true x y h = both-ways true refl h
-not-chosen false x y h = refl
-
-pub map-set : {A B : Type 0} (f : A → B) (xs : List A) (k : ℕ) (y : A) → map f (set xs k y) ≡ set (map f xs) k (f y)
-map-set f [] k y = refl
-map-set f (x ∷ xs) zero y = refl
-map-set {B = B} f (x ∷ xs) (suc k) y = ap (λ (zs : List B). f x ∷ zs) (map-set f xs k y)
 
 -- ---- what `typed` says
 
@@ -92,10 +75,6 @@ module _ (s : BufferedSession) (t : typed s ≡ true) where
       (every-set (λ b. eqb (length (b .buffer)) sector) (s .files) k b buffers-whole (eq-eqb (length (b .buffer)) sector l))))
 
 -- ---- the states, bare and with what they hold
-
-pub bare-at : (s : BufferedSession) (k : ℕ) → getD (bare s .files) k idle ≡ heldAt s k .file
-unfolding bare
-bare-at s k = List·getD-map (λ f. f .file) (s .files) k (fresh idle)
 
 abbrev pub holds : BufferedSession → List Hold
 holds s = map (holdOf (s .table)) (s .files)

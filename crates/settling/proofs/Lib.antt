@@ -1,7 +1,6 @@
 pub mod Settle
 pub mod Bench
 pub mod Kept
-pub mod Standing
 pub mod Scene
 pub mod Next
 pub mod Served

@@ -10,7 +10,7 @@ use Rattle.geometry.specs.Places.{capacity, placeOf, byteOf}
 use Rattle.geometry.specs.Sizes.{sector, random}
 use Rattle.geometry.proofs.Bytes.{part-part}
 use Rattle.geometry.proofs.Places.{record-inside}
-use Rattle.geometry.proofs.Tests.{either, both-ways}
+use Rattle.geometry.proofs.Tests.{either, both-ways, not-chosen}
 use Rattle.directory.specs.Entries.{entryAt}
 use Rattle.requests.proofs.Done.{Finds, done-allows}
 use Rattle.sessions.specs.Session.{bare, openFiles, extent, extentWith}
@@ -19,7 +19,7 @@ use Rattle.steps.specs.Step.{heldOf, bufferedScene, bufferedAnswer}
 use Rattle.steps.specs.Look.{shown, plainLook, plainLookAnswer, bufferedLook, bufferedLookAnswer}
 use Rattle.steps.proofs.Inside.{buffers, no-buffer}
 use Rattle.settling.proofs.Settle.{settle}
-use Rattle.settling.proofs.Kept.{Kept, not-chosen, entry-lies}
+use Rattle.settling.proofs.Kept.{Kept, entry-lies}
 use Rattle.settling.proofs.Scene.{same-bytes, same-answer}
 use Rattle.settling.proofs.Step.{live-slot}
 use Rattle.directory.specs.declared.Entry.{Entry}

@@ -13,7 +13,7 @@ use Rattle.sessions.specs.Session.{fresh, bare, heldGood}
 use Rattle.steps.specs.Next.{Scene, entryDone, counted}
 use Rattle.steps.specs.Step.{kept}
 use Rattle.steps.proofs.Inside.{buffers}
-use Rattle.settling.proofs.Kept.{chosen, not-chosen, map-set}
+use Rattle.steps.proofs.Standing.{withBuffer, kept-used, kept-unused, kept-file, map-set}
 use Rattle.directory.specs.declared.Entry.{Entry}
 use Rattle.requests.specs.declared.Order.the-variants.{WriteMark, RewindOnline, RewindOffline, RecordForward, RecordBack, FileForward, FileBack}
 use Rattle.requests.specs.declared.Request.{Request}
@@ -55,22 +55,6 @@ entry-shape (Position RecordForward) c = same-shape (c .entry)
 entry-shape (Position RecordBack) c = same-shape (c .entry)
 entry-shape (Position FileForward) c = same-shape (c .entry)
 entry-shape (Position FileBack) c = same-shape (c .entry)
-
--- ---- the file's next state, with the buffer that it then has
-
-abbrev pub withBuffer : OpenFile → BufferedFile → BufferedFile
-withBuffer f b = record { file = f; holds = b .holds; held = b .held; changed = b .changed; buffer = b .buffer }
-
-pub kept-used : (f : OpenFile) (b : BufferedFile) → f .used ≡ true → kept f b ≡ withBuffer f b
-unfolding kept
-kept-used f b u = chosen (f .used) (withBuffer f b) (fresh f) u
-
-pub kept-unused : (f : OpenFile) (b : BufferedFile) → f .used ≡ false → kept f b ≡ fresh f
-unfolding kept
-kept-unused f b u = not-chosen (f .used) (withBuffer f b) (fresh f) u
-
-pub kept-file : (f : OpenFile) (b : BufferedFile) → kept f b .file ≡ f
-kept-file f b = either (f .used) (λ (u : f .used ≡ true). ap (λ (x : BufferedFile). x .file) (kept-used f b u)) (λ (u : f .used ≡ false). ap (λ (x : BufferedFile). x .file) (kept-unused f b u))
 
 -- a held sector in its file's extent
 held-good : (table : List Entry) (b : BufferedFile) (e : Entry) → SameShape (entryAt table (b .file .entry)) e → (b .holds ≡ true → (buffers e ≡ true) × (b .held < e .sectors)) → heldGood table b ≡ true

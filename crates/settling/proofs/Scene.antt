@@ -11,7 +11,7 @@ use Rattle.geometry.specs.Bytes.{part, lay, word}
 use Rattle.geometry.specs.Lists.{every}
 use Rattle.geometry.specs.Sizes.{sector, sectorsOf}
 use Rattle.geometry.proofs.Bytes.{part-lay-within}
-use Rattle.geometry.proofs.Tests.{either, and-left, and-right, all-getD, every-any}
+use Rattle.geometry.proofs.Tests.{either, and-left, and-right, all-getD, every-any, chosen, not-chosen}
 use Rattle.directory.specs.Entries.{entryAt, entryBytes, freeEntry, isFree}
 use Rattle.directory.specs.Rules.{freeIsZero, tableGood, tableRules}
 use Rattle.directory.proofs.Free.{zero-entry}
@@ -21,8 +21,8 @@ use Rattle.steps.specs.Effects.{sectorAt, Bench}
 use Rattle.steps.specs.Step.{heldOf, plainScene, plainAnswer, bufferedScene, bufferedAnswer}
 use Rattle.settling.proofs.Settle.{Hold, empty, back, allBack, holdAt, heldBy, holdOf, Off, settle, length-back, back-first, back-part, set-holds}
 use Rattle.settling.proofs.Bench.{own, Fits, Clear, own-held, own-none}
-use Rattle.settling.proofs.Kept.{Kept, chosen, not-chosen, heldAt, bare-at, holds, hold-at, hold-used, used-entry, file-fits, clear}
-use Rattle.settling.proofs.Standing.{Opened, Standing, isOpen, isShut, standing, shut-others}
+use Rattle.steps.proofs.Standing.{heldAt, bare-at, Opened, Standing, isOpen, isShut, standing, shut-others}
+use Rattle.settling.proofs.Kept.{Kept, holds, hold-at, hold-used, used-entry, file-fits, clear}
 use Rattle.directory.specs.declared.Entry.{Entry}
 use Rattle.requests.specs.declared.Request.{Request}
 use Rattle.sessions.specs.declared.BufferedFile.{BufferedFile}

@@ -12,7 +12,7 @@ use Rattle.geometry.specs.Bytes.{part}
 use Rattle.geometry.specs.Lists.{every}
 use Rattle.geometry.specs.Sizes.{sector, entries}
 use Rattle.geometry.proofs.Bytes.{lay-nil}
-use Rattle.geometry.proofs.Tests.{either, both-ways, and-both}
+use Rattle.geometry.proofs.Tests.{either, both-ways, and-both, chosen}
 use Rattle.directory.specs.Entries.{entryAt}
 use Rattle.sessions.specs.Session.{idle, fresh, bare, fileOf, heldGood, legal, bufferedLegal}
 use Rattle.sessions.proofs.Legal.{all-held}
@@ -22,8 +22,9 @@ use Rattle.steps.specs.Step.{kept}
 use Rattle.steps.proofs.Inside.{AllSuit}
 use Rattle.settling.proofs.Settle.{Hold, empty, back, allBack, holdAt, heldBy, holdOf, Off, settle, back-first}
 use Rattle.settling.proofs.Bench.{own, Fits, Clear, Does, all-does, back-plain-all}
-use Rattle.settling.proofs.Kept.{Kept, InStep, map-set, chosen, heldAt, holds, hold-at, hold-used, hold-unused, buffer-length, typed-set}
-use Rattle.settling.proofs.Next.{SameShape, shape-at, withBuffer, kept-used, kept-unused, new-shape, held-next}
+use Rattle.steps.proofs.Standing.{map-set, heldAt, withBuffer, kept-used, kept-unused}
+use Rattle.settling.proofs.Kept.{Kept, InStep, holds, hold-at, hold-used, hold-unused, buffer-length, typed-set}
+use Rattle.settling.proofs.Next.{SameShape, shape-at, new-shape, held-next}
 use Rattle.settling.proofs.Scene.{held-clear, settle-own, others-clear}
 use Rattle.directory.specs.declared.Entry.{Entry}
 use Rattle.sessions.specs.declared.BufferedFile.{BufferedFile}

@@ -24,8 +24,8 @@ use Rattle.steps.proofs.Lawful.{Lawful}
 use Rattle.steps.proofs.Inside.{lawful, AllSuit, suit}
 use Rattle.settling.proofs.Settle.{heldBy, settle}
 use Rattle.settling.proofs.Bench.{own, Fits, own-unchanged, own-none, and-other, all-does}
-use Rattle.settling.proofs.Kept.{Kept, heldAt, bare-at, hold-unused, table-length, files-length, entry-room, clear}
-use Rattle.settling.proofs.Standing.{Opened, Shut, Standing, isOpen, isShut, standing, shut-others}
+use Rattle.steps.proofs.Standing.{heldAt, bare-at, Opened, Shut, Standing, isOpen, isShut, standing, shut-others}
+use Rattle.settling.proofs.Kept.{Kept, hold-unused, table-length, files-length, entry-room, clear}
 use Rattle.settling.proofs.Scene.{length-settle, same-scene, same-answer, open-fits, open-hold, open-clear}
 use Rattle.settling.proofs.Next.{SameShape, same-shape, entry-shape, bare-next}
 use Rattle.settling.proofs.Served.{Slot, settle-next, kept-next}

@@ -4,3 +4,6 @@ pub mod Inside
 pub mod Frame
 pub mod Coded
 pub mod Buffer
+pub mod Standing
+pub mod Seen
+pub mod Answered

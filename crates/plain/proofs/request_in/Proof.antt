@@ -6,7 +6,7 @@ use Rattle.steps.specs.Step.{plainScene}
 use Rattle.steps.specs.Verdict.{bufferNext}
 use Rattle.straight.proofs.Judged.{judgement}
 use Rattle.judging.proofs.Entered.{part-none}
-use Rattle.plain.proofs.Stepped.{verdict-is, buffer-is, done-after, met-after, refused-after, there, encoded}
+use Rattle.plain.proofs.Stepped.{verdict-is, buffer-is, done-after, met-after, refused-after, goes-there, goes-encoded}
 use Rattle.requests.specs.declared.Answer.{Answer}
 use Rattle.requests.specs.declared.Answer.the-variants.{Done}
 use mathlib.Core.Path.{_≡_, sym, ap, _∙_}
@@ -70,8 +70,8 @@ act-requires : tie.Need-act-requires
 act-requires c κs =
     let a = c .before .before .before .before .before .before .before .before .before .before .before .before .before .before .before .before .before .before .before .before .before .args in
     let d = answered (c .before .before .before .before .before .before .before .before) Done (c .before .before .before .before .enum-told .given .1) in (
-      there (a .image .now) (a .s) (a .i) (a .q) (a .given .now) (a .buffer .now) (entries-of (c .before .before .before .before .before .before .before .before .before .before .before .before .before .before .before .before .before .before .before .before .before)) d,
-      rw (c .part2 .ensures, c .before .before .before .before .before .before .before .before .before .before .before .before .encode-given .ensures .1, c .before .before .before .before .before .before .before .before .before .before .before .before .encode-given .ensures .0, c .before .before .before .before .before .before .before .before .before .before .before .before .before .before .before .entry-of .ensures) (encoded (a .image .now) (a .s) (a .i) (a .q) (a .given .now) (a .buffer .now) (a .code .now) (room (c .before .before .before .before .before .before .before .before .before .before .before .before .before)) d),
+      goes-there (a .image .now) (a .s) (a .i) (a .q) (a .given .now) (a .buffer .now) (entries-of (c .before .before .before .before .before .before .before .before .before .before .before .before .before .before .before .before .before .before .before .before .before)) d,
+      rw (c .part2 .ensures, c .before .before .before .before .before .before .before .before .before .before .before .before .encode-given .ensures .1, c .before .before .before .before .before .before .before .before .before .before .before .before .encode-given .ensures .0, c .before .before .before .before .before .before .before .before .before .before .before .before .before .before .before .entry-of .ensures) (goes-encoded (a .image .now) (a .s) (a .i) (a .q) (a .given .now) (a .buffer .now) (a .code .now) (room (c .before .before .before .before .before .before .before .before .before .before .before .before .before)) d),
     )
 
 with-next-requires : tie.Need-with-next-requires

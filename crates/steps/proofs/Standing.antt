@@ -1,21 +1,35 @@
--- Entry i's file with its buffer: in the state that is found for it, or in none.
+-- Entry i's file with its buffer: in the state that is found for it, or in none; and the file's next state, with the buffer that it then has.
 use mathlib.Core.Path.{_≡_, refl, sym, ap, _∙_}
 use mathlib.Core.Bool.{true, false, not}
-use mathlib.Core.List.{List}
-use Prim.Native.Nat.{ℕ, _<_}
+use mathlib.Core.List.{List, [], _∷_, map}
+use Prim.Native.Nat.{ℕ, zero, suc, _<_}
 use native.Mathlib.Omega.{arith}
-use lib.ListN.{length, getD, set, length-map}
+use lib.ListN.{length, getD, set, length-map, List·getD-map}
 use lib.Seq.{getD-set-same}
 use Rattle.geometry.specs.Lists.{firstWith}
-use Rattle.geometry.proofs.Tests.{both-ways}
+use Rattle.geometry.proofs.Tests.{either, both-ways, chosen, not-chosen}
 use Rattle.sessions.specs.Session.{idle, fresh, bare, isOf, fileOf, slotOf}
 use Rattle.sessions.proofs.Files.{is-of, Finds, opened, closed, finds, slot-set}
-use Rattle.steps.specs.Step.{heldOf}
-use Rattle.settling.proofs.Kept.{chosen, not-chosen, map-set, heldAt, bare-at}
+use Rattle.steps.specs.Step.{heldOf, kept}
 use Rattle.directory.specs.declared.Entry.{Entry}
 use Rattle.sessions.specs.declared.BufferedFile.{BufferedFile}
 use Rattle.sessions.specs.declared.BufferedSession.{BufferedSession}
 use Rattle.sessions.specs.declared.OpenFile.{OpenFile}
+
+-- the state of number k with its buffer
+abbrev pub heldAt : BufferedSession → ℕ → BufferedFile
+heldAt s k = getD (s .files) k (fresh idle)
+
+pub bare-at : (s : BufferedSession) (k : ℕ) → getD (bare s .files) k idle ≡ heldAt s k .file
+unfolding bare
+bare-at s k = List·getD-map (λ f. f .file) (s .files) k (fresh idle)
+
+pub map-set : {A B : Type 0} (f : A → B) (xs : List A) (k : ℕ) (y : A) → map f (set xs k y) ≡ set (map f xs) k (f y)
+map-set f [] k y = refl
+map-set f (x ∷ xs) zero y = refl
+map-set {B = B} f (x ∷ xs) (suc k) y = ap (λ (zs : List B). f x ∷ zs) (map-set f xs k y)
+
+-- ---- the file of an entry
 
 pub record Opened (s : BufferedSession) (i k : ℕ) : Type 0 where
   pub slot : slotOf (bare s .files) i ≡ k
@@ -84,3 +98,19 @@ held-set s i k o table b u e =
   where
     found : (slotOf (bare (record { table = table; files = set (s .files) k b }) .files) i ≡ k) × (fileOf (bare (record { table = table; files = set (s .files) k b }) .files) i ≡ b .file)
     found = unfold bare in rw (map-set (λ x. x .file) (s .files) k b) (slot-set (bare s .files) i k (b .file) (rw (length-map (s .files) (λ x. x .file)) (o .inside)) (is-of i (b .file) u e) (o .before))
+
+-- ---- the file's next state, with the buffer that it then has
+
+abbrev pub withBuffer : OpenFile → BufferedFile → BufferedFile
+withBuffer f b = record { file = f; holds = b .holds; held = b .held; changed = b .changed; buffer = b .buffer }
+
+pub kept-used : (f : OpenFile) (b : BufferedFile) → f .used ≡ true → kept f b ≡ withBuffer f b
+unfolding kept
+kept-used f b u = chosen (f .used) (withBuffer f b) (fresh f) u
+
+pub kept-unused : (f : OpenFile) (b : BufferedFile) → f .used ≡ false → kept f b ≡ fresh f
+unfolding kept
+kept-unused f b u = not-chosen (f .used) (withBuffer f b) (fresh f) u
+
+pub kept-file : (f : OpenFile) (b : BufferedFile) → kept f b .file ≡ f
+kept-file f b = either (f .used) (λ (u : f .used ≡ true). ap (λ (x : BufferedFile). x .file) (kept-used f b u)) (λ (u : f .used ≡ false). ap (λ (x : BufferedFile). x .file) (kept-unused f b u))

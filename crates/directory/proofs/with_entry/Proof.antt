@@ -1,11 +1,11 @@
--- `plain::with_entry` meets its contract: where there is none of that number, nothing is set.
+-- `directory::with_entry` meets its contract: where there is none of that number, nothing is set.
 use mathlib.Core.Path.{_≡_, sym}
 use native.Mathlib.Omega.{arith}
 use lib.ListN.{length}
 use lib.Seq.{set-out}
 use borrow.Author.Needs.{needs}
-use Rattle.plain.proofs.with_entry.Statement.{statement}
-use Rattle.plain.proofs.with_entry.Tie as tie
+use Rattle.directory.proofs.with_entry.Statement.{statement}
+use Rattle.directory.proofs.with_entry.Tie as tie
 
 mul-t : tie.Need-mul-t
 mul-t c = search needs
