@@ -6,7 +6,7 @@ use Prim.Native.Nat.{ℕ, _+_, _-_, _≤_, _<_}
 use native.Mathlib.Omega.{arith}
 use lib.ListN.{length}
 use lib.Dec.{eqb, ltb, leb}
-use borrow.Author.Tests.{eq-eqb, ne-eqb, le-leb, lt-leb, ltb-true, leb-true}
+use borrow.Author.Tests.{eq-eqb, ne-eqb, le-leb, lt-leb, ltb-true, leb-true, eqb-true}
 use types.Run.{OneOf, miss}
 use denote.Enum.Declared.{tagOf}
 use Rattle.geometry.specs.Bytes.{lay, padded}
@@ -70,15 +70,18 @@ worked byte behind n xs p q z = rw (q, z, sym p)
 
 -- ---- one effect
 
-pub there-below : (e : Entry) (k n : ℕ) → isThere e k n ≡ true → k < e .sectors
-unfolding isThere
-there-below e k n h = ltb-true k (e .sectors) (and-left (ltb k (e .sectors)) (leb (sectorAt e k + sector) n) h)
-
-pub there-inside : (e : Entry) (k n : ℕ) → isThere e k n ≡ true → sectorAt e k + sector ≤ n
-unfolding isThere
-there-inside e k n h = leb-true (sectorAt e k + sector) n (and-right (ltb k (e .sectors)) (leb (sectorAt e k + sector) n) h)
-
 module _ (e : Entry) (w : Bench) (k : ℕ) where
+  pub there-below : isWhole w && isThere e k (length (w .image)) ≡ true → k < e .sectors
+  unfolding isThere
+  there-below h = ltb-true k (e .sectors) (and-left (ltb k (e .sectors)) (leb (sectorAt e k + sector) (length (w .image))) (and-right (isWhole w) (isThere e k (length (w .image))) h))
+
+  pub there-inside : isWhole w && isThere e k (length (w .image)) ≡ true → (sectorAt e k + sector ≤ length (w .image)) × (length (w .file .buffer) ≡ sector)
+  unfolding isThere
+  there-inside h = (
+    leb-true (sectorAt e k + sector) (length (w .image)) (and-right (ltb k (e .sectors)) (leb (sectorAt e k + sector) (length (w .image))) (and-right (isWhole w) (isThere e k (length (w .image))) h)),
+    eqb-true (length (w .file .buffer)) sector (and-left (isWhole w) (isThere e k (length (w .image))) h),
+  )
+
   pub hold-there : isWhole w && isThere e k (length (w .image)) ≡ true → taking e k w ≡ heldDo (scene 0 e) (hold k) w
   unfolding heldDo canDo bufferedDo
   hold-there h = rw (h, heldDo)

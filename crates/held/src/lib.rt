@@ -1,4 +1,5 @@
-// The blocking buffer: document 01's "Where a record lies". A file takes the sectors that it reads or changes into its buffer.
+// The blocking buffer: document 01's "Where a record lies". A file takes the sectors that it reads or changes into its buffer, which is lent.
+// A buffer of another size than a sector's stays as it is, and nothing is put back from it.
 use directory::Entry;
 use directory::stamp;
 use geometry::Geometry;

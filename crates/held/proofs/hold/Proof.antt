@@ -2,11 +2,8 @@
 use mathlib.Core.Path.{_≡_, _∙_, ap, sym}
 use mathlib.Core.Bool.{true, false, _&&_}
 use native.Mathlib.Omega.{arith}
-use borrow.Author.Tests.{eqb-true}
 use lib.ListN.{length}
 use Prim.Native.Nat.{_≤_}
-use Rattle.geometry.specs.Sizes.{sector}
-use Rattle.geometry.proofs.Tests.{and-left, and-right}
 use Rattle.steps.specs.Effects.{Bench}
 use Rattle.held.proofs.Cases.{there-below, there-inside, hold-there, hold-nowhere}
 use Rattle.held.specs.Held.{lent, isThere, isWhole}
@@ -23,14 +20,14 @@ cast-take c =
     let w : Bench = lent (a .image .now) (a .h) (a .buffer .now) in
     let t : isWhole w && isThere (a .e) (a .k) (length (a .image .now)) ≡ true = ap (_&&_ (isWhole w)) (sym (c .before .before .before .is-there .ensures)) ∙ c .before .before .if1 .taken in
     let s : a .e .sectors ≤ 65535 = search needs in
-    omega (arith, there-below (a .e) (a .k) (length (a .image .now)) (and-right (isWhole w) (isThere (a .e) (a .k) (length (a .image .now))) t))
+    omega (arith, there-below (a .e) w (a .k) t)
 
 take-requires : tie.Need-take-requires
 take-requires c κs =
     let a = c .before .before .before .before .before .before .args in
     let w : Bench = lent (a .image .now) (a .h) (a .buffer .now) in
     let t : isWhole w && isThere (a .e) (a .k) (length (a .image .now)) ≡ true = ap (_&&_ (isWhole w)) (sym (c .before .before .before .is-there .ensures)) ∙ c .before .before .if1 .taken in
-    (there-inside (a .e) (a .k) (length (a .image .now)) (and-right (isWhole w) (isThere (a .e) (a .k) (length (a .image .now))) t), eqb-true (length (a .buffer .now)) sector (and-left (isWhole w) (isThere (a .e) (a .k) (length (a .image .now))) t))
+    there-inside (a .e) w (a .k) t
 
 same-length : tie.Need-same-length
 same-length c = search needs
