@@ -1,3 +1,5 @@
+-- `coding::blanks` and `coding::characters`, which call each other, meet their contracts. The measure is twice the bytes that are left, and one more
+-- at a control byte. The loop's invariant: what is still to be read, from i on into the room from j on, fills out as the whole does.
 use mathlib.Core.Path.{_≡_, refl, sym, _∙_}
 use Prim.Native.Nat.{ℕ, _<_, _≤_, _+_, _*_, _-_}
 use native.Mathlib.Omega.{arith}
@@ -44,6 +46,8 @@ blanks-knows t = (characters-below t, characters.Post)
 abbrev characters-knows : ℕ → characters-lts.Claims
 characters-knows t = (copy-reads.Asked, copy-reads.Learnt, blanks-below t, blanks.Post)
 
+-- ---- runs of blanks
+
 abbrev blanks-Inv-loop : blanks-lts.InvT-loop
 blanks-Inv-loop s at out to i₀ j₀ i j = (at ≤ i) × Awaited (Next s i out j) out j × (filled (Next s at out to) out to ≡ filled (Next s i out j) out j)
 
@@ -69,9 +73,6 @@ blanks-shared-slice-read-j t c = seen (c .before .before .before)
 blanks-cast-j : (t : ℕ) → blanks-lts.Need-cast-j (blanks-knows t) (blanks-at t) blanks.Post blanks-Inv-loop blanks-μ-loop
 blanks-cast-j t c = omega (arith, c .shared-slice-known3 .given (c .before .before .before .loop .i))
 
-blanks-sub-j : (t : ℕ) → blanks-lts.Need-sub-j (blanks-knows t) (blanks-at t) blanks.Post blanks-Inv-loop blanks-μ-loop
-blanks-sub-j t c = omega arith
-
 -- a run of blanks
 passed : {t : ℕ} (c : blanks-lts.After-shared-slice-known3 (blanks-knows t) (blanks-at t) blanks.Post blanks-Inv-loop blanks-μ-loop)
     → let l = c .before .before .before in let a = l .before .before .before .args in Passed (a .s .now) (l .loop .i) (a .out .now) (l .loop .j) (getD (a .s .now) (l .loop .i) 0 - 128)
@@ -92,7 +93,7 @@ blanks-loop-less t c = omega (arith, seen (c .before .before .before))
 blanks-loop-again : (t : ℕ) → blanks-lts.Need-loop-again (blanks-knows t) (blanks-at t) blanks.Post blanks-Inv-loop blanks-μ-loop
 blanks-loop-again t c = let p = passed c in let l = c .before .before .before .loop in (omega arith, p .1, l .inv .2 ∙ p .2)
 
--- a run of characters
+-- a run of characters begins
 turned : {t : ℕ} (c : blanks-lts.Then2 (blanks-knows t) (blanks-at t) blanks.Post blanks-Inv-loop blanks-μ-loop)
     → let l = c .before .before .before .before in let a = l .before .before .before .args in Next (a .s .now) (l .loop .i) (a .out .now) (l .loop .j) ≡ Run (a .s .now) (l .loop .i) (getD (a .s .now) (l .loop .i) 0) (a .out .now) (l .loop .j)
 turned c =
@@ -111,9 +112,6 @@ blanks-characters-requires t c κs =
     let l = c .before .before .before .before .before in
     (omega (arith, seen l), (seen l, rw (turned (c .before)) at (l .loop .inv .1)))
 
-blanks-same-length : (t : ℕ) → blanks-lts.Need-same-length (blanks-knows t) (blanks-at t) blanks.Post blanks-Inv-loop blanks-μ-loop
-blanks-same-length t c = search needs
-
 blanks-returns : (t : ℕ) → blanks-lts.Need-returns (blanks-knows t) (blanks-at t) blanks.Post blanks-Inv-loop blanks-μ-loop
 blanks-returns t c = c .before .before .characters .ensures ∙ rw (turned (c .before .before .before .before)) at (sym (c .before .before .before .before .before .before .before .before .loop .inv .2))
 
@@ -123,15 +121,14 @@ blanks-returns-2 t c =
     let a = l .before .before .before .args in
     stops (a .s .now) (l .loop .i) (a .out .now) (l .loop .j) (l .loop .inv .1) (c .if2 .left) ∙ sym (l .loop .inv .2)
 
+-- ---- a run of characters
+
 -- the run fits
 fit : {t : ℕ} (c : characters-lts.Start (characters-knows t) (characters-at t) characters.Post)
     → (c .args .at + 1 + c .args .n ≤ length (c .args .s .now)) × (c .args .to + c .args .n ≤ length (c .args .out .now))
 fit c =
     let a = c .args in
     run-fits (a .s .now) (a .at) (a .out .now) (a .to) (a .n) (c .pre .1 .0) (c .pre .1 .1)
-
-characters-add-copy : (t : ℕ) → characters-lts.Need-add-copy (characters-knows t) (characters-at t) characters.Post
-characters-add-copy t c = omega arith
 
 characters-copy-requires : (t : ℕ) → characters-lts.Need-copy-requires (characters-knows t) (characters-at t) characters.Post
 characters-copy-requires t c κs = fit (c .before .before .before)
@@ -144,9 +141,6 @@ copies c =
     let p = c .before .before .before .before .before .before .before .pre .1 in
     copied (a .s .now) (a .at) (a .out .now) (a .to) (a .n) (p .0) (p .1) (c .before .before .before .copy .last .1 .1 .1 .0) (c .before .before .before .copy .ensures)
 
-characters-add-blanks : (t : ℕ) → characters-lts.Need-add-blanks (characters-knows t) (characters-at t) characters.Post
-characters-add-blanks t c = omega arith
-
 characters-add-blanks-2 : (t : ℕ) → characters-lts.Need-add-blanks-2 (characters-knows t) (characters-at t) characters.Post
 characters-add-blanks-2 t c = omega (arith, fit (c .before .before .before .before .before .before) .0)
 
@@ -157,9 +151,6 @@ characters-blanks-requires : (t : ℕ) → characters-lts.Need-blanks-requires (
 characters-blanks-requires t c κs =
     let a = c .before .before .before .before .before .before .before in
     (omega (arith, fit a .0, a .pre .0, a .pre .1 .0), copies c .0)
-
-characters-same-length : (t : ℕ) → characters-lts.Need-same-length (characters-knows t) (characters-at t) characters.Post
-characters-same-length t c = search needs
 
 characters-returns : (t : ℕ) → characters-lts.Need-returns (characters-knows t) (characters-at t) characters.Post
 characters-returns t c = c .before .before .blanks .ensures ∙ sym (copies (c .before .before .before) .1)
@@ -174,7 +165,7 @@ pub +blanks+characters-spec : {M : Type 1} → statement M
     (blanks-shared-slice-read-if1 t)
     (blanks-shared-slice-read-j t)
     (blanks-cast-j t)
-    (blanks-sub-j t)
+    (λ c. search needs)
     (blanks-add-j t)
     (blanks-add-i t)
     (blanks-loop-less t)
@@ -182,18 +173,18 @@ pub +blanks+characters-spec : {M : Type 1} → statement M
     (blanks-shared-slice-read-n t)
     (blanks-cast-n t)
     (blanks-characters-requires t)
-    (blanks-same-length t)
+    (λ c. search needs)
     (blanks-returns t)
     (blanks-returns-2 t))
     λ t. characters-lts.spec
     (characters-knows t)
     (characters-at t)
     characters.Post
-    (characters-add-copy t)
+    (λ c. search needs)
     (characters-copy-requires t)
-    (characters-add-blanks t)
+    (λ c. search needs)
     (characters-add-blanks-2 t)
     (characters-add-blanks-3 t)
     (characters-blanks-requires t)
-    (characters-same-length t)
+    (λ c. search needs)
     (characters-returns t)
