@@ -10,16 +10,15 @@ use lib.Seq.{length-take-le, getD-take}
 use borrow.Author.Tests.{eq-eqb, eqb-true}
 use Rattle.geometry.specs.Bytes.{part}
 use Rattle.geometry.specs.Lists.{all, every, pairwise}
-use Rattle.geometry.specs.Sizes.{entries, mostOpen, sectorsOf, lawfulLength}
+use Rattle.geometry.specs.Sizes.{entries, mostOpen, lawfulLength}
 use Rattle.geometry.proofs.Bytes.{part-split}
 use Rattle.geometry.proofs.Tests.{alike, either, both-ways, and-left, and-right, and-both, every-from, pairwise-getD}
 use Rattle.directory.specs.Entries.{entryBytes, freeEntry, entryAt}
 use Rattle.directory.specs.Rules.{kindKnown, tableRules, tableGood}
 use Rattle.directory.specs.Grouped.{entryGood, twoGood}
 use Rattle.directory.proofs.Free.{every-append, zero-entry, free-good}
-use Rattle.sessions.specs.Session.{idle, bare, unheld, isOf, fileOf, slotOf, openFiles, heldGood, legal, bufferedLegal}
+use Rattle.sessions.specs.Session.{idle, bare, isOf, fileOf, slotOf, openFiles, heldGood, legal, bufferedLegal}
 use Rattle.sessions.specs.Grouped.{holdGood}
-use Rattle.sessions.proofs.Files.{slot-own, slot-new}
 use Rattle.sessions.proofs.Grouped.{grouped, held-unused, held-told}
 use Rattle.sessions.proofs.Unheld.{bare-unheld}
 use Rattle.directory.specs.declared.Entry.{Entry}
@@ -31,9 +30,8 @@ use Rattle.storing.specs.Numbers.{numberIn, isSet}
 use Rattle.storing.specs.Rows.{rowIn}
 use Rattle.storing.specs.Stored.{entryWidth, fileWidth, heldWidth, filesAt, entryIn, fileIn, heldIn, isStored, isBufferedStored, tableIn, unlawful, sessionIn, bufferedIn}
 use Rattle.storing.specs.Lent.{filesIn, bareIn, seenOf}
-use Rattle.storing.specs.declared.lawful.Seen.{Seen}
 use Rattle.storing.proofs.Rows.{length-row, getD-row}
-use Rattle.storing.proofs.Read.{length-table, session-is, buffered-is, buffered-none}
+use Rattle.storing.proofs.Read.{session-is, buffered-is, buffered-none}
 
 -- ---- zero bytes
 
