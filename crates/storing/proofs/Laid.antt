@@ -1,22 +1,23 @@
 -- What the code that lays a session meets on its way: an entry written out byte by byte, sizes, and parts that are there or not.
 use mathlib.Core.Path.{_≡_, refl, sym, ap, _∙_}
-use mathlib.Core.Bool.{Bool, true, false}
+use mathlib.Core.Logic.{_≢_}
+use mathlib.Core.Bool.{Bool}
 use mathlib.Core.List.{List, [], _∷_, _++_}
 use Prim.Native.Nat.{ℕ, _+_, _*_, _≤_, _<_}
 use native.Mathlib.Omega.{arith}
-use lib.ListN.{length, getD, replicate, length-append, length-replicate}
-use borrow.Author.Tests.{lt-ltb, le-ltb}
-use Rattle.geometry.specs.Bytes.{part, lay}
-use Rattle.geometry.specs.Sizes.{entries, mostOpen}
-use Rattle.geometry.proofs.Bytes.{length-lay, length-part, part-all, part-lay-same}
+use lib.ListN.{length, getD, length-append}
+use borrow.Author.Tests.{lt-ltb, le-ltb, eq-eqb, ne-eqb}
+use Rattle.geometry.specs.Bytes.{lay}
+use Rattle.geometry.proofs.Bytes.{length-lay, lay-append, part-all, part-lay-same}
 use Rattle.directory.proofs.Back.{eight}
 use Rattle.directory.specs.declared.Entry.{Entry}
-use Rattle.geometry.specs.declared.Place.{Place}
 use Rattle.sessions.specs.declared.BufferedFile.{BufferedFile}
+use Rattle.sessions.specs.declared.BufferedSession.{BufferedSession}
 use Rattle.sessions.specs.declared.OpenFile.{OpenFile}
+use Rattle.sessions.specs.declared.Session.{Session}
 use Rattle.storing.specs.Numbers.{bytesOf, flagOf}
-use Rattle.storing.specs.Stored.{entryWidth, fileWidth, heldWidth, filesAt, entryStored, placeStored, fileStored, holdStored, heldStored, layEntry, layFile, layHeld}
-use Rattle.storing.proofs.Numbers.{length-bytes}
+use Rattle.storing.specs.Rows.{rowOf}
+use Rattle.storing.specs.Stored.{entryWidth, fileWidth, heldWidth, filesAt, sessionSize, bufferedSize, entryStored, placeStored, fileStored, holdStored, heldStored, stored, bufferedStored, layPart, laySession, layBuffered}
 
 -- ---- bytes written out
 
@@ -107,33 +108,70 @@ pub length-file : (f : OpenFile) → length (fileStored f) ≡ fileWidth
 unfolding fileStored placeStored bytesOf
 length-file f = refl
 
+pub length-hold : (holds : Bool) (held : ℕ) (changed : Bool) → length (holdStored holds held changed) ≡ 6
+unfolding holdStored bytesOf
+length-hold holds held changed = refl
+
 pub length-held : (f : BufferedFile) → length (f .buffer) ≡ 360 → length (heldStored f) ≡ heldWidth
 unfolding heldStored holdStored fileStored placeStored bytesOf
 length-held f n = rw n
 
 -- ---- a part of that number is there, or not
 
-module _ (b : List ℕ) (i : ℕ) where
-  pub entry-there : (e : Entry) → i < entries → layEntry b i e ≡ lay b (entryWidth * i) (entryStored e)
-  unfolding layEntry
-  entry-there e h = rw (lt-ltb i entries h, layEntry)
+module _ (n at w : ℕ) (b : List ℕ) (i : ℕ) (x : List ℕ) where
+  pub part-there : (p : ℕ) → at + w * i ≡ p → i < n → layPart n at w b i x ≡ lay b p x
+  unfolding layPart
+  part-there p e h = rw (lt-ltb i n h, layPart) (ap (λ (k : ℕ). lay b k x) e)
 
-  pub entry-not : (e : Entry) → entries ≤ i → layEntry b i e ≡ b
-  unfolding layEntry
-  entry-not e h = rw (le-ltb i entries h, layEntry)
+  pub part-not : n ≤ i → layPart n at w b i x ≡ b
+  unfolding layPart
+  part-not h = rw (le-ltb i n h, layPart)
 
-  pub file-there : (f : OpenFile) → i < mostOpen → layFile b i f ≡ lay b (filesAt + fileWidth * i) (fileStored f)
-  unfolding layFile
-  file-there f h = rw (lt-ltb i mostOpen h, layFile)
+-- ---- a state with its buffer, laid in three parts
 
-  pub file-not : (f : OpenFile) → mostOpen ≤ i → layFile b i f ≡ b
-  unfolding layFile
-  file-not f h = rw (le-ltb i mostOpen h, layFile)
+pub held-laid : (f : BufferedFile) (b x y b₁ b₂ b₃ : List ℕ) (at : ℕ) → at + heldWidth ≤ length b → length (f .buffer) ≡ 360
+    → x ≡ fileStored (f .file) → y ≡ holdStored (f .holds) (f .held) (f .changed)
+    → b₁ ≡ lay b at x → b₂ ≡ lay b₁ (at + 30) y → b₃ ≡ lay b₂ (at + 36) (f .buffer) → b₃ ≡ lay b at (heldStored f)
+unfolding heldStored
+held-laid f b x y b₁ b₂ b₃ at h n ex ey e₁ e₂ e₃ =
+    let lx : length x ≡ 30 = ap length ex ∙ length-file (f .file) in
+    let ly : length y ≡ 6 = ap length ey ∙ length-hold (f .holds) (f .held) (f .changed) in
+    let l₁ : length (lay b at x) ≡ length b = length-lay b at x in
+    let s : length (y ++ f .buffer) ≡ length y + length (f .buffer) = length-append y (f .buffer) in
+    let z : (at + 30) + length y ≡ at + 36 = omega arith in
+    sym (ap (lay b at) (sym (ap (λ (r : List ℕ). r ++ (y ++ f .buffer)) ex ∙ ap (λ (r : List ℕ). fileStored (f .file) ++ (r ++ f .buffer)) ey))
+    ∙ lay-append b at x (y ++ f .buffer) (omega arith)
+    ∙ ap (λ (k : ℕ). lay (lay b at x) (at + k) (y ++ f .buffer)) lx
+    ∙ lay-append (lay b at x) (at + 30) y (f .buffer) (omega arith)
+    ∙ ap (λ (k : ℕ). lay (lay (lay b at x) (at + 30) y) k (f .buffer)) z
+    ∙ sym (e₃ ∙ ap (λ (r : List ℕ). lay r (at + 36) (f .buffer)) (e₂ ∙ ap (λ (r : List ℕ). lay r (at + 30) y) e₁)))
 
-  pub held-there : (f : BufferedFile) → i < mostOpen → layHeld b i f ≡ lay b (filesAt + heldWidth * i) (heldStored f)
-  unfolding layHeld
-  held-there f h = rw (lt-ltb i mostOpen h, layHeld)
+-- ---- a whole session, laid in two parts
 
-  pub held-not : (f : BufferedFile) → mostOpen ≤ i → layHeld b i f ≡ b
-  unfolding layHeld
-  held-not f h = rw (le-ltb i mostOpen h, layHeld)
+whole : (b b₁ b₂ t f : List ℕ) (n : ℕ) → length b ≡ n → length t ≡ filesAt → filesAt + length f ≡ n → b₁ ≡ lay b 0 t → b₂ ≡ lay b₁ filesAt f → b₂ ≡ t ++ f
+whole b b₁ b₂ t f n l lt lf e₁ e₂ =
+    let s : length (t ++ f) ≡ length t + length f = length-append t f in
+    let z : filesAt ≡ 0 + length t = omega arith in
+    e₂ ∙ ap (λ (r : List ℕ). lay r filesAt f) e₁ ∙ ap (λ (k : ℕ). lay (lay b 0 t) k f) z
+    ∙ sym (lay-append b 0 t f (omega arith))
+    ∙ lay-all n b (t ++ f) l (omega arith)
+
+pub session-laid : (s : Session) (b b₁ b₂ : List ℕ) → length b ≡ sessionSize → length (rowOf entryStored (s .table)) ≡ 396 → length (rowOf fileStored (s .files)) ≡ 120
+    → b₁ ≡ lay b 0 (rowOf entryStored (s .table)) → b₂ ≡ lay b₁ filesAt (rowOf fileStored (s .files)) → b₂ ≡ laySession b s
+unfolding laySession stored
+session-laid s b b₁ b₂ l lt lf e₁ e₂ =
+    rw (eq-eqb (length b) sessionSize l, laySession) (whole b b₁ b₂ _ _ sessionSize l lt (omega arith) e₁ e₂)
+
+pub buffered-laid : (s : BufferedSession) (b b₁ b₂ : List ℕ) → length b ≡ bufferedSize → length (rowOf entryStored (s .table)) ≡ 396 → length (rowOf heldStored (s .files)) ≡ 1584
+    → b₁ ≡ lay b 0 (rowOf entryStored (s .table)) → b₂ ≡ lay b₁ filesAt (rowOf heldStored (s .files)) → b₂ ≡ layBuffered b s
+unfolding layBuffered bufferedStored
+buffered-laid s b b₁ b₂ l lt lf e₁ e₂ =
+    rw (eq-eqb (length b) bufferedSize l, layBuffered) (whole b b₁ b₂ _ _ bufferedSize l lt (omega arith) e₁ e₂)
+
+pub session-other : (s : Session) (b : List ℕ) → length b ≢ sessionSize → laySession b s ≡ b
+unfolding laySession
+session-other s b l = rw (ne-eqb (length b) sessionSize l, laySession)
+
+pub buffered-other : (s : BufferedSession) (b : List ℕ) → length b ≢ bufferedSize → layBuffered b s ≡ b
+unfolding layBuffered
+buffered-other s b l = rw (ne-eqb (length b) bufferedSize l, layBuffered)

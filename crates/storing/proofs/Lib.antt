@@ -1,5 +1,12 @@
 pub mod Numbers
+pub mod Laid
+pub mod Parts
 pub mod Rows
 pub mod Read
 pub mod Laid
 pub mod Lent
+pub mod Back
+pub mod Bytes
+pub mod Forms
+pub mod Laws
+pub mod Illegal

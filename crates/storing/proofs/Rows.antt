@@ -1,12 +1,27 @@
--- Rows of things in bytes, by going down the row: the i-th stands at w·i behind the first.
+-- Rows of things in bytes, by going down the row: the i-th stands at w·i behind the first; what is told of each where it stands is told of a
+-- row; and one laid over the i-th is the row with another one there.
 use mathlib.Core.Path.{_≡_, refl, sym, ap, _∙_}
-use mathlib.Core.List.{List, [], _∷_, _++_}
+use mathlib.Core.Bool.{Bool, true}
+use mathlib.Core.List.{List, [], _∷_, _++_, map, append-assoc, append-nil}
 use Prim.Native.Nat.{ℕ, zero, suc, _+_, _*_, _≤_, _<_}
-use native.Mathlib.Nat.{not-suc-le-zero, le-of-suc-le-suc}
+use native.Mathlib.Nat.{not-suc-le-zero, le-of-suc-le-suc, mul-le-mul-left, mul-suc}
+use native.Mathlib.Numerals.{add-one, unary-clauses}
 use native.Mathlib.Omega.{arith}
-use native.Mathlib.Numerals.{unary-clauses}
-use lib.ListN.{length, getD}
+use native.Mathlib.Decide.{decLt}
+use lib.Dec.{eqb}
+use lib.ListN.{length, take, drop, getD, set, length-append}
+use lib.Seq.{take-suc, take-append-le, drop-append-le, take-append-add, drop-append-add, set-out}
+use borrow.Author.Tests.{eqb-true, eq-eqb}
+use Rattle.geometry.specs.Bytes.{part, lay}
+use Rattle.geometry.specs.Lists.{all, every}
+use Rattle.geometry.proofs.Bytes.{length-lay, length-part, lay-fits, lay-nil, lay-append}
+use Rattle.geometry.proofs.Tests.{and-left, and-right, and-both}
 use Rattle.storing.specs.Rows.{rowOf, rowIn}
+use Rattle.storing.specs.Stored.{layPart}
+use Rattle.storing.proofs.Laid.{lay-all, part-there, part-not}
+use Rattle.storing.proofs.Parts.{Stands, cut, next}
+
+-- ---- the i-th of a row
 
 module _ {A : Type 0} (g : List ℕ → ℕ → A) (w : ℕ) where
   pub length-row : (n : ℕ) (b : List ℕ) (at : ℕ) → length (rowIn g w n b at) ≡ n
@@ -21,3 +36,165 @@ module _ {A : Type 0} (g : List ℕ → ℕ → A) (w : ℕ) where
   getD-row (suc n) b at (suc i) d h =
       let e : (at + w) + w * i ≡ at + w * suc i = simp unary-clauses (omega arith) in
       getD-row n b (at + w) i d (le-of-suc-le-suc h) ∙ ap (g b) e
+
+-- ---- a row laid one by one
+
+module _ {A : Type 0} (f : A → List ℕ) where
+  row-append : (xs ys : List A) → rowOf f (xs ++ ys) ≡ rowOf f xs ++ rowOf f ys
+  unfolding rowOf
+  row-append [] ys = refl
+  row-append (x ∷ xs) ys = ap (λ (r : List ℕ). f x ++ r) (row-append xs ys) ∙ sym (append-assoc (f x) (rowOf f xs) (rowOf f ys))
+
+  module _ (xs : List A) (i : ℕ) (d : A) (h : i < length xs) where
+    row-more : rowOf f (take (i + 1) xs) ≡ rowOf f (take i xs) ++ f (getD xs i d)
+    unfolding rowOf
+    row-more = rw (add-one, take-suc xs i d h, row-append (take i xs) (getD xs i d ∷ []), append-nil (f (getD xs i d)))
+
+    -- with the next one, a row is as much longer
+    size-more : length (rowOf f (take (i + 1) xs)) ≡ length (rowOf f (take i xs)) + length (f (getD xs i d))
+    size-more = ap length row-more ∙ length-append (rowOf f (take i xs)) (f (getD xs i d))
+
+    -- and the next one is laid behind those before it
+    laid-more : (b : List ℕ) (at m : ℕ) → length (rowOf f (take i xs)) ≡ m → at + (m + length (f (getD xs i d))) ≤ length b
+        → lay (lay b at (rowOf f (take i xs))) (at + m) (f (getD xs i d)) ≡ lay b at (rowOf f (take (i + 1) xs))
+    laid-more b at m e k =
+        ap (λ (n : ℕ). lay (lay b at (rowOf f (take i xs))) (at + n) (f (getD xs i d))) (sym e)
+        ∙ sym (lay-append b at (rowOf f (take i xs)) (f (getD xs i d)) (omega arith))
+        ∙ ap (lay b at) (sym row-more)
+
+  -- a turn of a loop that lays a row
+  pub turn : (b₀ b b′ : List ℕ) (xs : List A) (i at m w p : ℕ) (d : A) → i < length xs → p ≡ at + m
+      → b ≡ lay b₀ at (rowOf f (take i xs)) → length (rowOf f (take i xs)) ≡ m
+      → b′ ≡ lay b p (f (getD xs i d)) → length (f (getD xs i d)) ≡ w → at + (m + w) ≤ length b₀
+      → (b′ ≡ lay b₀ at (rowOf f (take (i + 1) xs))) × (length (rowOf f (take (i + 1) xs)) ≡ m + w)
+  turn b₀ b b′ xs i at m w p d h q e l e′ l′ k = (
+    e′ ∙ ap (λ (n : ℕ). lay b n (f (getD xs i d))) q ∙ ap (λ (x : List ℕ). lay x (at + m) (f (getD xs i d))) e ∙ laid-more xs i d h b₀ at m l (omega arith),
+    size-more xs i d h ∙ omega arith,
+  )
+
+  -- a row of none
+  pub laid-none : (b : List ℕ) (at : ℕ) (xs : List A) → b ≡ lay b at (rowOf f (take 0 xs))
+  unfolding rowOf
+  laid-none b at xs = sym (lay-nil b at)
+
+  pub size-none : (xs : List A) → length (rowOf f (take 0 xs)) ≡ 0
+  unfolding rowOf
+  size-none xs = refl
+
+-- ---- a row that stands in bytes
+
+module _ {A : Type 0} (f : A → List ℕ) (p : A → Bool) (w : ℕ) (size : (x : A) → p x ≡ true → length (f x) ≡ w) where
+  pub row-size : (xs : List A) → every p xs ≡ true → length (rowOf f xs) ≡ w * length xs
+  unfolding rowOf every
+  row-size [] h = omega arith
+  row-size (x ∷ xs) h =
+      let l : length (f x) ≡ w = size x (and-left (p x) (every p xs) h) in
+      let r : length (rowOf f xs) ≡ w * length xs = row-size xs (and-right (p x) (every p xs) h) in
+      length-append (f x) (rowOf f xs) ∙ rw (l, r) (simp unary-clauses (omega arith))
+
+  -- what is told of each where it stands is told of a row
+  pub row-told : {B : Type 0} (g : List ℕ → ℕ → B) (v : A → B) → ((x : A) → p x ≡ true → (b : List ℕ) (at : ℕ) → Stands b at (f x) → g b at ≡ v x)
+      → (xs : List A) → every p xs ≡ true → (b : List ℕ) (at : ℕ) → Stands b at (rowOf f xs) → rowIn g w (length xs) b at ≡ map v xs
+  unfolding rowOf rowIn every
+  row-told {B} g v tells [] h b at s = refl
+  row-told {B} g v tells (x ∷ xs) h b at s =
+      let q : p x ≡ true = and-left (p x) (every p xs) h in
+      let l : length (f x) ≡ w = size x q in
+      let c = cut b at (f x) (rowOf f xs) w (at + w) l refl s in
+      rw (tells x q b at (ap (part b at) l ∙ c .0)) (ap (λ (r : List B). v x ∷ r) (row-told g v tells xs (and-right (p x) (every p xs) h) b (at + w) (c .1)))
+
+module _ {A : Type 0} (f : A → List ℕ) (g : List ℕ → ℕ → A) (flags : List ℕ → ℕ → Bool) (w : ℕ) (b : List ℕ)
+    (same : (at : ℕ) → at + w ≤ length b → flags b at ≡ true → f (g b at) ≡ part b at w) where
+  pub row-same : (n at : ℕ) → at + w * n ≤ length b → all (rowIn flags w n b at) ≡ true → rowOf f (rowIn g w n b at) ≡ part b at (w * n)
+  unfolding rowOf rowIn all part
+  row-same zero at h k = let z : 0 ≡ w * 0 = omega arith in ap (part b at) z
+  row-same (suc n) at h k =
+      let z : w + w * n ≡ w * suc n = simp unary-clauses (omega arith) in
+      rw (same at (omega arith) (and-left (flags b at) _ k)) (next b at w (at + w) (w * n) refl (row-same n (at + w) (omega arith) (and-right (flags b at) _ k)) ∙ ap (part b at) z)
+
+  -- each of them takes w bytes
+  pub row-sized : (n at : ℕ) → at + w * n ≤ length b → all (rowIn flags w n b at) ≡ true → every (λ x. eqb (length (f x)) w) (rowIn g w n b at) ≡ true
+  unfolding rowIn all every
+  row-sized zero at h k = refl
+  row-sized (suc n) at h k =
+      let z : w + w * n ≡ w * suc n = simp unary-clauses (omega arith) in
+      let l : length (f (g b at)) ≡ w = ap length (same at (omega arith) (and-left (flags b at) _ k)) ∙ length-part b at w (omega arith) in
+      and-both (eqb (length (f (g b at))) w) _ (eq-eqb (length (f (g b at))) w l) (row-sized n (at + w) (omega arith) (and-right (flags b at) _ k))
+
+-- ---- laying over one of two lists, one behind the other
+
+lay-first : (a r x : List ℕ) (at : ℕ) → at + length x ≤ length a → lay (a ++ r) at x ≡ lay a at x ++ r
+lay-first a r x at h =
+    let l : length (a ++ r) ≡ length a + length r = length-append a r in
+    lay-fits (a ++ r) at x (omega arith)
+    ∙ rw (take-append-le at a r (omega arith), drop-append-le (at + length x) a r h, lay-fits a at x h) (sym (append-assoc (take at a) (x ++ drop (at + length x) a) r ∙ ap (λ (t : List ℕ). take at a ++ t) (append-assoc x (drop (at + length x) a) r)))
+
+lay-second : (a r x : List ℕ) (at k : ℕ) → length a + k ≡ at → k + length x ≤ length r → lay (a ++ r) at x ≡ a ++ lay r k x
+lay-second a r x at k e h =
+    let l : length (a ++ r) ≡ length a + length r = length-append a r in
+    let z : at + length x ≡ length a + (k + length x) = omega arith in
+    lay-fits (a ++ r) at x (omega arith)
+    ∙ rw (z, sym e, take-append-add a r k, drop-append-add a r (k + length x), lay-fits r k x h) (append-assoc a (take k r) (x ++ drop (k + length x) r))
+
+-- ---- a row with another one in it
+
+module _ {A : Type 0} (f : A → List ℕ) (p : A → Bool) (w : ℕ) (size : (x : A) → p x ≡ true → length (f x) ≡ w) (y : A) (sized : length (f y) ≡ w) where
+  row-set : (xs : List A) (i : ℕ) → every p xs ≡ true → i < length xs → rowOf f (set xs i y) ≡ lay (rowOf f xs) (w * i) (f y)
+  unfolding rowOf every
+  row-set [] i h k = absurd (not-suc-le-zero k)
+  row-set (x ∷ xs) zero h k =
+      let l : length (f x) ≡ w = size x (and-left (p x) (every p xs) h) in
+      let z : w * 0 ≡ 0 = omega arith in
+      sym (rw (z, lay-first (f x) (rowOf f xs) (f y) 0 (omega arith)) (ap (λ (t : List ℕ). t ++ rowOf f xs) (lay-all w (f x) (f y) l sized)))
+  row-set (x ∷ xs) (suc i) h k =
+      let l : length (f x) ≡ w = size x (and-left (p x) (every p xs) h) in
+      let q : every p xs ≡ true = and-right (p x) (every p xs) h in
+      let r : length (rowOf f xs) ≡ w * length xs = row-size f p w size xs q in
+      let z : length (f x) + w * i ≡ w * suc i = simp unary-clauses (omega arith) in
+      ap (λ (t : List ℕ). f x ++ t) (row-set xs i q (le-of-suc-le-suc k)) ∙ sym (lay-second (f x) (rowOf f xs) (f y) (w * suc i) (w * i) z (inside (le-of-suc-le-suc k) sized r))
+    where
+      inside : i < length xs → length (f y) ≡ w → length (rowOf f xs) ≡ w * length xs → w * i + length (f y) ≤ length (rowOf f xs)
+      inside a b c = omega (arith, mul-le-mul-left w a, mul-suc w i)
+
+-- ---- a part of that number laid
+
+below : (w i n : ℕ) → i < n → w * i + w ≤ w * n
+below w i n h = omega (arith, mul-le-mul-left w h, mul-suc w i)
+
+module _ {A : Type 0} (f : A → List ℕ) (w n : ℕ) where
+  -- in a row of n that take w bytes each
+  pub row-laid : (xs : List A) (i : ℕ) (y : A) → every (λ x. eqb (length (f x)) w) xs ≡ true → length xs ≡ n → length (f y) ≡ w
+      → rowOf f (set xs i y) ≡ layPart n 0 w (rowOf f xs) i (f y)
+  row-laid xs i y h l ly = go (decLt i n)
+    where
+      go : Dec (i < n) → rowOf f (set xs i y) ≡ layPart n 0 w (rowOf f xs) i (f y)
+      go (yes k) = row-set f _ w (λ x q. eqb-true (length (f x)) w q) y ly xs i h (omega arith) ∙ sym (part-there n 0 w (rowOf f xs) i (f y) (w * i) (omega arith) k)
+      go (no k) = ap (rowOf f) (set-out xs i y (omega arith)) ∙ sym (part-not n 0 w (rowOf f xs) i (f y) (omega arith))
+
+module _ (w n : ℕ) (a r x : List ℕ) (lx : length x ≡ w) (i : ℕ) where
+  -- in the first of two lists
+  pub part-first : length a ≡ w * n → layPart n 0 w (a ++ r) i x ≡ layPart n 0 w a i x ++ r
+  part-first la = go (decLt i n)
+    where
+      go : Dec (i < n) → layPart n 0 w (a ++ r) i x ≡ layPart n 0 w a i x ++ r
+      go (yes k) =
+          let z : 0 + w * i ≡ w * i = omega arith in
+          part-there n 0 w (a ++ r) i x (w * i) z k ∙ lay-first a r x (w * i) (omega (arith, below w i n k)) ∙ ap (λ (t : List ℕ). t ++ r) (sym (part-there n 0 w a i x (w * i) z k))
+      go (no k) = part-not n 0 w (a ++ r) i x (omega arith) ∙ ap (λ (t : List ℕ). t ++ r) (sym (part-not n 0 w a i x (omega arith)))
+
+  -- and in the second
+  pub part-second : (at : ℕ) → length a ≡ at → length r ≡ w * n → layPart n at w (a ++ r) i x ≡ a ++ layPart n 0 w r i x
+  part-second at la lr = go (decLt i n)
+    where
+      go : Dec (i < n) → layPart n at w (a ++ r) i x ≡ a ++ layPart n 0 w r i x
+      go (yes k) =
+          part-there n at w (a ++ r) i x (at + w * i) refl k ∙ lay-second a r x (at + w * i) (w * i) (omega arith) (omega (arith, below w i n k))
+          ∙ ap (λ (t : List ℕ). a ++ t) (sym (part-there n 0 w r i x (w * i) (omega arith) k))
+      go (no k) = part-not n at w (a ++ r) i x (omega arith) ∙ ap (λ (t : List ℕ). a ++ t) (sym (part-not n 0 w r i x (omega arith)))
+
+pub length-laid : (n at w : ℕ) (b : List ℕ) (i : ℕ) (x : List ℕ) → length (layPart n at w b i x) ≡ length b
+length-laid n at w b i x = go (decLt i n)
+  where
+    go : Dec (i < n) → length (layPart n at w b i x) ≡ length b
+    go (yes k) = ap length (part-there n at w b i x (at + w * i) refl k) ∙ length-lay b (at + w * i) x
+    go (no k) = ap length (part-not n at w b i x (omega arith))

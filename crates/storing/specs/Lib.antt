@@ -2,3 +2,4 @@ pub mod Numbers
 pub mod Rows
 pub mod Stored
 pub mod Lent
+pub mod Fits

@@ -152,13 +152,25 @@ bufferedIn b = elim (isBufferedStored b) [
 
 -- ---- laying a part of a session
 
--- bytes with another entry of number i, if a session has one of that number
-unfoldable pub layEntry : List ℕ → ℕ → Entry → List ℕ
-layEntry b i e = elim (ltb i entries) [ true ↦ lay b (entryWidth * i) (entryStored e) | false ↦ b ]
+-- bytes with x in place of the i-th of n parts of w bytes each, the first at byte `at`; as they were where there is none of that number
+unfoldable pub layPart : ℕ → ℕ → ℕ → List ℕ → ℕ → List ℕ → List ℕ
+layPart n at w b i x = elim (ltb i n) [ true ↦ lay b (at + w * i) x | false ↦ b ]
 
--- with another state of number k, if there is one of that number
-unfoldable pub layFile : List ℕ → ℕ → OpenFile → List ℕ
-layFile b k f = elim (ltb k mostOpen) [ true ↦ lay b (filesAt + fileWidth * k) (fileStored f) | false ↦ b ]
+-- another entry of number i
+abbrev pub layEntry : List ℕ → ℕ → Entry → List ℕ
+layEntry b i e = layPart entries 0 entryWidth b i (entryStored e)
 
-unfoldable pub layHeld : List ℕ → ℕ → BufferedFile → List ℕ
-layHeld b k f = elim (ltb k mostOpen) [ true ↦ lay b (filesAt + heldWidth * k) (heldStored f) | false ↦ b ]
+-- another state of number k
+abbrev pub layFile : List ℕ → ℕ → OpenFile → List ℕ
+layFile b k f = layPart mostOpen filesAt fileWidth b k (fileStored f)
+
+abbrev pub layHeld : List ℕ → ℕ → BufferedFile → List ℕ
+layHeld b k f = layPart mostOpen filesAt heldWidth b k (heldStored f)
+
+-- ---- laying a whole session, over bytes that are as many as it takes
+
+unfoldable pub laySession : List ℕ → Session → List ℕ
+laySession b s = elim (eqb (length b) sessionSize) [ true ↦ stored s | false ↦ b ]
+
+unfoldable pub layBuffered : List ℕ → BufferedSession → List ℕ
+layBuffered b s = elim (eqb (length b) bufferedSize) [ true ↦ bufferedStored s | false ↦ b ]

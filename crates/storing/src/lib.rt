@@ -23,10 +23,11 @@ ghost use Prim.Native.Nat.{_+_, _*_, _≤_, _<_};
 ghost use lib.Dec.{eqb};
 ghost use lib.ListN.{length, getD, replicate};
 ghost use Rattle.geometry.specs.Bytes.{part};
+ghost use Rattle.geometry.specs.Bytes as Bytes;
 ghost use Rattle.geometry.specs.Lists.{all, every};
 ghost use Rattle.storing.specs.Numbers.{bytesOf, numberIn, flagOf, isSet, isFlag, isByte};
-ghost use Rattle.storing.specs.Rows.{rowIn};
-ghost use Rattle.storing.specs.Stored.{entryStored, entryIn, placeStored, placeIn, fileStored, fileIn, fileFlags, holdStored, heldStored, heldIn, heldFlags, isStored, isBufferedStored, tableIn, unlawful, sessionIn, bufferedIn, layEntry, layFile, layHeld};
+ghost use Rattle.storing.specs.Rows.{rowOf, rowIn};
+ghost use Rattle.storing.specs.Stored.{entryStored, entryIn, placeStored, placeIn, fileStored, fileIn, fileFlags, holdStored, heldStored, heldIn, heldFlags, isStored, isBufferedStored, tableIn, unlawful, sessionIn, bufferedIn, layEntry, layFile, layHeld, laySession, layBuffered};
 
 // The places and sizes of a session's parts.
 pub struct Form {}
@@ -493,8 +494,7 @@ fn hold_bytes(holds: bool, held: u32, changed: bool) -> [u8; 6]
 
 // Lays an entry over the bytes of entry i, if a session has one of that number.
 pub fn put_entry(b: &mut [u8], i: usize, e: Entry)
-    ensures laid { λ _. ⌜ now (b .exit) ≡ layEntry (now (b .entry)) i e ⌝ }
-    ensures size { λ _. ⌜ length (entryStored e) ≡ 22 ⌝ }
+    ensures { λ _. ⌜ (now (b .exit) ≡ layEntry (now (b .entry)) i e) × (length (entryStored e) ≡ 22) ⌝ }
 {
     let x = entry_bytes(e);
     if i < 18 {
@@ -504,11 +504,97 @@ pub fn put_entry(b: &mut [u8], i: usize, e: Entry)
 
 // Lays a state over the bytes of state k, if a session has one of that number.
 pub fn put_file(b: &mut [u8], k: usize, f: OpenFile)
-    ensures laid { λ _. ⌜ now (b .exit) ≡ layFile (now (b .entry)) k f ⌝ }
-    ensures size { λ _. ⌜ length (fileStored f) ≡ 30 ⌝ }
+    ensures { λ _. ⌜ (now (b .exit) ≡ layFile (now (b .entry)) k f) × (length (fileStored f) ≡ 30) ⌝ }
 {
     let x = file_bytes(f);
     if k < 4 {
         lay(b, Form::FILES + Form::FILE * k, &x);
+    }
+}
+
+// Lays a state with its buffer over the bytes from byte at on, if they fit there.
+fn lay_held(b: &mut [u8], at: usize, f: BufferedFile)
+    requires { ⌜ at ≤ 1584 ⌝ }
+    ensures { λ _. ⌜ (now (b .exit) ≡ Bytes.lay (now (b .entry)) at (heldStored f)) × (length (heldStored f) ≡ 396) ⌝ }
+{
+    let file = f.file;
+    let buffer = f.buffer;
+    let x = file_bytes(file);
+    let y = hold_bytes(f.holds, f.held, f.changed);
+    if at + Form::HELD <= b.len() {
+        lay(b, at, &x);
+        lay(b, at + 30, &y);
+        lay(b, at + 36, &buffer);
+    }
+}
+
+// Lays a state with its buffer over the bytes of state k, if a session has one of that number.
+pub fn put_held(b: &mut [u8], k: usize, f: BufferedFile)
+    ensures { λ _. ⌜ (now (b .exit) ≡ layHeld (now (b .entry)) k f) × (length (heldStored f) ≡ 396) ⌝ }
+{
+    if k < 4 {
+        lay_held(b, Form::FILES + Form::HELD * k, f);
+    }
+}
+
+// ---- laying a whole session
+
+fn put_table(b: &mut [u8], t: [Entry; 18])
+    requires { ⌜ 396 ≤ length (now b) ⌝ }
+    ensures { λ _. ⌜ (now (b .exit) ≡ Bytes.lay (now (b .entry)) 0 (rowOf entryStored t)) × (length (rowOf entryStored t) ≡ 396) ⌝ }
+{
+    let mut i: usize = 0;
+    while i < 18 {
+        let e = t[i];
+        put_entry(b, i, e);
+        i += 1;
+    }
+}
+
+fn put_files(b: &mut [u8], files: [OpenFile; 4])
+    requires { ⌜ 516 ≤ length (now b) ⌝ }
+    ensures { λ _. ⌜ (now (b .exit) ≡ Bytes.lay (now (b .entry)) 396 (rowOf fileStored files)) × (length (rowOf fileStored files) ≡ 120) ⌝ }
+{
+    let mut k: usize = 0;
+    while k < 4 {
+        let f = files[k];
+        put_file(b, k, f);
+        k += 1;
+    }
+}
+
+fn put_buffered(b: &mut [u8], files: [BufferedFile; 4])
+    requires { ⌜ 1980 ≤ length (now b) ⌝ }
+    ensures { λ _. ⌜ (now (b .exit) ≡ Bytes.lay (now (b .entry)) 396 (rowOf heldStored files)) × (length (rowOf heldStored files) ≡ 1584) ⌝ }
+{
+    let mut k: usize = 0;
+    while k < 4 {
+        let f = files[k];
+        put_held(b, k, f);
+        k += 1;
+    }
+}
+
+// Lays a session over bytes, if they are as many as it takes.
+pub fn write_session(b: &mut [u8], s: Session)
+    ensures { λ _. ⌜ now (b .exit) ≡ laySession (now (b .entry)) s ⌝ }
+{
+    if b.len() == Form::SESSION {
+        let t = s.table;
+        let files = s.files;
+        put_table(b, t);
+        put_files(b, files);
+    }
+}
+
+// Lays a session with buffers over bytes, if they are as many as it takes.
+pub fn write_buffered(b: &mut [u8], s: BufferedSession)
+    ensures { λ _. ⌜ now (b .exit) ≡ layBuffered (now (b .entry)) s ⌝ }
+{
+    if b.len() == Form::BUFFERED {
+        let t = s.table;
+        let files = s.files;
+        put_table(b, t);
+        put_buffered(b, files);
     }
 }

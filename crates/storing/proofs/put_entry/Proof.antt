@@ -1,8 +1,11 @@
+use mathlib.Core.Path.{refl}
+use native.Mathlib.Omega.{arith}
+use Rattle.storing.specs.Stored.{entryStored}
 use mathlib.Core.Path.{_≡_}
 use Prim.Native.Nat.{_*_, _<_}
 use lib.ListN.{length}
 use Rattle.geometry.specs.Bytes.{lay}
-use Rattle.storing.proofs.Laid.{entry-there, entry-not, length-entry}
+use Rattle.storing.proofs.Laid.{part-there, part-not, length-entry}
 use mathlib.Core.Path.{_∙_, sym, ap}
 use borrow.Author.Needs.{needs}
 use Rattle.storing.proofs.put_entry.Statement.{statement}
@@ -38,14 +41,14 @@ returns c =
     let a = c .before .before .before .before .before .before .before .before .args in
     let h : a .i < 18 = search needs in
     let n : length (a .e .name) ≡ 8 = search needs in
-    (c .before .before .lay .ensures ∙ ap (lay (a .b .now) (22 * a .i)) (c .before .before .before .before .before .before .entry-bytes .ensures) ∙ sym (entry-there (a .b .now) (a .i) (a .e) h), length-entry (a .e) n)
+    (c .before .before .lay .ensures ∙ ap (lay (a .b .now) (22 * a .i)) (c .before .before .before .before .before .before .entry-bytes .ensures) ∙ sym (part-there 18 0 22 (a .b .now) (a .i) (entryStored (a .e)) (22 * a .i) (omega arith) h), length-entry (a .e) n)
 
 -- src/lib.rt:432:1
 returns-2 : tie.Need-returns-2
 returns-2 c =
     let a = c .before .before .before .args in
     let n : length (a .e .name) ≡ 8 = search needs in
-    (sym (entry-not (a .b .now) (a .i) (a .e) (search needs)), length-entry (a .e) n)
+    (sym (part-not 18 0 22 (a .b .now) (a .i) (entryStored (a .e)) (search needs)), length-entry (a .e) n)
 
 pub put-entry-spec : {M : Type 1} → statement M
 put-entry-spec =

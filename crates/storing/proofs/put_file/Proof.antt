@@ -1,8 +1,11 @@
+use mathlib.Core.Path.{refl}
+use native.Mathlib.Omega.{arith}
+use Rattle.storing.specs.Stored.{fileStored}
 use mathlib.Core.Path.{_≡_}
 use Prim.Native.Nat.{_+_, _*_, _<_}
 use lib.ListN.{length}
 use Rattle.geometry.specs.Bytes.{lay}
-use Rattle.storing.proofs.Laid.{file-there, file-not, length-file}
+use Rattle.storing.proofs.Laid.{part-there, part-not, length-file}
 use mathlib.Core.Path.{_∙_, sym, ap}
 use borrow.Author.Needs.{needs}
 use Rattle.storing.proofs.put_file.Statement.{statement}
@@ -41,13 +44,13 @@ returns : tie.Need-returns
 returns c =
     let a = c .before .before .before .before .before .before .before .before .args in
     let h : a .k < 4 = search needs in
-    (c .before .before .lay .ensures ∙ ap (lay (a .b .now) (396 + 30 * a .k)) (c .before .before .before .before .before .before .file-bytes .ensures) ∙ sym (file-there (a .b .now) (a .k) (a .f) h), length-file (a .f))
+    (c .before .before .lay .ensures ∙ ap (lay (a .b .now) (396 + 30 * a .k)) (c .before .before .before .before .before .before .file-bytes .ensures) ∙ sym (part-there 4 396 30 (a .b .now) (a .k) (fileStored (a .f)) (396 + 30 * a .k) refl h), length-file (a .f))
 
 -- src/lib.rt:443:1
 returns-2 : tie.Need-returns-2
 returns-2 c =
     let a = c .before .before .before .args in
-    (sym (file-not (a .b .now) (a .k) (a .f) (search needs)), length-file (a .f))
+    (sym (part-not 4 396 30 (a .b .now) (a .k) (fileStored (a .f)) (search needs)), length-file (a .f))
 
 pub put-file-spec : {M : Type 1} → statement M
 put-file-spec =
