@@ -3,7 +3,6 @@ pub mod Laid
 pub mod Parts
 pub mod Rows
 pub mod Read
-pub mod Laid
 pub mod Lent
 pub mod Back
 pub mod Bytes
