@@ -10,7 +10,7 @@ use borrow.Author.Tests.{eq-eqb, ne-eqb, eqb-true, eqb-false}
 use Rattle.geometry.specs.Lists.{all, every}
 use Rattle.geometry.specs.Bytes.{word}
 use Rattle.directory.specs.declared.Entry.{Entry}
-use Rattle.geometry.proofs.Tests.{either, both-ways, and-left, and-right, all-getD}
+use Rattle.geometry.proofs.Tests.{either, denied, and-left, and-right, all-getD}
 use Rattle.directory.specs.Entries.{entryBytes}
 use Rattle.directory.specs.Rules.{kindKnown, freeIsZero, isName, nameGood, extentInside, flagsKnown, lengthGood, countGood, randomBare}
 use Rattle.directory.specs.Grouped.{entryGood}
@@ -75,8 +75,7 @@ module _ (N : ℕ) (e : Entry) where
 
     -- the rule of number m is broken
     pub used-bad : (m : ℕ) → getD rules m true ≡ false → entryGood N e ≡ false
-    used-bad m h =
-        used-rules ∙ either (all rules) (λ (k : all rules ≡ true). both-ways (getD rules m true) (all-getD rules m k) h) (λ (k : all rules ≡ false). k)
+    used-bad m h = used-rules ∙ denied (all rules) (getD rules m true) (all-getD rules m) h
 
     -- all but the last are kept
     pub used-good : kindKnown e ≡ true → nameGood e ≡ true → extentInside N e ≡ true → flagsKnown e ≡ true → lengthGood e ≡ true → countGood e ≡ true → entryGood N e ≡ randomBare e

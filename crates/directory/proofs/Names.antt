@@ -1,6 +1,6 @@
 -- A name is read from its front: a capital or digit is no blank, so what stands behind it decides; where there is none, only blanks may stand.
-use mathlib.Core.Path.{_≡_, ap}
-use mathlib.Core.Bool.{true, false, _&&_, _||_, or-false}
+use mathlib.Core.Path.{_≡_, sym, ap, _∙_}
+use mathlib.Core.Bool.{true, false, _&&_, _||_, or-false, true≢false}
 use mathlib.Core.List.{List}
 use Prim.Native.Nat.{ℕ, suc, _+_, _-_, _<_, _≤_}
 use native.Mathlib.Numerals.{add-one}
@@ -8,16 +8,14 @@ use native.Mathlib.Omega.{arith}
 use lib.ListN.{length, drop, getD, drop-of-length-le}
 use lib.Seq.{drop-cons}
 use lib.Dec.{eqb}
-use borrow.Author.Tests.{eqb-true}
+use borrow.Author.Tests.{ne-eqb}
 use Rattle.geometry.specs.Lists.{every}
 use Rattle.geometry.specs.Sizes.{blank}
-use Rattle.geometry.proofs.Tests.{either, both-ways}
 use Rattle.directory.specs.Rules.{capital, digit, isName, restOfName}
 
 no-blank : (c : ℕ) → (capital c || digit c) ≡ true → eqb c blank ≡ false
 unfolding capital digit
-no-blank c q =
-    either (eqb c blank) (λ (h : eqb c blank ≡ true). both-ways (capital c || digit c) q (rw (eqb-true c blank h))) (λ (h : eqb c blank ≡ false). h)
+no-blank c q = ne-eqb c blank λ (e : c ≡ blank). true≢false (sym q ∙ rw e)
 
 module _ (x : List ℕ) (k : ℕ) where
   pub rest-end : length x ≤ k → restOfName (drop k x) ≡ every (λ b. eqb b blank) (drop k x)

@@ -6,16 +6,12 @@ use Prim.Native.Nat.{ℕ, _+_, _≤_, _<_}
 use lib.ListN.{length, take, getD}
 use lib.Seq.{take-all}
 use Rattle.geometry.specs.Lists.{every, pairwise}
-use Rattle.geometry.proofs.Tests.{either, both-ways, and-left, and-right, and-both, every-getD, every-more, pairwise-getD, pairwise-more}
+use Rattle.geometry.proofs.Tests.{denied, and-left, and-right, and-both, every-getD, every-more, pairwise-getD, pairwise-more}
 
 -- a rule of one member, of the first i
-module _ {A : Type 0} (p : A → Bool) (xs : List A) where
-  pub front-every-on : (i : ℕ) (d : A) → i < length xs → every p (take i xs) ≡ true → p (getD xs i d) ≡ true → every p (take (i + 1) xs) ≡ true
-  front-every-on i d h done e = every-more p xs i d h ∙ and-both (every p (take i xs)) (p (getD xs i d)) done e
-
-  every-broken : (i : ℕ) (d : A) → i < length xs → p (getD xs i d) ≡ false → every p xs ≡ false
-  every-broken i d h e =
-      either (every p xs) (λ (k : every p xs ≡ true). both-ways (p (getD xs i d)) (every-getD p xs i d k h) e) (λ (k : every p xs ≡ false). k)
+pub front-every-on : {A : Type 0} (p : A → Bool) (xs : List A) (i : ℕ) (d : A) → i < length xs
+    → every p (take i xs) ≡ true → p (getD xs i d) ≡ true → every p (take (i + 1) xs) ≡ true
+front-every-on p xs i d h done e = every-more p xs i d h ∙ and-both (every p (take i xs)) (p (getD xs i d)) done e
 
 module _ {A : Type 0} (one : A → Bool) (two : A → A → Bool) (xs : List A) where
   -- both rules, of the first i members
@@ -44,9 +40,8 @@ module _ {A : Type 0} (one : A → Bool) (two : A → A → Bool) (xs : List A) 
         rw (every-more one xs i d h, pairwise-more two xs i d h, e, a, p, c)
 
     pub front-one : one x ≡ false → every one xs && pairwise two xs ≡ false
-    front-one a = rw (every-broken one xs i d h a)
+    front-one a = rw (denied (every one xs) (one x) (λ e. every-getD one xs i d e h) a)
 
     pub front-two : (j : ℕ) → j < i → two (getD xs j d) x ≡ false → every one xs && pairwise two xs ≡ false
     front-two j l b =
-        either (pairwise two xs) (λ (k : pairwise two xs ≡ true). both-ways (two (getD xs j d) x) (pairwise-getD two xs j i d k l h) b)
-        (λ (k : pairwise two xs ≡ false). rw (k, and-false (every one xs)))
+        rw (denied (pairwise two xs) (two (getD xs j d) x) (λ p. pairwise-getD two xs j i d p l h) b, and-false (every one xs))

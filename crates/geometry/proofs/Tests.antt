@@ -43,6 +43,11 @@ pub or-either : {P : Type 0} (a b : Bool) → a || b ≡ true → (a ≡ true �
 or-either true b h f g = f refl
 or-either false b h f g = g h
 
+-- what would follow from a test does not hold, so neither does the test
+pub denied : (a b : Bool) → (a ≡ true → b ≡ true) → b ≡ false → a ≡ false
+denied true b f h = sym (f refl) ∙ h
+denied false b f h = refl
+
 -- two tests that say the same
 pub alike : (a b : Bool) → (a ≡ true → b ≡ true) → (b ≡ true → a ≡ true) → a ≡ b
 alike true b f g = sym (f refl)
@@ -195,11 +200,6 @@ module _ {A : Type 0} where
           let h : i < length xs = omega arith in
           let e : every (r x) (take (suc i) xs) ≡ every (r x) (take i xs) && r x (getD xs i d) = rw (add-one i) at (every-more (r x) xs i d h) in
           rw (e, go xs i h) (swap (every (r x) (take i xs)) (r x (getD xs i d)) (pairwise r (take i xs)) (every (λ y. r y (getD xs i d)) (take i xs)))
-
-  pub pairwise-left : (r : A → A → Bool) (xs : List A) (i : ℕ) (d : A) → i < length xs
-      → pairwise r (drop i xs) ≡ every (r (getD xs i d)) (drop (i + 1) xs) && pairwise r (drop (i + 1) xs)
-  unfolding pairwise
-  pairwise-left r xs i d l = rw (add-one, drop-cons xs i d)
 
 -- ---- firstWith: the lowest
 

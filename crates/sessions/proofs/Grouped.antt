@@ -5,12 +5,11 @@ use mathlib.Core.List.{List}
 use Prim.Native.Nat.{ℕ, _≤_}
 use native.Mathlib.Omega.{arith}
 use lib.Dec.{leb, ltb}
-use lib.ListN.{length}
+use lib.ListN.{length, getD}
 use borrow.Author.Tests.{le-leb}
 use Rattle.geometry.specs.Lists.{all, every, pairwise}
 use Rattle.geometry.specs.Sizes.{entries, mostOpen, sectorsOf, lawfulLength}
-use Rattle.geometry.proofs.Tests.{every-and, every-from, every-alike, many-most}
-use Rattle.geometry.proofs.Left.{Left}
+use Rattle.geometry.proofs.Tests.{every-and, every-from, many-most}
 use Rattle.directory.specs.Entries.{entryAt, isFree}
 use Rattle.directory.specs.Rules.{tableGood}
 use Rattle.sessions.specs.Session.{idle, isOf, openFiles, ofUsedEntry, ofOther, positionGood, beyondGood, placesGood, sessionRules, legal, heldGood}
@@ -43,9 +42,9 @@ grouped image s =
     rw (of-one (s .table) (s .files))
     (order (lawfulLength image) (tableGood (sectorsOf image) (s .table)) (leb (openFiles (s .files)) mostOpen) (every (ofUsedEntry (s .table)) (s .files)) (pairwise ofOther (s .files)) (every (positionGood (s .table)) (s .files)) (every (beyondGood (s .table)) (s .files)) (every (placesGood (s .table)) (s .files)))
 
-pub files-left : (table : List Entry) (files : List OpenFile) → length files ≤ mostOpen → filesGood table files ≡ Left (fileGood table) ofOther files 0
-unfolding filesGood Left openFiles
-files-left table files few = rw (le-leb (openFiles files) mostOpen (omega (arith, many-most (λ f. f .used) files)))
+pub files-grouped : (table : List Entry) (files : List OpenFile) → length files ≤ mostOpen → filesGood table files ≡ (every (fileGood table) files && pairwise ofOther files)
+unfolding filesGood openFiles
+files-grouped table files few = rw (le-leb (openFiles files) mostOpen (omega (arith, many-most (λ f. f .used) files)))
 
 -- ---- a state that is not in use keeps every rule; of one that is, its entry decides
 
@@ -64,14 +63,10 @@ module _ (table : List Entry) (f : OpenFile) where
   pub file-told : (g : Entry) (r : Bool) → g ≡ e → r ≡ openGood g f → f .used ≡ true → fileGood table f ≡ r
   file-told g r p q u = file-used u ∙ ap (λ (h : Entry). openGood h f) (sym p) ∙ sym q
 
-module _ (f : OpenFile) where
-  pub others-unused : f .used ≡ false → (gs : List OpenFile) → every (ofOther f) gs ≡ true
-  unfolding ofOther
-  others-unused u gs = every-from (ofOther f) gs idle λ i l. rw u
-
-  pub others-used : f .used ≡ true → (gs : List OpenFile) → every (ofOther f) gs ≡ every (λ g. not (isOf (f .entry) g)) gs
-  unfolding ofOther
-  others-used u gs = every-alike (ofOther f) (λ g. not (isOf (f .entry) g)) gs idle λ i l. rw u
+-- any states and one that is not in use
+pub others-unused : (f : OpenFile) → f .used ≡ false → (gs : List OpenFile) → every (λ g. ofOther g f) gs ≡ true
+unfolding ofOther isOf
+others-unused f u gs = every-from (λ g. ofOther g f) gs idle λ i l. rw (u, and-false (getD gs i idle .used))
 
 module _ (table : List Entry) (b : BufferedFile) where
   pub held-unused : (b .file .used && b .holds) ≡ false → heldGood table b ≡ true

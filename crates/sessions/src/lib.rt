@@ -1,6 +1,7 @@
 // Sessions of both engines, and when one is legal: document 01's "Answer numbers", last paragraph.
 use directory::Entry;
 use directory::entry_of;
+use directory::free_entry;
 use directory::is_good;
 use directory::is_marked;
 use geometry::Geometry;
@@ -8,10 +9,9 @@ use geometry::Place;
 ghost use mathlib.Core.Path.{_≡_};
 ghost use mathlib.Core.Bool.{_&&_, not};
 ghost use mathlib.Core.List.{map};
-ghost use lib.ListN.{drop};
 ghost use Rattle.geometry.specs.Lists.{every, firstWith};
 ghost use Rattle.directory.specs.Entries.{entryAt};
-ghost use Rattle.sessions.specs.Session.{idle, fresh, bare, unheld, isOf, fileOf, slotOf, openFiles, spotOf, placeGood, heldGood, legal, bufferedLegal};
+ghost use Rattle.sessions.specs.Session.{idle, fresh, bare, unheld, isOf, ofOther, fileOf, slotOf, openFiles, spotOf, placeGood, heldGood, legal, bufferedLegal};
 ghost use Rattle.sessions.specs.Grouped.{filesGood, openGood, holdGood};
 
 // An open file: its entry, its position, and for a compressed file the current place and the end place.
@@ -243,35 +243,37 @@ pub fn file_good(e: Entry, f: OpenFile) -> bool
                         | (place_good(e, here) & place_good(e, end))))))
 }
 
-// Whether no state from number k on is entry i's.
-fn none_from(files: [OpenFile; 4], k: usize, i: usize) -> bool
-    ensures { λ r. ⌜ r ≡ every (λ f. not (isOf i f)) (drop k files) ⌝ }
+// Whether two states are not of one entry.
+fn is_other(f: OpenFile, g: OpenFile) -> bool
+    ensures { λ r. ⌜ r ≡ ofOther f g ⌝ }
 {
-    let mut j = k;
-    while j < 4 {
-        let f = files[j];
-        if is_of(f, i) {
-            return false;
-        }
-        j += 1;
-    }
-    true
+    !(f.used & is_of(g, f.entry))
 }
 
-// Whether the open files keep the rules of files, the table being t.
-fn files_good(t: [Entry; 18], files: [OpenFile; 4]) -> bool
-    ensures { λ r. ⌜ r ≡ filesGood t files ⌝ }
+// Whether the open files keep the rules of files. The entries are read where they stand, since a table handed on is copied.
+fn files_good(s: Session) -> bool
+    ensures { λ r. ⌜ r ≡ filesGood (s .table) (s .files) ⌝ }
 {
     let mut k: usize = 0;
     while k < 4 {
-        let f = files[k];
+        let f = s.files[k];
         if f.used {
-            let e = entry_of(t, f.entry);
+            let i = f.entry;
+            let e = if i < Geometry::ENTRIES {
+                s.table[i]
+            } else {
+                free_entry()
+            };
             if !file_good(e, f) {
                 return false;
             }
-            if !none_from(files, k + 1, f.entry) {
-                return false;
+            let mut j = 0;
+            while j < k {
+                let g = s.files[j];
+                if !is_other(g, f) {
+                    return false;
+                }
+                j += 1;
             }
         }
         k += 1;
@@ -286,8 +288,7 @@ pub fn is_legal(image: &[u8], s: Session) -> bool
     if Geometry::lawful_length(image) {
         let n = Geometry::sectors_of(image) as u32;
         let t = s.table;
-        let files = s.files;
-        is_good(t, n) & files_good(t, files)
+        is_good(t, n) & files_good(s)
     } else {
         false
     }

@@ -1,109 +1,170 @@
--- `sessions::files_good` meets its contract: what is left of the states decides.
-use Prim.Native.Nat.{_+_, _≤_, _-_, _<_}
-use mathlib.Core.Path.{_≡_, sym, _∙_}
-use mathlib.Core.Logic.{⊎-elim}
+-- `sessions::files_good` meets its contract: the states before number k keep the rules, and those before number j are not of state k's entry.
+use Prim.Native.Nat.{ℕ, _<_, _≤_, _-_}
+use mathlib.Core.Path.{_≡_, refl, sym, _∙_}
+use mathlib.Core.Bool.{true}
+use mathlib.Core.List.{List}
+use mathlib.Core.Logic.{_⊎_, ⊎-elim}
 use native.Mathlib.Omega.{arith}
-use lib.ListN.{length, getD, drop}
+use lib.ListN.{length, take, getD, length-map, List·getD-eq-default}
 use borrow.Author.Tests.{not-true, not-false}
-use Rattle.geometry.proofs.Left.{Left, left-none, left-on, left-one, left-two}
+use Rattle.geometry.specs.Lists.{every}
+use Rattle.geometry.proofs.Front.{front-every-on, Front, front-none, front-on, front-whole, front-one, front-two}
+use Rattle.directory.specs.Entries.{entryAt, freeEntry}
+use Rattle.directory.specs.declared.Entry.{Entry}
+use Rattle.directory.proofs.Table.{getD-any}
 use Rattle.sessions.specs.Session.{idle, ofOther}
-use Rattle.sessions.specs.Grouped.{fileGood, filesGood}
-use Rattle.sessions.proofs.Grouped.{files-left, file-unused, file-told, others-unused, others-used}
+use Rattle.sessions.specs.Grouped.{fileGood}
+use Rattle.sessions.proofs.Grouped.{files-grouped, file-unused, file-told, others-unused}
 use borrow.Author.Needs.{needs}
 use Rattle.sessions.proofs.files_good.Statement.{statement}
 use Rattle.sessions.proofs.files_good.Tie as tie
 
+abbrev Inv-loop2 : tie.InvT-loop2
+Inv-loop2 s k f i j₀ j = (every (λ g. ofOther g f) (take j (s .files)) ≡ true) × (j ≤ k)
+
+abbrev μ-loop2 : tie.MeasureT-loop2
+μ-loop2 s k f i j₀ j = k - j
+
 abbrev Inv-loop : tie.InvT-loop
-Inv-loop t files k₀ k = (filesGood t files ≡ Left (fileGood t) ofOther files k) × (k ≤ 4)
+Inv-loop s k₀ k = (Front (fileGood (s .table)) ofOther (s .files) k ≡ true) × (k ≤ 4)
 
 abbrev μ-loop : tie.MeasureT-loop
-μ-loop t files k₀ k = 4 - k
+μ-loop s k₀ k = 4 - k
 
-loop-holds : tie.Need-loop-holds Inv-loop μ-loop
-loop-holds c =
-    let n : length (c .args .t2) ≤ 4 = search needs in
-    (files-left (c .args .t) (c .args .t2) n, omega arith)
+-- the session's own relation says how long its arrays are
+entries-of : (c : tie.Start Inv-loop2 μ-loop2 Inv-loop μ-loop) → length (c .args .t1 .table) ≡ 18
+entries-of c = simp length-map at (c .good .0 .1 .1 .0 .1 .0 .1)
 
-mul-f : tie.Need-mul-f Inv-loop μ-loop
+states-of : (c : tie.Start Inv-loop2 μ-loop2 Inv-loop μ-loop) → length (c .args .t1 .files) ≡ 4
+states-of c = simp length-map at (c .good .0 .1 .1 .1 .0 .1 .0 .1)
+
+-- the entry that is read, inside the table or not
+entry-told : {P Q : Type 0} (t : List Entry) (i : ℕ) (e d : Entry) → length t ≡ 18 → (P → (i < 18) × (e ≡ getD t i d)) → (Q → (18 ≤ i) × (e ≡ freeEntry)) → P ⊎ Q → e ≡ entryAt t i
+entry-told t i e d n f g =
+    ⊎-elim (λ p. f p .1 ∙ getD-any t i d freeEntry (rw n (f p .0))) (λ q. g q .1 ∙ sym (List·getD-eq-default t freeEntry (rw n (g q .0))))
+
+loop-holds : tie.Need-loop-holds Inv-loop2 μ-loop2 Inv-loop μ-loop
+loop-holds c = (front-none (fileGood (c .args .t1 .table)) ofOther (c .args .t1 .files), omega arith)
+
+mul-f : tie.Need-mul-f Inv-loop2 μ-loop2 Inv-loop μ-loop
 mul-f c = search needs
 
-array-copy-out-f : tie.Need-array-copy-out-f Inv-loop μ-loop
-array-copy-out-f c = search needs
+element-copy-out-f : tie.Need-element-copy-out-f Inv-loop2 μ-loop2 Inv-loop μ-loop
+element-copy-out-f c = search needs
 
-entry-of-requires : tie.Need-entry-of-requires Inv-loop μ-loop
-entry-of-requires c κs = search needs
+mul-e : tie.Need-mul-e Inv-loop2 μ-loop2 Inv-loop μ-loop
+mul-e c = search needs
 
-file-good-requires : tie.Need-file-good-requires Inv-loop μ-loop
+element-copy-out-e : tie.Need-element-copy-out-e Inv-loop2 μ-loop2 Inv-loop μ-loop
+element-copy-out-e c = search needs
+
+free-entry-requires : tie.Need-free-entry-requires Inv-loop2 μ-loop2 Inv-loop μ-loop
+free-entry-requires c κs = search needs
+
+file-good-requires : tie.Need-file-good-requires Inv-loop2 μ-loop2 Inv-loop μ-loop
 file-good-requires c κs = search needs
 
-returns : tie.Need-returns Inv-loop μ-loop
+returns : tie.Need-returns Inv-loop2 μ-loop2 Inv-loop μ-loop
 returns c =
-    let l = c .before .before .before .before .before .before in
-    let a = l .before .args in
-    let n : length (a .t2) ≡ 4 = search needs in
+    let j = c .before .before in
+    let l = j .before .before .before .before in
+    let s = l .before .args .t1 in
+    let n : length (s .table) ≡ 18 = entries-of (l .before) in
+    let m : length (s .files) ≡ 4 = states-of (l .before) in
     let k = l .loop .k in
-    let bad = file-told (a .t) (getD (a .t2) k idle) _ _ (c .before .before .entry-of .ensures) (c .before .file-good .ensures) (c .before .before .before .if1 .taken) ∙ not-true _ (c .if2 .taken) in
-    sym (l .loop .inv .0 ∙ left-one (fileGood (a .t)) ofOther (a .t2) k idle (omega arith) bad)
+    let f = getD (s .files) k idle in
+    let e = entry-told (s .table) (f .entry) (j .if2 .e) _ n (λ v. (v .0 .taken, v .2)) (λ v. (v .0 .left, v .2 ∙ v .1 .ensures)) (j .if2 .came) in
+    let bad = file-told (s .table) f (j .if2 .e) _ e (c .before .file-good .ensures) (j .before .if1 .taken) ∙ not-true _ (c .if3 .taken) in
+    sym (files-grouped (s .table) (s .files) (omega arith) ∙ front-one (fileGood (s .table)) ofOther (s .files) k idle (omega arith) bad)
 
-add-none-from : tie.Need-add-none-from Inv-loop μ-loop
-add-none-from c = search needs
+loop2-holds : tie.Need-loop2-holds Inv-loop2 μ-loop2 Inv-loop μ-loop
+unfolding every
+loop2-holds c = (refl, omega arith)
 
-none-from-requires : tie.Need-none-from-requires Inv-loop μ-loop
-none-from-requires c κs = search needs
+mul-g : tie.Need-mul-g Inv-loop2 μ-loop2 Inv-loop μ-loop
+mul-g c = search needs
 
-returns-2 : tie.Need-returns-2 Inv-loop μ-loop
+element-copy-out-g : tie.Need-element-copy-out-g Inv-loop2 μ-loop2 Inv-loop μ-loop
+element-copy-out-g c = search needs
+
+is-other-requires : tie.Need-is-other-requires Inv-loop2 μ-loop2 Inv-loop μ-loop
+is-other-requires c κs = search needs
+
+returns-2 : tie.Need-returns-2 Inv-loop2 μ-loop2 Inv-loop μ-loop
 returns-2 c =
-    let l = c .before .before .before .before .before .before .before .before in
-    let a = l .before .args in
-    let n : length (a .t2) ≡ 4 = search needs in
-    let k = l .loop .k in
-    let bad = others-used (getD (a .t2) k idle) (c .before .before .before .before .before .if1 .taken) (drop (k + 1) (a .t2)) ∙ sym (c .before .none-from .ensures) ∙ not-true _ (c .if3 .taken) in
-    sym (l .loop .inv .0 ∙ left-two (fileGood (a .t)) ofOther (a .t2) k idle (omega arith) bad)
+    let b = c .before .before .before .before in
+    let l = b .before .before .before .before .before .before .before in
+    let s = l .before .args .t1 in
+    let m : length (s .files) ≡ 4 = states-of (l .before) in
+    sym (files-grouped (s .table) (s .files) (omega arith) ∙ front-two (fileGood (s .table)) ofOther (s .files) (l .loop .k) idle (omega arith) (b .loop2 .j) (omega arith) (sym (c .before .is-other .ensures) ∙ not-true _ (c .if4 .taken)))
 
-add-k : tie.Need-add-k Inv-loop μ-loop
+add-j : tie.Need-add-j Inv-loop2 μ-loop2 Inv-loop μ-loop
+add-j c = search needs
+
+loop2-less : tie.Need-loop2-less Inv-loop2 μ-loop2 Inv-loop μ-loop
+loop2-less c = search needs
+
+loop2-again : tie.Need-loop2-again Inv-loop2 μ-loop2 Inv-loop μ-loop
+loop2-again c =
+    let b = c .before .before .before .before in
+    let l = b .before .before .before .before .before .before .before in
+    let s = l .before .args .t1 in
+    let m : length (s .files) ≡ 4 = states-of (l .before) in
+    (front-every-on _ (s .files) (b .loop2 .j) idle (omega arith) (b .loop2 .inv .0) (sym (c .before .is-other .ensures) ∙ not-false _ (c .if4 .left)), omega arith)
+
+add-k : tie.Need-add-k Inv-loop2 μ-loop2 Inv-loop μ-loop
 add-k c = search needs
 
-loop-less : tie.Need-loop-less Inv-loop μ-loop
+loop-less : tie.Need-loop-less Inv-loop2 μ-loop2 Inv-loop μ-loop
 loop-less c = search needs
 
-loop-again : tie.Need-loop-again Inv-loop μ-loop
+loop-again : tie.Need-loop-again Inv-loop2 μ-loop2 Inv-loop μ-loop
 loop-again c =
     let l = c .before .before .before in
-    let a = l .before .args in
-    let n : length (a .t2) ≡ 4 = search needs in
-    let h : l .loop .k < length (a .t2) = omega arith in
+    let s = l .before .args .t1 in
+    let n : length (s .table) ≡ 18 = entries-of (l .before) in
+    let m : length (s .files) ≡ 4 = states-of (l .before) in
     let k = l .loop .k in
-    let f = getD (a .t2) k idle in
-    let t = a .t in
-    let on = left-on (fileGood t) ofOther (a .t2) k idle h in (
-      l .loop .inv .0 ∙ ⊎-elim
-          (λ w. on (file-told t f _ _ (w .1 .ensures) (w .2 .ensures) (w .0 .taken) ∙ not-false _ (w .3 .left)) (others-used f (w .0 .taken) (drop (k + 1) (a .t2)) ∙ sym (w .4 .ensures) ∙ not-false _ (w .5 .left)))
-          (λ w. on (file-unused t f (w .left)) (others-unused f (w .left) (drop (k + 1) (a .t2))))
+    let h : k < length (s .files) = omega arith in
+    let f = getD (s .files) k idle in
+    let on = front-on (fileGood (s .table)) ofOther (s .files) k idle h in (
+      ⊎-elim
+          (λ w. on (w .4 .j) (omega arith) (l .loop .inv .0) (file-told (s .table) f (w .1 .e) _ (entry-told (s .table) (f .entry) (w .1 .e) _ n (λ v. (v .0 .taken, v .2)) (λ v. (v .0 .left, v .2 ∙ v .1 .ensures)) (w .1 .came)) (w .2 .ensures) (w .0 .taken) ∙ not-false _ (w .3 .left)) (w .4 .inv .0))
+          (λ w. on k (omega arith) (l .loop .inv .0) (file-unused (s .table) f (w .left)) (others-unused f (w .left) (take k (s .files))))
           (c .if1 .came),
       omega arith,
     )
 
-returns-3 : tie.Need-returns-3 Inv-loop μ-loop
+returns-3 : tie.Need-returns-3 Inv-loop2 μ-loop2 Inv-loop μ-loop
 returns-3 c =
-    let a = c .before .before .args in
-    let n : length (a .t2) ≡ 4 = search needs in
-    sym (c .before .loop .inv .0 ∙ left-none (fileGood (a .t)) ofOther (a .t2) (c .before .loop .k) (omega arith))
+    let s = c .before .before .args .t1 in
+    let m : length (s .files) ≡ 4 = states-of (c .before .before) in
+    sym (files-grouped (s .table) (s .files) (omega arith) ∙ front-whole (fileGood (s .table)) ofOther (s .files) (c .before .loop .k) (omega arith) (c .before .loop .inv .0))
 
 pub files-good-spec : {M : Type 1} → statement M
 files-good-spec =
     tie.close
     (tie.spec
+    Inv-loop2
+    μ-loop2
     Inv-loop
     μ-loop
     loop-holds
     mul-f
-    array-copy-out-f
-    entry-of-requires
+    element-copy-out-f
+    mul-e
+    element-copy-out-e
+    free-entry-requires
     file-good-requires
     returns
-    add-none-from
-    none-from-requires
+    loop2-holds
+    mul-g
+    element-copy-out-g
+    is-other-requires
     returns-2
+    add-j
+    loop2-less
+    loop2-again
     add-k
     loop-less
     loop-again

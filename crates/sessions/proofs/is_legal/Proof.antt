@@ -24,7 +24,7 @@ files-good-requires c κs = search needs
 
 returns : tie.Need-returns
 returns c =
-    let b = c .before .before .before .before in
+    let b = c .before .before .before in
     let a = b .before .before .before .before .args in
     let l = sym (b .before .before .lawful-length .ensures) ∙ b .before .if1 .taken in
     sym (grouped (a .image .now) (a .s) ∙ rw (l, c .before .is-good .ensures, b .sectors-of .ensures, c .files-good .ensures))
