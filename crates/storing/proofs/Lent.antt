@@ -10,17 +10,15 @@ use lib.Seq.{length-take-le, getD-take}
 use borrow.Author.Tests.{eq-eqb, eqb-true}
 use Rattle.geometry.specs.Bytes.{part}
 use Rattle.geometry.specs.Lists.{all, every, pairwise}
-use Rattle.geometry.specs.Sizes.{entries, mostOpen, sectorsOf, lawfulLength}
+use Rattle.geometry.specs.Sizes.{entries, mostOpen}
 use Rattle.geometry.proofs.Bytes.{part-split}
 use Rattle.geometry.proofs.Tests.{alike, either, both-ways, and-left, and-right, and-both, every-from, pairwise-getD}
 use Rattle.directory.specs.Entries.{entryBytes, freeEntry, entryAt}
-use Rattle.directory.specs.Rules.{kindKnown, tableRules, tableGood}
 use Rattle.directory.specs.Grouped.{entryGood, twoGood}
 use Rattle.directory.proofs.Free.{every-append, zero-entry, free-good}
-use Rattle.sessions.specs.Session.{idle, bare, unheld, isOf, fileOf, slotOf, openFiles, heldGood, legal, bufferedLegal}
+use Rattle.sessions.specs.Session.{idle, bare, isOf, fileOf, slotOf, openFiles, heldGood, legal, bufferedLegal}
 use Rattle.sessions.specs.Grouped.{holdGood}
-use Rattle.sessions.proofs.Files.{slot-own, slot-new}
-use Rattle.sessions.proofs.Grouped.{grouped, held-unused, held-told}
+use Rattle.sessions.proofs.Grouped.{held-unused, held-told}
 use Rattle.sessions.proofs.Unheld.{bare-unheld}
 use Rattle.directory.specs.declared.Entry.{Entry}
 use Rattle.sessions.specs.declared.BufferedFile.{BufferedFile}
@@ -31,9 +29,8 @@ use Rattle.storing.specs.Numbers.{numberIn, isSet}
 use Rattle.storing.specs.Rows.{rowIn}
 use Rattle.storing.specs.Stored.{entryWidth, fileWidth, heldWidth, filesAt, entryIn, fileIn, heldIn, isStored, isBufferedStored, tableIn, unlawful, sessionIn, bufferedIn}
 use Rattle.storing.specs.Lent.{filesIn, bareIn, seenOf}
-use Rattle.storing.specs.declared.lawful.Seen.{Seen}
 use Rattle.storing.proofs.Rows.{length-row, getD-row}
-use Rattle.storing.proofs.Read.{length-table, session-is, buffered-is, buffered-none}
+use Rattle.storing.proofs.Read.{session-is, buffered-is, buffered-none}
 
 -- ---- zero bytes
 
@@ -55,6 +52,11 @@ zero-number (x ∷ xs) =
     let c : numberIn xs ≡ 0 = eqb-true (numberIn xs) 0 (n ∙ and-right (eqb x 0) (every zero-byte xs) h) in
     eq-eqb (x + 256 * numberIn xs) 0 (omega arith))
 
+twice : (x y z : Bool) → (x && (y && z)) ≡ ((x && y) && (y && z))
+twice false y z = refl
+twice true false z = refl
+twice true true z = refl
+
 module _ (b : List ℕ) where
   -- the first k of n bytes, and what is behind them
   front-zero : (k at n next : ℕ) (r : Bool) → k ≤ n → next ≡ at + k → every zero-byte (part b next (n - k)) ≡ r
@@ -69,18 +71,21 @@ module _ (b : List ℕ) where
       → every zero-byte (part b at n) ≡ (eqb (numberIn (part b at k)) 0 && r)
   next-zero k at n next r h e p = front-zero k at n next r h e p ∙ ap (λ (q : Bool). q && r) (sym (zero-number (part b at k)))
 
-  -- as five numbers of four bytes and one of two
-  pub zero-by-four : (at : ℕ) → every (λ x. eqb x 0) (part b at 22)
-      ≡ (eqb (numberIn (part b at 4)) 0
-      && (eqb (numberIn (part b (at + 4) 4)) 0
-      && (eqb (numberIn (part b (at + 8) 4)) 0
-      && (eqb (numberIn (part b (at + 12) 4)) 0 && (eqb (numberIn (part b (at + 16) 4)) 0 && eqb (numberIn (part b (at + 20) 2)) 0)))))
-  zero-by-four at =
-      next-zero 4 at 22 (at + 4) _ (omega arith) refl
-      (next-zero 4 (at + 4) 18 (at + 8) _ (omega arith) (omega arith)
-      (next-zero 4 (at + 8) 14 (at + 12) _ (omega arith) (omega arith)
-      (next-zero 4 (at + 12) 10 (at + 16) _ (omega arith) (omega arith)
-      (next-zero 4 (at + 16) 6 (at + 20) _ (omega arith) (omega arith) (sym (zero-number (part b (at + 20) 2)))))))
+  -- two parts of which the second begins in the first
+  over-zero : (at next last : ℕ) → next ≡ at + 6 → last ≡ next + 2
+      → every zero-byte (part b at 14) ≡ (every zero-byte (part b at 8) && every zero-byte (part b next 8))
+  over-zero at next last p q =
+      let whole : every zero-byte (part b at 14) ≡ (every zero-byte (part b at 6) && every zero-byte (part b next 8)) = front-zero 6 at 14 next _ (omega arith) p refl in
+      let first : every zero-byte (part b at 8) ≡ (every zero-byte (part b at 6) && every zero-byte (part b next 2)) = front-zero 6 at 8 next _ (omega arith) p refl in
+      let second : every zero-byte (part b next 8) ≡ (every zero-byte (part b next 2) && every zero-byte (part b last 6)) = front-zero 2 next 8 last _ (omega arith) q refl in
+      rw (whole, first, second) (twice (every zero-byte (part b at 6)) (every zero-byte (part b next 2)) (every zero-byte (part b last 6)))
+
+  -- as three numbers of eight bytes
+  pub zero-by-eight : (at : ℕ) → every (λ x. eqb x 0) (part b at 22)
+      ≡ (eqb (numberIn (part b at 8)) 0 && (eqb (numberIn (part b (at + 8) 8)) 0 && eqb (numberIn (part b (at + 14) 8)) 0))
+  zero-by-eight at =
+      next-zero 8 at 22 (at + 8) _ (omega arith) refl
+      (over-zero (at + 8) (at + 14) (at + 16) (omega arith) (omega arith) ∙ rw (zero-number (part b (at + 8) 8), zero-number (part b (at + 14) 8)))
 
   -- as the name and the numbers of an entry
   zero-by-field : (at : ℕ) → every zero-byte (part b at 22) ≡ every zero-byte (entryBytes (entryIn b at))
@@ -179,11 +184,6 @@ module _ (b : List ℕ) (k at : ℕ) (h : k < mostOpen) (q : at ≡ filesAt + he
   hold-none t = ap (heldGood (tableIn b)) held-is ∙ held-unused (tableIn b) (heldIn b at) (rw (pu, pv) at t)
 
 -- ---- sessions
-
--- "a session that is not legal": entries of no kind that there is
-pub unlawful-not : (image : List ℕ) → legal image unlawful ≡ false
-unfolding unlawful tableGood tableRules all every kindKnown
-unlawful-not image = grouped image unlawful ∙ and-false (lawfulLength image)
 
 -- without their buffers
 bare-row : (w n : ℕ) (b : List ℕ) (at : ℕ) → map (λ f. f .file) (rowIn heldIn w n b at) ≡ rowIn fileIn w n b at

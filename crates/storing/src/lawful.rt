@@ -50,16 +50,12 @@ pub struct Seen {
 
 // ---- the table
 
-// Whether the 22 bytes of an entry are zero.
+// Whether the 22 bytes of an entry are zero: three numbers of eight are, of which the last begins in the one before.
 fn is_zero_at(b: &[u8], at: usize) -> bool
     requires { ⌜ at + 22 ≤ length (now b) ⌝ }
     ensures { λ r. ⌜ r ≡ every (λ x. eqb x 0) (part (now (b .entry)) at 22) ⌝ }
 {
-    (long_at(b, at) == 0)
-        & ((long_at(b, at + 4) == 0)
-            & ((long_at(b, at + 8) == 0)
-                & ((long_at(b, at + 12) == 0)
-                    & ((long_at(b, at + 16) == 0) & (word_at(b, at + 20) == 0)))))
+    (wide_at(b, at) == 0) & ((wide_at(b, at + 8) == 0) & (wide_at(b, at + 14) == 0))
 }
 
 // Whether each entry before number i keeps the rules of two with e.

@@ -60,16 +60,14 @@ fn word(a: u8, b: u8) -> u16
 fn long(a: u8, b: u8, c: u8, d: u8) -> u32
     ensures { λ r. ⌜ r ≡ numberIn (a ∷ b ∷ c ∷ d ∷ []) ⌝ }
 {
-    (a as u32) + 256 * ((b as u32) + 256 * ((c as u32) + 256 * (d as u32)))
+    (a as u32) + 256 * (b as u32) + 65536 * (c as u32) + 16777216 * (d as u32)
 }
 
 // The number in eight bytes.
 fn wide(a: u8, b: u8, c: u8, d: u8, e: u8, f: u8, g: u8, h: u8) -> usize
     ensures { λ r. ⌜ r ≡ numberIn (a ∷ b ∷ c ∷ d ∷ e ∷ f ∷ g ∷ h ∷ []) ⌝ }
 {
-    let low = (a as usize) + 256 * ((b as usize) + 256 * ((c as usize) + 256 * (d as usize)));
-    let high = (e as usize) + 256 * ((f as usize) + 256 * ((g as usize) + 256 * (h as usize)));
-    low + 4294967296 * high
+    (long(a, b, c, d) as usize) + 4294967296 * (long(e, f, g, h) as usize)
 }
 
 fn word_at(b: &[u8], at: usize) -> u16

@@ -6,7 +6,7 @@ use native.Mathlib.Omega.{arith}
 use lib.ListN.{length, getD}
 use borrow.Author.Count.{below-more}
 use Rattle.geometry.proofs.Tests.{first-is}
-use Rattle.sessions.specs.Session.{idle, isOf}
+use Rattle.sessions.specs.Session.{idle}
 use Rattle.storing.specs.Lent.{filesIn}
 use Rattle.storing.proofs.Lent.{length-files, state-used}
 use borrow.Author.Needs.{needs}

@@ -1,12 +1,11 @@
 -- `storing::lawful::is_legal_buffered_in` meets its contract: the rules of a session, and that of held sectors.
-use mathlib.Core.Path.{_≡_, sym, ap, _∙_}
+use mathlib.Core.Path.{_≡_, sym, _∙_}
 use mathlib.Core.Bool.{true}
 use native.Mathlib.Omega.{arith}
-use Rattle.sessions.specs.Session.{bufferedLegal}
-use Rattle.sessions.proofs.Unheld.{unheld-legal}
-use Rattle.storing.specs.Stored.{heldFlags, isBufferedStored, unlawful}
-use Rattle.storing.proofs.Read.{formed-size, buffered-none}
-use Rattle.storing.proofs.Lent.{buffered-legal, unlawful-not}
+use Rattle.storing.specs.Stored.{heldFlags, isBufferedStored}
+use Rattle.storing.proofs.Read.{formed-size}
+use Rattle.storing.proofs.Illegal.{none-legal-buffered}
+use Rattle.storing.proofs.Lent.{buffered-legal}
 use borrow.Author.Needs.{needs}
 use Rattle.storing.proofs.lawful.is_legal_buffered_in.Statement.{statement}
 use Rattle.storing.proofs.lawful.is_legal_buffered_in.Tie as tie
@@ -34,7 +33,7 @@ returns c =
 returns-2 : tie.Need-returns-2
 returns-2 c =
     let a = c .before .before .before .before .args in
-    sym (ap (bufferedLegal (a .image .now)) (buffered-none (a .b .now) (sym (c .before .is-buffered .ensures) ∙ c .if1 .left)) ∙ unheld-legal (a .image .now) unlawful ∙ unlawful-not (a .image .now))
+    sym (none-legal-buffered (a .image .now) (a .b .now) (sym (c .before .is-buffered .ensures) ∙ c .if1 .left))
 
 pub is-legal-buffered-in-spec : {M : Type 1} → statement M
 is-legal-buffered-in-spec =

@@ -4,8 +4,9 @@ use mathlib.Core.Bool.{true}
 use native.Mathlib.Omega.{arith}
 use Rattle.sessions.specs.Session.{legal}
 use Rattle.storing.specs.Stored.{fileFlags, isStored}
-use Rattle.storing.proofs.Read.{formed-size, session-none}
-use Rattle.storing.proofs.Lent.{plain-is, unlawful-not}
+use Rattle.storing.proofs.Read.{formed-size}
+use Rattle.storing.proofs.Illegal.{none-legal}
+use Rattle.storing.proofs.Lent.{plain-is}
 use borrow.Author.Needs.{needs}
 use Rattle.storing.proofs.lawful.is_legal_in.Statement.{statement}
 use Rattle.storing.proofs.lawful.is_legal_in.Tie as tie
@@ -29,7 +30,7 @@ returns c =
 returns-2 : tie.Need-returns-2
 returns-2 c =
     let a = c .before .before .before .before .args in
-    sym (ap (legal (a .image .now)) (session-none (a .b .now) (sym (c .before .is-session .ensures) ∙ c .if1 .left)) ∙ unlawful-not (a .image .now))
+    sym (none-legal (a .image .now) (a .b .now) (sym (c .before .is-session .ensures) ∙ c .if1 .left))
 
 pub is-legal-in-spec : {M : Type 1} → statement M
 is-legal-in-spec =

@@ -3,7 +3,6 @@ use Prim.Native.Nat.{_*_, _≤_}
 use mathlib.Core.Path.{refl}
 use native.Mathlib.Nat.{mul-le-mul, mul-le-mul-left}
 use native.Mathlib.Omega.{arith}
-use borrow.Author.Needs.{needs}
 use Rattle.storing.proofs.lawful.state_place.Statement.{statement}
 use Rattle.storing.proofs.lawful.state_place.Tie as tie
 
