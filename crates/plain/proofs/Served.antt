@@ -2,19 +2,39 @@
 -- are no session are refused.
 use mathlib.Core.Path.{_≡_, refl, sym, ap, _∙_}
 use mathlib.Core.Bool.{Bool, true, false}
-use mathlib.Core.List.{List}
-use Prim.Native.Nat.{ℕ}
+use mathlib.Core.List.{List, []}
+use Prim.Native.Nat.{ℕ, _<_}
 use lib.ListN.{length, set}
+use lib.Seq.{sets}
+use Rattle.geometry.specs.Bytes.{part}
+use Rattle.geometry.specs.Sizes.{entries}
 use Rattle.geometry.proofs.Tests.{either, both-ways}
-use Rattle.sessions.specs.Session.{slotOf, legal}
-use Rattle.steps.specs.Step.{After}
-use Rattle.storing.specs.Stored.{entryWidth, entryStored, isStored, sessionIn, stored, layEntry, layFile}
+use Rattle.requests.specs.Judge.{judge}
+use Rattle.requests.proofs.Done.{done-allows, met-meets}
+use Rattle.requests.proofs.Live.{done-real, met-live}
+use Rattle.sessions.specs.Session.{slotOf, openFiles, legal}
+use Rattle.steps.specs.Effects.{effects, plainAll}
+use Rattle.steps.specs.Next.{factsOf}
+use Rattle.steps.specs.Step.{After, plainScene, plainStep}
+use Rattle.steps.specs.Verdict.{seenScene, bufferNext, answerOf, verdictOf}
+use Rattle.straight.specs.Straight.{codeGiven, Encoded}
+use Rattle.straight.proofs.Judged.{judgement}
+use Rattle.storing.specs.Lent.{seenOf}
+use Rattle.storing.specs.Stored.{entryWidth, entryStored, isStored, unlawful, sessionIn, stored, layEntry, layFile}
 use Rattle.storing.proofs.Illegal.{none-legal}
 use Rattle.storing.proofs.Laws.{stored-kept, stored-laid}
+use Rattle.storing.proofs.Read.{length-table, session-is, session-none}
 use Rattle.judging.specs.Lent.{afterIn, lentAfter}
+use Rattle.plain.specs.Plain.{sceneIn}
+use Rattle.plain.proofs.Stepped.{verdict-now, buffer-now, done-after, met-after, refused-after, goes-there, goes-encoded}
 use Rattle.requests.specs.declared.Answer.{Answer}
+use Rattle.requests.specs.declared.Answer.the-variants.{Done, Met, Refused}
+use Rattle.requests.specs.declared.Edge.{Edge}
+use Rattle.requests.specs.declared.Refusal.{Refusal}
+use Rattle.requests.specs.declared.Request.{Request}
 use Rattle.sessions.specs.declared.Session.{Session}
 use Rattle.steps.specs.declared.Verdict.{Verdict}
+use Rattle.storing.specs.declared.lawful.Seen.{Seen}
 
 -- a legal session's bytes are one
 told : (image b : List ℕ) → legal image (sessionIn b) ≡ true → isStored b ≡ true
@@ -54,3 +74,67 @@ module _ (image b : List ℕ) (i : ℕ) (w : After Session) where
       go = either (isStored b)
           (λ (t : isStored b ≡ true). ap (λ (z : List ℕ). afterIn a image z moved) (sym (stored-kept b t)) ∙ sym (lent-told b old t))
           (λ (t : isStored b ≡ false). sym (lent-none b old t))
+
+-- the table of a session in lent bytes has 18 entries
+pub table-long : (b : List ℕ) → length (sessionIn b .table) ≡ entries
+table-long b = either (isStored b)
+    (λ (t : isStored b ≡ true). rw (session-is b t) (length-table b))
+    (λ (t : isStored b ≡ false). rw (session-none b t) none-long)
+  where
+    none-long : length (unlawful .table) ≡ entries
+    none-long = unfold unlawful in refl
+
+-- ---- as the program goes: what is found, the code's length, the verdict
+
+module _ (image b : List ℕ) (i : ℕ) (q : Request) (given buffer : List ℕ) where
+  abbrev s : Session
+  s = sessionIn b
+
+  abbrev stepped : After Session
+  stepped = plainStep image s i q given buffer
+
+  abbrev judged : Verdict
+  judged = judgement (legal image s) (openFiles (s .files)) (length buffer) q (plainScene image s i given)
+
+  abbrev answered : Answer
+  answered = judge q (factsOf (legal image s) (openFiles (s .files)) (length buffer) q (plainScene image s i given))
+
+  module _ (x : Seen) (found : x ≡ seenOf s i) (n : ℕ) (size : n ≡ length (codeGiven (x .entry) given)) (v : Verdict)
+      (told : v ≡ verdictOf (legal image s) (openFiles (s .files)) (length buffer) n q (seenScene image s 0 [] i given)) where
+    verdict-told : v ≡ judged
+    unfolding seenOf
+    verdict-told = rw (told, size, found) (verdict-now image s i q given buffer)
+
+    answer-told : (a : Answer) → v .answer ≡ a → answered ≡ a
+    answer-told a h = sym (ap (λ (w : Verdict). w .answer) verdict-told) ∙ h
+
+    pub goes : (room : List ℕ) → length room ≡ 135 → v .answer ≡ Done → (i < entries) × Encoded q (x .entry) given (part (sets room 0 (codeGiven (x .entry) given)) 0 n)
+    unfolding seenOf
+    goes room h d = (
+      goes-there image s i q given buffer (table-long b) (answer-told Done d),
+      rw (size, found) (goes-encoded image s i q given buffer room h (answer-told Done d)),
+    )
+
+    module _ (moved : List ℕ) (into : moved ≡ bufferNext (answerOf (legal image s) (openFiles (s .files)) (length buffer) n q (seenScene image s 0 [] i given)) q (seenScene image s 0 [] i given) buffer) where
+      buffer-told : moved ≡ bufferNext answered q (plainScene image s i given) buffer
+      unfolding seenOf
+      buffer-told = rw (into, size, found) (buffer-now image s i q given buffer)
+
+      pub done-served : v .answer ≡ Done → (to : List ℕ)
+          → to ≡ plainAll (sceneIn image i (x .entry) (x .file) given) (effects q (sceneIn image i (x .entry) (x .file) given)) image
+          → (lent : List ℕ) → length (entryStored (v .entry)) ≡ entryWidth → lent ≡ layFile (layEntry b i (v .entry)) (x .slot) (v .file)
+          → afterIn (v .answer) to lent moved ≡ lentAfter (isStored b) stored b stepped
+      unfolding seenOf plainScene
+      done-served d to t lent long l =
+          laid image b i stepped (done-real q _ (done-allows q _ (answer-told Done d)) .legal) v (v .answer) to moved lent long (rw found at l)
+          (rw (verdict-told, t, found, buffer-told) (done-after image s i q given buffer (answer-told Done d)))
+
+      pub met-served : (y : Edge) → v .answer ≡ Met y → (lent : List ℕ) → length (entryStored (v .entry)) ≡ entryWidth
+          → lent ≡ layFile (layEntry b i (v .entry)) (x .slot) (v .file) → afterIn (v .answer) image lent moved ≡ lentAfter (isStored b) stored b stepped
+      unfolding seenOf
+      met-served y d lent long l =
+          laid image b i stepped (met-live _ q y (met-meets q _ y (answer-told (Met y) d)) .legal) v (v .answer) image moved lent long (rw found at l)
+          (rw (verdict-told, buffer-told) (met-after image s i q given buffer y (answer-told (Met y) d)))
+
+      pub refused-served : (y : Refusal) → v .answer ≡ Refused y → afterIn (v .answer) image b moved ≡ lentAfter (isStored b) stored b stepped
+      refused-served y d = unlaid image b i stepped (v .answer) moved (rw (verdict-told, buffer-told) (refused-after image s i q given buffer y (answer-told (Refused y) d)))

@@ -1,102 +1,90 @@
+-- `plain::serve_in` meets its contract: one way for each answer.
+use lib.ListN.{length}
+use mathlib.Core.Path.{_≡_}
+use Rattle.plain.specs.Plain.{served}
+use Rattle.plain.proofs.Served.{goes, done-served, met-served, refused-served}
 use borrow.Author.Needs.{needs}
 use Rattle.plain.proofs.serve_in.Statement.{statement}
 use Rattle.plain.proofs.serve_in.Tie as tie
-use Rattle.plain.proofs.serve_in.Reads as reads
-use Rattle.plain.proofs.serve_in.Lts as lts
-use Rattle.geometry.proofs.part.Reads as part-reads
-use Rattle.judging.proofs.verdict_in.Reads as verdict-in-reads
-use Rattle.plain.proofs.act.Reads as act-reads
-use Rattle.plain.proofs.put_next.Reads as put-next-reads
-use Rattle.storing.proofs.find_in.Reads as find-in-reads
-use Rattle.straight.proofs.encode_given.Reads as encode-given-reads
 
--- src/lib.rt:206:9
 find-in-requires : tie.Need-find-in-requires
 find-in-requires c κs = search needs
 
--- src/lib.rt:209:9
 encode-given-requires : tie.Need-encode-given-requires
 encode-given-requires c κs = search needs
 
--- src/lib.rt:210:9
 verdict-in-requires : tie.Need-verdict-in-requires
 verdict-in-requires c κs = search needs
 
--- src/lib.rt:214:17
 enum-told : tie.Need-enum-told
 enum-told c = search needs
 
--- src/lib.rt:214:43
 part-requires : tie.Need-part-requires
 part-requires c κs = search needs
 
--- src/lib.rt:214:13
 act-requires : tie.Need-act-requires
-act-requires c κs = ?
+act-requires c κs =
+    let a = c .before .before .before .before .before .before .before .before .before .before .before .before .before .before .before .before .before .before .before .before .before .before .args in
+    let z : length (a .code .now) ≡ 135 = search needs in
+    let g = goes (a .image .now) (a .session .now) (a .i) (a .q) (a .given .now) (a .buffer .now) (c .before .before .before .before .before .before .before .before .before .before .before .before .before .before .before .before .find-in .result) (c .before .before .before .before .before .before .before .before .before .before .before .before .before .before .before .before .find-in .ensures) (c .before .before .before .before .before .before .before .before .before .before .before .before .encode-given .result) (c .before .before .before .before .before .before .before .before .before .before .before .before .encode-given .ensures .0) (c .before .before .before .before .before .before .before .before .verdict-in .result) (c .before .before .before .before .before .before .before .before .verdict-in .ensures .0) (a .code .now) z (c .before .before .before .before .enum-told .given .1) in
+    (g .0, rw (c .part .ensures, c .before .before .before .before .before .before .before .before .before .before .before .before .encode-given .ensures .1) (g .1))
 
--- src/lib.rt:215:13
 put-next-requires : tie.Need-put-next-requires
 put-next-requires c κs = search needs
 
--- src/lib.rt:219:22
 enum-told-2 : tie.Need-enum-told-2
 enum-told-2 c = search needs
 
--- src/lib.rt:219:13
 put-next-requires-2 : tie.Need-put-next-requires-2
 put-next-requires-2 c κs = search needs
 
--- src/lib.rt:222:31
 enum-told-3 : tie.Need-enum-told-3
 enum-told-3 c = search needs
 
--- src/lib.rt:194:1
 same-length : tie.Need-same-length
 same-length c = search needs
 
--- src/lib.rt:194:1
 same-length-2 : tie.Need-same-length-2
 same-length-2 c = search needs
 
--- src/lib.rt:194:1
 same-length-3 : tie.Need-same-length-3
 same-length-3 c = search needs
 
--- src/lib.rt:194:1
 returns : tie.Need-returns
-returns c = ?
+unfolding served
+returns c =
+    let a = c .before .before .before .before .before .before .before .before .before .before .before .before .before .before .before .before .before .before .before .before .before .before .before .before .before .before .before .before .before .args in
+    done-served (a .image .now) (a .session .now) (a .i) (a .q) (a .given .now) (a .buffer .now) (c .before .before .before .before .before .before .before .before .before .before .before .before .before .before .before .before .before .before .before .before .before .before .before .find-in .result) (c .before .before .before .before .before .before .before .before .before .before .before .before .before .before .before .before .before .before .before .before .before .before .before .find-in .ensures) (c .before .before .before .before .before .before .before .before .before .before .before .before .before .before .before .before .before .before .before .encode-given .result) (c .before .before .before .before .before .before .before .before .before .before .before .before .before .before .before .before .before .before .before .encode-given .ensures .0) (c .before .before .before .before .before .before .before .before .before .before .before .before .before .before .before .verdict-in .result) (c .before .before .before .before .before .before .before .before .before .before .before .before .before .before .before .verdict-in .ensures .0) _ (c .before .before .before .before .before .before .before .before .before .before .before .before .before .before .before .verdict-in .ensures .1) (c .before .before .before .before .before .before .before .before .before .before .before .enum-told .given .1) _ (c .before .before .before .before .before .before .act .ensures) _ (c .before .before .put-next .ensures .1) (c .before .before .put-next .ensures .0)
 
--- src/lib.rt:194:1
 same-length-4 : tie.Need-same-length-4
 same-length-4 c = search needs
 
--- src/lib.rt:194:1
 same-length-5 : tie.Need-same-length-5
 same-length-5 c = search needs
 
--- src/lib.rt:194:1
 same-length-6 : tie.Need-same-length-6
 same-length-6 c = search needs
 
--- src/lib.rt:194:1
 returns-2 : tie.Need-returns-2
-returns-2 c = ?
+unfolding served
+returns-2 c =
+    let a = c .before .before .before .before .before .before .before .before .before .before .before .before .before .before .before .before .before .before .before .before .before .before .args in
+    met-served (a .image .now) (a .session .now) (a .i) (a .q) (a .given .now) (a .buffer .now) (c .before .before .before .before .before .before .before .before .before .before .before .before .before .before .before .before .find-in .result) (c .before .before .before .before .before .before .before .before .before .before .before .before .before .before .before .before .find-in .ensures) (c .before .before .before .before .before .before .before .before .before .before .before .before .encode-given .result) (c .before .before .before .before .before .before .before .before .before .before .before .before .encode-given .ensures .0) (c .before .before .before .before .before .before .before .before .verdict-in .result) (c .before .before .before .before .before .before .before .before .verdict-in .ensures .0) _ (c .before .before .before .before .before .before .before .before .verdict-in .ensures .1) _ (c .before .before .before .before .enum-told2 .given .1) _ (c .before .before .put-next2 .ensures .1) (c .before .before .put-next2 .ensures .0)
 
--- src/lib.rt:194:1
 same-length-7 : tie.Need-same-length-7
 same-length-7 c = search needs
 
--- src/lib.rt:194:1
 same-length-8 : tie.Need-same-length-8
 same-length-8 c = search needs
 
--- src/lib.rt:194:1
 same-length-9 : tie.Need-same-length-9
 same-length-9 c = search needs
 
--- src/lib.rt:194:1
 returns-3 : tie.Need-returns-3
-returns-3 c = ?
+unfolding served
+returns-3 c =
+    let a = c .before .before .before .before .before .before .before .before .before .before .before .before .before .before .before .before .before .before .args in
+    refused-served (a .image .now) (a .session .now) (a .i) (a .q) (a .given .now) (a .buffer .now) (c .before .before .before .before .before .before .before .before .before .before .before .before .find-in .result) (c .before .before .before .before .before .before .before .before .before .before .before .before .find-in .ensures) (c .before .before .before .before .before .before .before .before .encode-given .result) (c .before .before .before .before .before .before .before .before .encode-given .ensures .0) (c .before .before .before .before .verdict-in .result) (c .before .before .before .before .verdict-in .ensures .0) _ (c .before .before .before .before .verdict-in .ensures .1) _ (c .enum-told3 .given .1)
 
 pub serve-in-spec : {M : Type 1} → statement M
 serve-in-spec =
