@@ -2,9 +2,9 @@
 use mathlib.Core.Path.{_≡_, refl, sym, _∙_}
 use mathlib.Core.Bool.{Bool, true, false, _&&_, _||_, not, and-true, and-false, or-true, true≢false}
 use mathlib.Core.List.{List, [], _∷_}
-use Prim.Native.Nat.{ℕ, _+_}
+use Prim.Native.Nat.{ℕ, _+_, _≤_, _<_}
 use lib.Dec.{leb}
-use borrow.Author.Tests.{eq-eqb}
+use borrow.Author.Tests.{le-leb, lt-leb, eq-eqb}
 use Rattle.geometry.specs.Lists.{all, every, pairwise, same}
 use Rattle.geometry.proofs.Tests.{or-either, every-and, pairwise-and}
 use Rattle.directory.specs.Entries.{isFree}
@@ -71,11 +71,17 @@ module _ (a b : Entry) where
     unfolding twoGood namesDiffer extentsApart
     two-used = rw (or-left (isFree a) (isFree b) used, or-right (isFree a) (isFree b) used)
 
-    pub two-apart : apart ≡ true → twoGood a b ≡ differ
+    two-apart : apart ≡ true → twoGood a b ≡ differ
     two-apart h = two-used ∙ rw (h, and-true differ)
 
-    pub two-shared : apart ≡ false → twoGood a b ≡ false
-    two-shared h = two-used ∙ rw (h, and-false differ)
+    pub two-before : a .first + a .sectors ≤ b .first → twoGood a b ≡ differ
+    two-before h = two-apart (rw (le-leb (a .first + a .sectors) (b .first) h))
+
+    pub two-behind : b .first + b .sectors ≤ a .first → twoGood a b ≡ differ
+    two-behind h = two-apart (rw (le-leb (b .first + b .sectors) (a .first) h, or-true (leb (a .first + a .sectors) (b .first))))
+
+    pub two-shared : b .first < a .first + a .sectors → a .first < b .first + b .sectors → twoGood a b ≡ false
+    two-shared h k = two-used ∙ rw (lt-leb (a .first + a .sectors) (b .first) h, lt-leb (b .first + b .sectors) (a .first) k, and-false differ)
 
 -- any entries and a free one
 pub free-apart : (b : Entry) → b .kind ≡ 0 → (xs : List Entry) → every (λ a. twoGood a b) xs ≡ true

@@ -374,7 +374,8 @@ fn same_name(x: [u8; 8], y: [u8; 8]) -> bool
     same(&x, &y)
 }
 
-// Whether two entries keep the rules of two. The extents are looked at before the names, since that is quick.
+// Whether two entries keep the rules of two. The extents are looked at before the names, since that is quick:
+// they share a sector where each starts before the other ends.
 pub fn two_good(a: Entry, b: Entry) -> bool
     ensures { λ r. ⌜ r ≡ twoGood a b ⌝ }
 {
@@ -383,13 +384,14 @@ pub fn two_good(a: Entry, b: Entry) -> bool
     }
     let a_end = (a.first as u32) + (a.sectors as u32);
     let b_end = (b.first as u32) + (b.sectors as u32);
-    if (a_end <= (b.first as u32)) | (b_end <= (a.first as u32)) {
-        let x = a.name;
-        let y = b.name;
-        !same_name(x, y)
-    } else {
-        false
+    if (b.first as u32) < a_end {
+        if (a.first as u32) < b_end {
+            return false;
+        }
     }
+    let x = a.name;
+    let y = b.name;
+    !same_name(x, y)
 }
 
 // Whether a table keeps every rule of a directory but the decoding one, in an image of n sectors.

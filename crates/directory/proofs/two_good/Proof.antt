@@ -1,6 +1,7 @@
--- `directory::two_good` meets its contract: a free entry, extents apart, or a sector shared.
+-- `directory::two_good` meets its contract: a free entry, a sector shared, or extents apart.
 use mathlib.Core.Path.{sym}
-use Rattle.directory.proofs.Grouped.{two-free, two-apart, two-shared}
+use mathlib.Core.Logic.{⊎-elim}
+use Rattle.directory.proofs.Grouped.{two-free, two-before, two-behind, two-shared}
 use borrow.Author.Needs.{needs}
 use Rattle.directory.proofs.two_good.Statement.{statement}
 use Rattle.directory.proofs.two_good.Tie as tie
@@ -31,23 +32,24 @@ add-b-end c = search needs
 cast-if2 : tie.Need-cast-if2
 cast-if2 c = search needs
 
-cast-if2-2 : tie.Need-cast-if2-2
-cast-if2-2 c = search needs
+cast-if3 : tie.Need-cast-if3
+cast-if3 c = search needs
+
+returns-2 : tie.Need-returns-2
+returns-2 c =
+    let b = c .before .before .before .before .before .before .before .before in
+    let a = b .before .before .before .args in
+    sym (two-shared (a .a) (a .b) (b .if1 .left) (c .before .before .if2 .taken) (c .if3 .taken))
 
 same-name-requires : tie.Need-same-name-requires
 same-name-requires c κs = search needs
 
-returns-2 : tie.Need-returns-2
-returns-2 c =
-    let b = c .before .before .before .before .before .before .before .before .before .before in
-    let a = b .before .before .before .args in
-    rw (c .same-name .ensures) (sym (two-apart (a .a) (a .b) (b .if1 .left) (c .before .before .before .if2 .taken)))
-
 returns-3 : tie.Need-returns-3
 returns-3 c =
-    let b = c .before .before .before .before .before .before .before in
+    let j = c .before .before .before in
+    let b = j .before .before .before .before .before .before in
     let a = b .before .before .before .args in
-    sym (two-shared (a .a) (a .b) (b .if1 .left) (c .if2 .left))
+    rw (c .same-name .ensures) (sym (⊎-elim (λ w. two-behind (a .a) (a .b) (b .if1 .left) (w .2 .left)) (λ w. two-before (a .a) (a .b) (b .if1 .left) (w .left)) (j .if2 .came)))
 
 pub two-good-spec : {M : Type 1} → statement M
 two-good-spec =
@@ -61,7 +63,7 @@ two-good-spec =
     cast-b-end-2
     add-b-end
     cast-if2
-    cast-if2-2
-    same-name-requires
+    cast-if3
     returns-2
+    same-name-requires
     returns-3)
