@@ -1,24 +1,25 @@
 -- Sessions in lent bytes, read where they lie: an entry stands at 22·i, a state at w·k behind the first, and what is tested of those bytes is tested of the entry or state that they hold.
 use mathlib.Core.Path.{_≡_, refl, sym, ap, _∙_}
-use mathlib.Core.Bool.{Bool, true, false, _&&_, and-false}
+use mathlib.Core.Bool.{Bool, true, false, _&&_, not, and-false}
 use mathlib.Core.List.{List, [], _∷_, map}
 use Prim.Native.Nat.{ℕ, zero, suc, _+_, _-_, _*_, _≤_, _<_}
 use native.Mathlib.Omega.{arith}
 use lib.Dec.{eqb}
-use lib.ListN.{length, take, getD}
+use lib.ListN.{length, take, drop, getD}
 use lib.Seq.{length-take-le, getD-take}
 use borrow.Author.Tests.{eq-eqb, eqb-true}
 use Rattle.geometry.specs.Bytes.{part}
-use Rattle.geometry.specs.Lists.{all, every, pairwise}
+use Rattle.geometry.specs.Lists.{every, pairwise}
 use Rattle.geometry.specs.Sizes.{entries, mostOpen}
 use Rattle.geometry.proofs.Bytes.{part-split}
-use Rattle.geometry.proofs.Tests.{alike, either, both-ways, and-left, and-right, and-both, every-from, pairwise-getD}
+use Rattle.geometry.proofs.Left.{every-on, every-off, every-end}
+use Rattle.geometry.proofs.Tests.{alike, denied, and-left, and-right, and-both, every-from, every-alike, pairwise-getD}
 use Rattle.directory.specs.Entries.{entryBytes, freeEntry, entryAt}
 use Rattle.directory.specs.Grouped.{entryGood, twoGood}
 use Rattle.directory.proofs.Free.{every-append, zero-entry, free-good}
-use Rattle.sessions.specs.Session.{idle, bare, isOf, fileOf, slotOf, openFiles, heldGood, legal, bufferedLegal}
-use Rattle.sessions.specs.Grouped.{holdGood}
-use Rattle.sessions.proofs.Grouped.{held-unused, held-told}
+use Rattle.sessions.specs.Session.{idle, bare, isOf, ofOther, fileOf, slotOf, openFiles, heldGood, legal, bufferedLegal}
+use Rattle.sessions.specs.Grouped.{fileGood, openGood, holdGood}
+use Rattle.sessions.proofs.Grouped.{file-told, held-unused, held-told}
 use Rattle.sessions.proofs.Unheld.{bare-unheld}
 use Rattle.directory.specs.declared.Entry.{Entry}
 use Rattle.sessions.specs.declared.BufferedFile.{BufferedFile}
@@ -122,30 +123,46 @@ module _ (b : List ℕ) (i at : ℕ) (h : i < entries) (q : at ≡ entryWidth * 
   unfolding entryIn
   free-kind kind k z = ap (λ (e : Entry). e .kind) entry-is ∙ sym k ∙ z
 
-  -- the rules of two, with all before it
+  -- the rules of two, with one behind it, and with all before it
+  pub two-told : (f e : Entry) (r : Bool) → f ≡ entryIn b at → r ≡ twoGood f e → twoGood (getD (tableIn b) i freeEntry) e ≡ r
+  two-told f e r p s = ap (λ (x : Entry). twoGood x e) (entry-is ∙ sym p) ∙ sym s
+
   pub all-told : (e : Entry) (r : Bool) → e ≡ entryIn b at → r ≡ every (λ f. twoGood f e) (take i (tableIn b))
       → every (λ f. twoGood f (getD (tableIn b) i freeEntry)) (take i (tableIn b)) ≡ r
   all-told e r p s = ap (λ (x : Entry). every (λ f. twoGood f x) (take i (tableIn b))) (entry-is ∙ sym p) ∙ sym s
 
--- the rules of two, with the one of number j before number i
-pub two-told : (b : List ℕ) (i j at : ℕ) → j < i → i ≤ entries → at ≡ entryWidth * j → (f e : Entry) (r : Bool) → f ≡ entryIn b at → r ≡ twoGood f e
-    → twoGood (getD (take i (tableIn b)) j freeEntry) e ≡ r
-two-told b i j at h m q f e r p s =
-    ap (λ (x : Entry). twoGood x e) (getD-take i (tableIn b) j freeEntry h ∙ entry-is b j at (omega arith) q ∙ sym p) ∙ sym s
+-- ---- those before number i
 
 -- a member that breaks the rule of two with one before it breaks the whole
 pub front-some : {A : Type 0} (one : A → Bool) (two : A → A → Bool) (xs : List A) (i : ℕ) (d : A) → i < length xs
     → every (λ a. two a (getD xs i d)) (take i xs) ≡ false → (every one xs && pairwise two xs) ≡ false
 front-some one two xs i d h b =
-    either (pairwise two xs)
-    (λ (k : pairwise two xs ≡ true).
-    both-ways (every (λ a. two a (getD xs i d)) (take i xs))
-    (every-from (λ a. two a (getD xs i d)) (take i xs) d λ (j : ℕ) (l : j < length (take i xs)).
-    let n : length (take i xs) ≡ i = length-take-le i xs (omega arith) in
-    let u : j < i = omega arith in
-    rw (getD-take i xs j d u) (pairwise-getD two xs j i d k u h))
-    b)
-    (λ (k : pairwise two xs ≡ false). rw (k, and-false (every one xs)))
+    rw (denied (pairwise two xs) (every (λ a. two a (getD xs i d)) (take i xs)) all-two b, and-false (every one xs))
+  where
+    all-two : pairwise two xs ≡ true → every (λ a. two a (getD xs i d)) (take i xs) ≡ true
+    all-two p = every-from (λ a. two a (getD xs i d)) (take i xs) d λ (j : ℕ) (l : j < length (take i xs)).
+        let n : length (take i xs) ≡ i = length-take-le i xs (omega arith) in
+        let u : j < i = omega arith in
+        rw (getD-take i xs j d u) (pairwise-getD two xs j i d p u h)
+
+-- tested from the front: what is left of them decides
+module _ {A : Type 0} (p : A → Bool) (xs : List A) (i j : ℕ) (m : i ≤ length xs) where
+  pub before-end : i ≤ j → every p (drop j (take i xs)) ≡ true
+  before-end h =
+      let n : length (take i xs) ≡ i = length-take-le i xs m in
+      every-end p (take i xs) j (omega arith)
+
+  module _ (d : A) (h : j < i) where
+    inside : j < length (take i xs)
+    inside =
+        let n : length (take i xs) ≡ i = length-take-le i xs m in
+        omega arith
+
+    pub before-on : p (getD xs j d) ≡ true → every p (drop j (take i xs)) ≡ every p (drop (j + 1) (take i xs))
+    before-on e = every-on p (take i xs) j d inside (ap p (getD-take i xs j d h) ∙ e)
+
+    pub before-off : p (getD xs j d) ≡ false → every p (drop j (take i xs)) ≡ false
+    before-off e = every-off p (take i xs) j d inside (ap p (getD-take i xs j d h) ∙ e)
 
 -- ---- a state where it lies
 
@@ -165,6 +182,21 @@ module _ (w : ℕ) (b : List ℕ) where
 
     pub state-of : (i : ℕ) (r : Bool) → r ≡ isOf i (fileIn b at) → isOf i (getD (filesIn w b) k idle) ≡ r
     state-of i r p = ap (isOf i) state-is ∙ sym p
+
+-- of a state x that is used, f was read: those before it are not of its entry
+pub others-told : (x f : OpenFile) → x ≡ f → (gs : List OpenFile) (r : Bool) → r ≡ every (λ g. not (isOf (f .entry) g)) gs → x .used ≡ true
+    → every (λ g. ofOther g x) gs ≡ r
+unfolding ofOther isOf
+others-told x f q gs r p u =
+    every-alike (λ g. ofOther g x) (λ g. not (isOf (x .entry) g)) gs idle (λ i l. rw (u, same-either-way (x .entry) (getD gs i idle .entry)))
+    ∙ ap (λ (y : OpenFile). every (λ g. not (isOf (y .entry) g)) gs) q ∙ sym p
+  where
+    same-either-way : (m n : ℕ) → eqb m n ≡ eqb n m
+    same-either-way m n = alike (eqb m n) (eqb n m) (λ (h : eqb m n ≡ true). eq-eqb n m (sym (eqb-true m n h))) (λ (h : eqb n m ≡ true). eq-eqb m n (sym (eqb-true n m h)))
+
+-- and its entry decides of it
+pub one-file-told : (t : List Entry) (x f : OpenFile) → x ≡ f → (e : Entry) (r : Bool) → e ≡ entryAt t (f .entry) → r ≡ openGood e f → x .used ≡ true → fileGood t x ≡ r
+one-file-told t x f q e r p s u = ap (fileGood t) q ∙ file-told t f e r p s (sym (ap (λ (g : OpenFile). g .used) q) ∙ u)
 
 -- ---- a held sector where it lies
 

@@ -28,7 +28,7 @@ ghost use mathlib.Core.Path.{_≡_};
 ghost use mathlib.Core.Bool.{not};
 ghost use Prim.Native.Nat.{_+_, _*_, _≤_, _<_};
 ghost use lib.Dec.{eqb};
-ghost use lib.ListN.{length, take, drop};
+ghost use lib.ListN.{length, take};
 ghost use Rattle.geometry.specs.Bytes.{part};
 ghost use Rattle.geometry.specs.Lists.{every, firstWith};
 ghost use Rattle.directory.specs.Entries.{entryAt};
@@ -131,13 +131,13 @@ fn is_of_at(b: &[u8], at: usize, i: usize) -> bool
     is_set(b, at) & (wide_at(b, at + 1) == i)
 }
 
-// Whether no state from number k on is entry i's.
-fn none_from(b: &[u8], w: usize, k: usize, i: usize) -> bool
-    requires { ⌜ (30 ≤ w) × (w ≤ 396) × (396 + 4 * w ≤ length (now b)) ⌝ }
-    ensures { λ r. ⌜ r ≡ every (λ f. not (isOf i f)) (drop k (filesIn w (now (b .entry)))) ⌝ }
+// Whether no state before number k is entry i's.
+fn none_before(b: &[u8], w: usize, k: usize, i: usize) -> bool
+    requires { ⌜ (k ≤ 4) × (30 ≤ w) × (w ≤ 396) × (396 + 4 * w ≤ length (now b)) ⌝ }
+    ensures { λ r. ⌜ r ≡ every (λ f. not (isOf i f)) (take k (filesIn w (now (b .entry)))) ⌝ }
 {
-    let mut j = k;
-    while j < 4 {
+    let mut j: usize = 0;
+    while j < k {
         let at = state_place(w, j);
         if is_of_at(b, at, i) {
             return false;
@@ -161,7 +161,7 @@ fn files_good(b: &[u8], w: usize) -> bool
             if !file_good(e, f) {
                 return false;
             }
-            if !none_from(b, w, k + 1, f.entry) {
+            if !none_before(b, w, k, f.entry) {
                 return false;
             }
         }

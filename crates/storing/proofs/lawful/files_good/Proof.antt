@@ -1,45 +1,32 @@
--- `storing::lawful::files_good` meets its contract: what is left of the states decides.
-use Prim.Native.Nat.{_+_, _≤_, _-_, _<_}
-use mathlib.Core.Path.{_≡_, sym, ap, _∙_}
-use mathlib.Core.Bool.{Bool, true, not}
+-- `storing::lawful::files_good` meets its contract: what is done of the states keeps both rules.
+use Prim.Native.Nat.{_≤_, _-_, _<_}
+use mathlib.Core.Path.{_≡_, refl, sym, _∙_}
+use mathlib.Core.Bool.{true}
 use mathlib.Core.Logic.{⊎-elim}
-use mathlib.Core.List.{List}
 use native.Mathlib.Omega.{arith}
-use lib.ListN.{length, getD, drop}
+use lib.ListN.{length, take, getD}
 use borrow.Author.Tests.{not-true, not-false}
-use Rattle.geometry.specs.Lists.{every}
-use Rattle.geometry.proofs.Left.{Left, left-none, left-on, left-one, left-two}
-use Rattle.sessions.specs.Session.{idle, isOf, ofOther}
-use Rattle.sessions.specs.Grouped.{fileGood, filesGood, openGood}
-use Rattle.sessions.proofs.Grouped.{files-left, file-unused, file-told, others-unused, others-used}
-use Rattle.directory.specs.Entries.{entryAt}
-use Rattle.directory.specs.declared.Entry.{Entry}
-use Rattle.sessions.specs.declared.OpenFile.{OpenFile}
+use Rattle.geometry.proofs.Front.{Front, front-none, front-on, front-one, front-whole}
+use Rattle.sessions.specs.Session.{idle, ofOther}
+use Rattle.sessions.specs.Grouped.{fileGood}
+use Rattle.sessions.proofs.Grouped.{files-grouped, file-unused, others-unused}
 use Rattle.storing.specs.Stored.{tableIn}
 use Rattle.storing.specs.Lent.{filesIn}
-use Rattle.storing.proofs.Lent.{length-files, state-is, state-used}
+use Rattle.storing.proofs.Lent.{front-some, length-files, state-is, state-used, one-file-told, others-told}
 use borrow.Author.Needs.{needs}
 use Rattle.storing.proofs.lawful.files_good.Statement.{statement}
 use Rattle.storing.proofs.lawful.files_good.Tie as tie
 
 abbrev Inv-loop : tie.InvT-loop
-Inv-loop b w k₀ k = (filesGood (tableIn b) (filesIn w b) ≡ Left (fileGood (tableIn b)) ofOther (filesIn w b) k) × (k ≤ 4)
+Inv-loop b w k₀ k = (Front (fileGood (tableIn b)) ofOther (filesIn w b) k ≡ true) × (k ≤ 4)
 
 abbrev μ-loop : tie.MeasureT-loop
 μ-loop b w k₀ k = 4 - k
 
--- what a state x that is used has to keep, where f was read for it
-one-told : (t : List Entry) (x f : OpenFile) → x ≡ f → (e : Entry) (r : Bool) → e ≡ entryAt t (f .entry) → r ≡ openGood e f → x .used ≡ true → fileGood t x ≡ r
-one-told t x f q e r p s u = ap (fileGood t) q ∙ file-told t f e r p s (sym (ap (λ (g : OpenFile). g .used) q) ∙ u)
-
-others-told : (x f : OpenFile) → x ≡ f → (gs : List OpenFile) (r : Bool) → r ≡ every (λ g. not (isOf (f .entry) g)) gs → x .used ≡ true → every (ofOther x) gs ≡ r
-others-told x f q gs r p u = ap (λ (g : OpenFile). every (ofOther g) gs) q ∙ others-used f (sym (ap (λ (g : OpenFile). g .used) q) ∙ u) gs ∙ sym p
-
 loop-holds : tie.Need-loop-holds Inv-loop μ-loop
 loop-holds c =
     let a = c .before .args in
-    let n : length (filesIn (a .w) (a .b .now)) ≡ 4 = length-files (a .w) (a .b .now) in
-    (files-left (tableIn (a .b .now)) (filesIn (a .w) (a .b .now)) (omega arith), omega arith)
+    (front-none (fileGood (tableIn (a .b .now))) ofOther (filesIn (a .w) (a .b .now)), omega arith)
 
 state-place-requires : tie.Need-state-place-requires Inv-loop μ-loop
 state-place-requires c κs = search needs
@@ -63,16 +50,16 @@ returns c =
     let l = p .before .before in
     let a = l .before .before .args in
     let k = l .loop .k in
+    let t = tableIn (a .b .now) in
+    let fs = filesIn (a .w) (a .b .now) in
     let n : length (filesIn (a .w) (a .b .now)) ≡ 4 = length-files (a .w) (a .b .now) in
     let at = state-is (a .w) (a .b .now) k _ (omega arith) (p .state-place .ensures .0) in
     let used = state-used (a .w) (a .b .now) k _ (omega arith) (p .state-place .ensures .0) _ (g .before .before .is-set .ensures) ∙ g .before .if1 .taken in
-    sym (l .loop .inv .0 ∙ left-one (fileGood (tableIn (a .b .now))) ofOther (filesIn (a .w) (a .b .now)) k idle (omega arith) (one-told (tableIn (a .b .now)) _ _ (at ∙ sym (g .file-at .ensures)) _ _ (c .before .before .entry-in .ensures) (c .before .file-good .ensures) used ∙ not-true _ (c .if2 .taken)))
+    let bad = one-file-told t _ _ (at ∙ sym (g .file-at .ensures)) _ _ (c .before .before .entry-in .ensures) (c .before .file-good .ensures) used ∙ not-true _ (c .if2 .taken) in
+    sym (files-grouped t fs (omega arith) ∙ front-one (fileGood t) ofOther fs k idle (omega arith) bad)
 
-add-none-from : tie.Need-add-none-from Inv-loop μ-loop
-add-none-from c = search needs
-
-none-from-requires : tie.Need-none-from-requires Inv-loop μ-loop
-none-from-requires c κs = search needs
+none-before-requires : tie.Need-none-before-requires Inv-loop μ-loop
+none-before-requires c κs = search needs
 
 returns-2 : tie.Need-returns-2 Inv-loop μ-loop
 returns-2 c =
@@ -81,10 +68,13 @@ returns-2 c =
     let l = p .before .before in
     let a = l .before .before .args in
     let k = l .loop .k in
+    let t = tableIn (a .b .now) in
+    let fs = filesIn (a .w) (a .b .now) in
     let n : length (filesIn (a .w) (a .b .now)) ≡ 4 = length-files (a .w) (a .b .now) in
     let at = state-is (a .w) (a .b .now) k _ (omega arith) (p .state-place .ensures .0) in
     let used = state-used (a .w) (a .b .now) k _ (omega arith) (p .state-place .ensures .0) _ (g .before .before .is-set .ensures) ∙ g .before .if1 .taken in
-    sym (l .loop .inv .0 ∙ left-two (fileGood (tableIn (a .b .now))) ofOther (filesIn (a .w) (a .b .now)) k idle (omega arith) (others-told _ _ (at ∙ sym (g .file-at .ensures)) (drop (k + 1) (filesIn (a .w) (a .b .now))) _ (c .before .none-from .ensures) used ∙ not-true _ (c .if3 .taken)))
+    let bad = others-told _ _ (at ∙ sym (g .file-at .ensures)) (take k fs) _ (c .before .none-before .ensures) used ∙ not-true _ (c .if3 .taken) in
+    sym (files-grouped t fs (omega arith) ∙ front-some (fileGood t) ofOther fs k idle (omega arith) bad)
 
 add-k : tie.Need-add-k Inv-loop μ-loop
 add-k c = search needs
@@ -104,10 +94,10 @@ loop-again c =
     let h : l .loop .k < length (filesIn (a .w) (a .b .now)) = omega arith in
     let at = state-is (a .w) (a .b .now) k _ (omega arith) (p .state-place .ensures .0) in
     let used = state-used (a .w) (a .b .now) k _ (omega arith) (p .state-place .ensures .0) _ (c .before .is-set .ensures) in
-    let on = left-on (fileGood t) ofOther fs k idle h in (
-      l .loop .inv .0 ∙ ⊎-elim
-          (λ w. on (one-told t _ _ (at ∙ sym (w .1 .ensures)) _ _ (w .2 .ensures) (w .3 .ensures) (used ∙ w .0 .taken) ∙ not-false _ (w .4 .left)) (others-told _ _ (at ∙ sym (w .1 .ensures)) (drop (k + 1) fs) _ (w .5 .ensures) (used ∙ w .0 .taken) ∙ not-false _ (w .6 .left)))
-          (λ w. on (file-unused t (getD fs k idle) (used ∙ w .left)) (others-unused (getD fs k idle) (used ∙ w .left) (drop (k + 1) fs)))
+    let on = front-on (fileGood t) ofOther fs k idle h k refl (l .loop .inv .0) in (
+      ⊎-elim
+          (λ w. on (one-file-told t _ _ (at ∙ sym (w .1 .ensures)) _ _ (w .2 .ensures) (w .3 .ensures) (used ∙ w .0 .taken) ∙ not-false _ (w .4 .left)) (others-told _ _ (at ∙ sym (w .1 .ensures)) (take k fs) _ (w .5 .ensures) (used ∙ w .0 .taken) ∙ not-false _ (w .6 .left)))
+          (λ w. on (file-unused t (getD fs k idle) (used ∙ w .left)) (others-unused (getD fs k idle) (used ∙ w .left) (take k fs)))
           (c .if1 .came),
       omega arith,
     )
@@ -115,8 +105,10 @@ loop-again c =
 returns-3 : tie.Need-returns-3 Inv-loop μ-loop
 returns-3 c =
     let a = c .before .before .before .args in
+    let t = tableIn (a .b .now) in
+    let fs = filesIn (a .w) (a .b .now) in
     let n : length (filesIn (a .w) (a .b .now)) ≡ 4 = length-files (a .w) (a .b .now) in
-    sym (c .before .loop .inv .0 ∙ left-none (fileGood (tableIn (a .b .now))) ofOther (filesIn (a .w) (a .b .now)) (c .before .loop .k) (omega arith))
+    sym (files-grouped t fs (omega arith) ∙ front-whole (fileGood t) ofOther fs (c .before .loop .k) (omega arith) (c .before .loop .inv .0))
 
 pub files-good-spec : {M : Type 1} → statement M
 files-good-spec =
@@ -131,8 +123,7 @@ files-good-spec =
     entry-in-requires
     file-good-requires
     returns
-    add-none-from
-    none-from-requires
+    none-before-requires
     returns-2
     add-k
     loop-less
