@@ -1,12 +1,12 @@
 -- Document 01, "Listing": what the program prints, as ASCII bytes. Definitions only.
 use mathlib.Core.Bool.{true, false, _&&_}
 use mathlib.Core.List.{List, [], _∷_, _++_}
-use Prim.Native.Nat.{ℕ, zero, suc, _+_, _-_, _/_, _%_}
-use lib.ListN.{length}
-use lib.Dec.{eqb, leb, ltb}
+use Prim.Native.Nat.{ℕ, _+_, _-_}
+use lib.Dec.{eqb, leb}
 use Rattle.geometry.specs.Sizes.{sectorsOf, blank}
 use Rattle.directory.specs.Entries.{tableOf, isFree}
 use Rattle.mounting.specs.Mounting.{mounts}
+use Rattle.texts.specs.Texts.{decimal, spaced}
 use Rattle.directory.specs.declared.Entry.{Entry}
 
 -- "FILE NAME KIND RECORD FIRST SECTORS COUNT FLAGS" and the line's end
@@ -18,15 +18,6 @@ header =
 -- "BAD IMAGE" and the line's end
 unfoldable pub badImage : List ℕ
 badImage = 66 ∷ 65 ∷ 68 ∷ 32 ∷ 73 ∷ 77 ∷ 65 ∷ 71 ∷ 69 ∷ 10 ∷ []
-
--- a number below 10 ^ k in "decimal"
-unfoldable pub decimalIn : ℕ → ℕ → List ℕ
-decimalIn zero n = []
-decimalIn (suc k) n = elim (ltb n 10) [ true ↦ (48 + n) ∷ [] | false ↦ decimalIn k (n / 10) ++ ((48 + n % 10) ∷ []) ]
-
--- a word has at most five digits
-unfoldable pub decimal : ℕ → List ℕ
-decimal n = decimalIn 5 n
 
 -- a capital or a digit of EBCDIC in ASCII
 unfoldable pub ascii : ℕ → ℕ
@@ -45,12 +36,6 @@ ascii c =
 unfoldable pub nameText : List ℕ → List ℕ
 nameText [] = []
 nameText (c ∷ cs) = elim (eqb c blank) [ true ↦ [] | false ↦ ascii c ∷ nameText cs ]
-
--- words with "single blanks" between them, and the line's end
-unfoldable pub spaced : List (List ℕ) → List ℕ
-spaced [] = 10 ∷ []
-spaced (w ∷ []) = w ++ (10 ∷ [])
-spaced (w ∷ v ∷ ws) = w ++ (32 ∷ spaced (v ∷ ws))
 
 -- "one line per used entry"
 unfoldable pub line : ℕ → Entry → List ℕ
