@@ -11,7 +11,7 @@ use Rattle.geometry.proofs.Bytes.{length-part-min}
 use Rattle.directory.specs.declared.Entry.{Entry}
 use Rattle.directory.specs.Entries.{entryFrom, entriesFrom, tableOf, isFree}
 use Rattle.mounting.specs.Mounting.{mounts}
-use Rattle.texts.specs.Texts.{decimalIn, decimal, spaced}
+use Rattle.texts.specs.Texts.{spelled, decimalIn, decimal, spaced}
 use Rattle.listing.specs.Listing.{header, badImage, ascii, nameText, line, linesFrom, listing}
 
 either-short : (b : Bool) (xs ys : List ℕ) (n : ℕ) → length xs ≤ n → length ys ≤ n → length {A = ℕ} (elim b [ true ↦ xs | false ↦ ys ]) ≤ n
@@ -56,7 +56,7 @@ lines-short (suc n) i b =
     either-short (isFree e) _ _ (86 * suc n) (omega arith) (rw length-append (omega arith))
 
 pub short : (image : List ℕ) → length (listing image) ≤ 1596
-unfolding listing tableOf header badImage
+unfolding listing tableOf header badImage spelled
 short image =
     let more : length (linesFrom 0 (entriesFrom entries image)) ≤ 86 * entries = lines-short entries 0 image in
     either-short (leb (sectorsOf image) 180 && mounts image) _ _ 1596 (rw length-append (omega arith)) (omega arith)

@@ -6,18 +6,16 @@ use lib.Dec.{eqb, leb}
 use Rattle.geometry.specs.Sizes.{sectorsOf, blank}
 use Rattle.directory.specs.Entries.{tableOf, isFree}
 use Rattle.mounting.specs.Mounting.{mounts}
-use Rattle.texts.specs.Texts.{decimal, spaced}
+use Rattle.texts.specs.Texts.{spelled, decimal, spaced}
 use Rattle.directory.specs.declared.Entry.{Entry}
 
--- "FILE NAME KIND RECORD FIRST SECTORS COUNT FLAGS" and the line's end
+-- "prints a header"
 unfoldable pub header : List ℕ
-header =
-    70 ∷ 73 ∷ 76 ∷ 69 ∷ 32 ∷ 78 ∷ 65 ∷ 77 ∷ 69 ∷ 32 ∷ 75 ∷ 73 ∷ 78 ∷ 68 ∷ 32 ∷ 82 ∷ 69 ∷ 67 ∷ 79 ∷ 82 ∷ 68 ∷ 32
-    ∷ 70 ∷ 73 ∷ 82 ∷ 83 ∷ 84 ∷ 32 ∷ 83 ∷ 69 ∷ 67 ∷ 84 ∷ 79 ∷ 82 ∷ 83 ∷ 32 ∷ 67 ∷ 79 ∷ 85 ∷ 78 ∷ 84 ∷ 32 ∷ 70 ∷ 76 ∷ 65 ∷ 71 ∷ 83 ∷ 10 ∷ []
+header = spelled "FILE NAME KIND RECORD FIRST SECTORS COUNT FLAGS\n"
 
--- "BAD IMAGE" and the line's end
+-- "prints only BAD IMAGE"
 unfoldable pub badImage : List ℕ
-badImage = 66 ∷ 65 ∷ 68 ∷ 32 ∷ 73 ∷ 77 ∷ 65 ∷ 71 ∷ 69 ∷ 10 ∷ []
+badImage = spelled "BAD IMAGE\n"
 
 -- a capital or a digit of EBCDIC in ASCII
 unfoldable pub ascii : ℕ → ℕ

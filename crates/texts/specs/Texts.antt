@@ -3,9 +3,16 @@ use mathlib.Core.Path.{_≡_}
 use mathlib.Core.Bool.{true, false}
 use mathlib.Core.List.{List, [], _∷_, _++_}
 use Prim.Native.Nat.{ℕ, zero, suc, _+_, _-_, _/_, _%_, min}
+use Prim.Native.Char.{code}
+use Prim.Native.String.{String, [] as end, _∷_ as _then_}
 use lib.ListN.{length}
 use lib.Seq.{sets}
 use lib.Dec.{ltb}
+
+-- the numbers of a text's characters
+unfoldable pub spelled : String → List ℕ
+spelled end = []
+spelled (c then s) = code c ∷ spelled s
 
 -- a number below 10 ^ k in "decimal"
 unfoldable pub decimalIn : ℕ → ℕ → List ℕ

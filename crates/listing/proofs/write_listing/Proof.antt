@@ -4,6 +4,7 @@ use mathlib.Core.Bool.{true, false, _&&_}
 use lib.Dec.{leb}
 use Rattle.geometry.specs.Sizes.{sectorsOf}
 use Rattle.mounting.specs.Mounting.{mounts}
+use Rattle.texts.specs.Texts.{spelled}
 use Rattle.listing.specs.Listing.{header, badImage}
 use Rattle.texts.proofs.Writing.{then, ends-at}
 use Rattle.listing.proofs.Texts.{good-listing, bad-listing}
@@ -39,7 +40,7 @@ same-length : tie.Need-same-length
 same-length c = search needs
 
 returns : tie.Need-returns
-unfolding header
+unfolding header spelled
 returns c =
     let p = c .before .before .before .before .before .before in
     let i = p .before .before .before .before in
@@ -52,7 +53,7 @@ same-length-2 : tie.Need-same-length-2
 same-length-2 c = search needs
 
 returns-2 : tie.Need-returns-2
-unfolding badImage
+unfolding badImage spelled
 returns-2 c =
     let i = c .before .before .before .before .before in
     let image = i .before .before .before .before .before .args .image .now in
