@@ -1,12 +1,12 @@
 -- Bytes put behind bytes are those bytes joined, and past the end nothing is put; a loop that puts a list piece by piece has at each turn the
 -- rest of it to put.
-use mathlib.Core.Path.{_≡_, refl, ap, sym, subst, _∙_}
+use mathlib.Core.Path.{_≡_, refl, sym, subst, _∙_}
 use mathlib.Core.List.{List, [], _∷_, _++_, append-assoc}
 use Prim.Native.Nat.{ℕ, suc, _+_, _-_, _≤_, min}
 use native.Mathlib.Nat.{add-zero, add-suc, suc-add}
 use native.Mathlib.Omega.{arith}
 use lib.Dec.{leb}
-use lib.ListN.{length, set, length-append, length-set}
+use lib.ListN.{length, set, length-append}
 use lib.Seq.{sets, set-out, length-sets}
 use borrow.Author.Tests.{leb-true, leb-false}
 use Rattle.geometry.proofs.Tests.{either}
