@@ -1,8 +1,12 @@
 // Scripts of requests: what a row asks for, and what is said of it. docs/PLAY.md has the form of a script.
+use directory::entry_of;
+use geometry::part;
 use geometry::word_at;
 use requests::Answer;
 use requests::Order;
 use requests::Request;
+use sessions::BufferedSession;
+use sessions::Session;
 use sessions::Spot;
 use texts::put_all;
 use texts::put_number;
@@ -12,8 +16,9 @@ ghost use lib.ListN.{getD};
 ghost use Rattle.requests.specs.declared.Request.the-variants.{Open};
 ghost use Rattle.texts.specs.Texts.{spaced, Wrote};
 ghost use Rattle.playing.specs.Script.{requestsOf, usedBy, rowOf};
-ghost use Rattle.playing.specs.Sums.{sumsOf};
+ghost use Rattle.playing.specs.Sums.{wordsOf, sumOf, sumsOf};
 ghost use Rattle.playing.specs.Said.{bit, mountLine, spotWords, rowLine, imageLine, faultWords, faultLine};
+ghost use Rattle.playing.specs.Played.{mountAt, stepAt, after, lookAnswerAt, lookAt, spotAt, lengthAt, moved, with, lookPlayed, requestPlayed, played};
 
 // ---- rows
 
@@ -203,4 +208,223 @@ pub fn write_fault(out: &mut [u8], n: u32, f: Fault) -> usize
     let a = put_all(out, 0, b"ERROR row ");
     let b = put_number(out, a, n, b':');
     put_fault(out, b, f)
+}
+
+// ---- a row played
+
+// Which of the two engines plays.
+pub enum Engine {
+    Plain,
+    Buffered,
+}
+
+// A session of each engine. Only that of the engine that plays goes on.
+pub struct Desk {
+    pub engine: Engine,
+    pub plain: Session,
+    pub buffered: BufferedSession,
+}
+
+// An answer, and the desk behind it.
+pub struct Reply {
+    pub answer: Answer,
+    pub desk: Desk,
+}
+
+// Mounts an image for an engine.
+pub fn mount(engine: Engine, image: &[u8]) -> Reply
+    ensures { λ r. ⌜ r ≡ mountAt engine (now (image .entry)) ⌝ }
+{
+    let m = plain::mount(image);
+    let n = buffered::mount(image);
+    let a = m.answer;
+    let c = n.answer;
+    let p = m.session;
+    let b = n.session;
+    let d = Desk {
+        engine: engine,
+        plain: p,
+        buffered: b,
+    };
+    match engine {
+        Engine::Plain => Reply { answer: a, desk: d },
+        Engine::Buffered => Reply { answer: c, desk: d },
+    }
+}
+
+// One request on entry i.
+fn request(
+    image: &mut [u8],
+    d: Desk,
+    i: usize,
+    q: Request,
+    given: &[u8],
+    buffer: &mut [u8],
+) -> Reply
+    ensures { λ r. ⌜ after r (now (image .exit)) (now (buffer .exit)) ≡ stepAt (now (image .entry)) d i q (now (given .entry)) (now (buffer .entry)) ⌝ }
+{
+    let engine = d.engine;
+    let p = d.plain;
+    let b = d.buffered;
+    match engine {
+        Engine::Plain => {
+            let r = plain::request(image, p, i, q, given, buffer);
+            let a = r.answer;
+            let s = r.session;
+            Reply {
+                answer: a,
+                desk: Desk {
+                    engine: engine,
+                    plain: s,
+                    buffered: b,
+                },
+            }
+        }
+        Engine::Buffered => {
+            let r = buffered::request(image, b, i, q, given, buffer);
+            let a = r.answer;
+            let s = r.session;
+            Reply {
+                answer: a,
+                desk: Desk {
+                    engine: engine,
+                    plain: p,
+                    buffered: s,
+                },
+            }
+        }
+    }
+}
+
+// The answer to a look at granule g of entry i.
+fn look_number(image: &[u8], d: Desk, i: usize, g: u32) -> Answer
+    ensures { λ r. ⌜ r ≡ lookAnswerAt (now (image .entry)) d i g ⌝ }
+{
+    let engine = d.engine;
+    let p = d.plain;
+    let b = d.buffered;
+    match engine {
+        Engine::Plain => plain::look_number(image, p, i, g),
+        Engine::Buffered => buffered::look_number(image, b, i, g),
+    }
+}
+
+// What that look shows.
+fn look(image: &[u8], d: Desk, i: usize, g: u32) -> &[u8]
+    ensures { λ r. ⌜ now r ≡ lookAt (now (image .entry)) d i g ⌝ }
+{
+    let engine = d.engine;
+    let p = d.plain;
+    let b = d.buffered;
+    match engine {
+        Engine::Plain => plain::look(image, p, i, g),
+        Engine::Buffered => buffered::look(image, b, i, g),
+    }
+}
+
+// Where entry i's file stands.
+fn position(d: Desk, i: usize) -> Spot
+    ensures { λ r. ⌜ r ≡ spotAt d i ⌝ }
+{
+    let engine = d.engine;
+    let p = d.plain;
+    let b = d.buffered;
+    match engine {
+        Engine::Plain => plain::position(p, i),
+        Engine::Buffered => buffered::position(b, i),
+    }
+}
+
+// The record or granule length of entry i.
+fn length_of(d: Desk, i: usize) -> usize
+    ensures { λ r. ⌜ r ≡ lengthAt d i ⌝ }
+{
+    let engine = d.engine;
+    let p = d.plain;
+    let b = d.buffered;
+    match engine {
+        Engine::Plain => {
+            let t = p.table;
+            let e = entry_of(t, i);
+            e.length as usize
+        }
+        Engine::Buffered => {
+            let t = b.table;
+            let e = entry_of(t, i);
+            e.length as usize
+        }
+    }
+}
+
+// The sum of the words that a request moved; a read moved as many bytes as a record has.
+fn sum_moved(q: Request, a: Answer, length: usize, given: &[u8], buffer: &[u8]) -> u32
+    ensures { λ r. ⌜ r ≡ sumOf (wordsOf (moved q a length (now (given .entry)) (now (buffer .entry)))) ⌝ }
+{
+    if requests::number(a) != 0 {
+        return 0;
+    }
+    match q {
+        Request::Read => sums_of(part(buffer, 0, length)).words,
+        Request::Write => sums_of(given).words,
+        Request::GranuleRead(_) => sums_of(part(buffer, 0, length)).words,
+        Request::GranuleWrite(_) => sums_of(given).words,
+        _ => 0,
+    }
+}
+
+// A row played: what is said of it, and the desk behind it.
+pub struct Played {
+    pub answer: Answer,
+    pub sum: u32,
+    pub spot: Spot,
+    pub desk: Desk,
+}
+
+// A look: nothing changes, and what it shows has moved.
+fn play_look(image: &[u8], d: Desk, i: usize, g: u32) -> Played
+    ensures { λ r. ⌜ r ≡ lookPlayed (now (image .entry)) d i g ⌝ }
+{
+    let a = look_number(image, d, i, g);
+    let s = sums_of(look(image, d, i, g));
+    Played {
+        answer: a,
+        sum: s.words,
+        spot: position(d, i),
+        desk: d,
+    }
+}
+
+// Any other request.
+fn play_request(
+    image: &mut [u8],
+    d: Desk,
+    i: usize,
+    q: Request,
+    given: &[u8],
+    buffer: &mut [u8],
+) -> Played
+    ensures { λ r. ⌜ with r (now (image .exit)) (now (buffer .exit)) ≡ requestPlayed (now (image .entry)) d i q (now (given .entry)) (now (buffer .entry)) ⌝ }
+{
+    let r = request(image, d, i, q, given, buffer);
+    let a = r.answer;
+    let next = r.desk;
+    let n = length_of(next, i);
+    Played {
+        answer: a,
+        sum: sum_moved(q, a, n, given, buffer),
+        spot: position(next, i),
+        desk: next,
+    }
+}
+
+// Plays one row: a write takes its bytes from what is given, a read lays them in the buffer.
+pub fn play_row(image: &mut [u8], d: Desk, row: Row, given: &[u8], buffer: &mut [u8]) -> Played
+    ensures { λ r. ⌜ with r (now (image .exit)) (now (buffer .exit)) ≡ played (now (image .entry)) d row (now (given .entry)) (now (buffer .entry)) ⌝ }
+{
+    let q = row.request;
+    let i = row.entry as usize;
+    match q {
+        Request::GranuleLook(g) => play_look(image, d, i, g),
+        _ => play_request(image, d, i, q, given, buffer),
+    }
 }
