@@ -8,7 +8,7 @@ use Rattle.sessions.specs.declared.Spot.{Spot}
 use Rattle.sessions.specs.declared.Spot.the-variants.{Closed, At}
 use Rattle.texts.specs.Texts.{spelled, decimal, spaced}
 use Rattle.playing.specs.declared.Fault.{Fault}
-use Rattle.playing.specs.declared.Fault.the-variants.{Cut, Shape, Code, Missing}
+use Rattle.playing.specs.declared.Fault.the-variants.{Cut, Shape, Code, Missing, Unread}
 use Rattle.playing.specs.declared.Sums.{Sums}
 
 -- the first line: MOUNT ANSWER
@@ -38,6 +38,7 @@ faultWords (Cut k) = spelled " cut short at " ++ (decimal k ++ (32 ∷ spelled "
 faultWords Shape = spelled " unknown shape (the last two words are not zero)\n"
 faultWords (Code k) = spelled " unknown code " ++ (decimal k ++ (10 ∷ []))
 faultWords (Missing k) = spelled " bytes are missing for its write of " ++ (decimal k ++ (10 ∷ []))
+faultWords Unread = spelled " cannot be read\n"
 
 unfoldable pub faultLine : ℕ → Fault → List ℕ
 faultLine n f = spelled "ERROR row " ++ (decimal n ++ (58 ∷ faultWords f))

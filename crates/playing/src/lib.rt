@@ -36,6 +36,7 @@ pub enum Fault {
     Shape, // its last two words are not zero
     Code(u16), // there is no request of this code
     Missing(u16), // it is a write of so many bytes, and fewer are left
+    Unread, // a file failed where it was to be read
 }
 
 // What a row is read as.
@@ -198,6 +199,7 @@ fn put_fault(out: &mut [u8], at: usize, f: Fault) -> usize
             let a = put_all(out, at, b" bytes are missing for its write of ");
             put_number(out, a, k as u32, b'\n')
         }
+        Fault::Unread => put_all(out, at, b" cannot be read\n"),
     }
 }
 

@@ -63,6 +63,15 @@ cast-put-number-2 c = search needs
 put-number-requires-3 : tie.Need-put-number-requires-3
 put-number-requires-3 c κs = search needs
 
+enum-told-2 : tie.Need-enum-told-2
+enum-told-2 c = search needs
+
+slice-aggregate-put-all-6 : tie.Need-slice-aggregate-put-all-6
+slice-aggregate-put-all-6 c = search needs
+
+put-all-requires-6 : tie.Need-put-all-requires-6
+put-all-requires-6 c κs = search needs
+
 same-length : tie.Need-same-length
 same-length c = search needs
 
@@ -91,6 +100,13 @@ returns-4 : tie.Need-returns-4
 unfolding spelled faultWords
 returns-4 c = rw (c .before .before .before .before .before .before .before .before .before .before .f3 .given .1) (then (c .before .before .before .before .before .before .put-all5 .ensures) (c .before .before .put-number3 .ensures))
 
+same-length-5 : tie.Need-same-length-5
+same-length-5 c = search needs
+
+returns-5 : tie.Need-returns-5
+unfolding spelled faultWords
+returns-5 c = rw (c .before .before .before .before .before .enum-told2 .given .1) (c .before .before .put-all6 .ensures)
+
 pub put-fault-spec : {M : Type 1} → statement M
 put-fault-spec =
     tie.close
@@ -114,6 +130,9 @@ put-fault-spec =
     put-all-requires-5
     cast-put-number-2
     put-number-requires-3
+    enum-told-2
+    slice-aggregate-put-all-6
+    put-all-requires-6
     same-length
     returns
     same-length-2
@@ -121,4 +140,6 @@ put-fault-spec =
     same-length-3
     returns-3
     same-length-4
-    returns-4)
+    returns-4
+    same-length-5
+    returns-5)
