@@ -3,9 +3,9 @@
 use libc::STDIN_FILENO;
 use libc::STDOUT_FILENO;
 
-// Prints the listing of an image. A listing has at most 1,200 bytes.
+// Prints the listing of an image. A listing has at most 1,596 bytes (`short`, in listing's proofs).
 fn print_listing(image: &[u8]) {
-    let mut out = [0u8; 1200];
+    let mut out = [0u8; 1600];
     let size = listing::write_listing(image, &mut out);
     io::write_all(STDOUT_FILENO, &out[..size]);
 }

@@ -1,2 +1,2 @@
-pub mod Writing
 pub mod Texts
+pub mod Short

@@ -1,4 +1,4 @@
--- The listing's texts piece by piece: a number's last digit, a name's next letter, the next entry's line. Each is its definition's own equation.
+-- The listing's texts piece by piece: a name's next letter, the next entry's line. Each is its definition's own equation.
 use mathlib.Core.Path.{_≡_, refl}
 use mathlib.Core.Logic.{_≢_}
 use mathlib.Core.Bool.{Bool, true, false, _&&_}
@@ -14,23 +14,7 @@ use Rattle.geometry.specs.Sizes.{sectorsOf, blank, free}
 use Rattle.directory.specs.declared.Entry.{Entry}
 use Rattle.directory.specs.Entries.{tableOf, isFree}
 use Rattle.mounting.specs.Mounting.{mounts}
-use Rattle.listing.specs.Listing.{header, badImage, decimalIn, ascii, nameText, line, linesFrom, listing}
-
--- ---- numbers
-
-pub no-digits : (n : ℕ) → decimalIn 0 n ≡ []
-unfolding decimalIn
-no-digits n = refl
-
-pub one-digit : (k n : ℕ) → 0 < k → n < 10 → decimalIn k n ≡ (48 + n % 10) ∷ []
-unfolding decimalIn
-one-digit zero n h l = absurd (omega arith)
-one-digit (suc k) n h l = let e : n % 10 ≡ n = omega arith in rw (decimalIn, lt-ltb n 10 l, e)
-
-pub last-digit : (k n : ℕ) → 0 < k → 10 ≤ n → decimalIn k n ≡ decimalIn (k - 1) (n / 10) ++ ((48 + n % 10) ∷ [])
-unfolding decimalIn
-last-digit zero n h l = absurd (omega arith)
-last-digit (suc k) n h l = rw (decimalIn, le-ltb n 10 l, sub-one)
+use Rattle.listing.specs.Listing.{header, badImage, ascii, nameText, line, linesFrom, listing}
 
 -- ---- names
 

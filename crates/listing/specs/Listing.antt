@@ -1,32 +1,21 @@
 -- Document 01, "Listing": what the program prints, as ASCII bytes. Definitions only.
 use mathlib.Core.Bool.{true, false, _&&_}
 use mathlib.Core.List.{List, [], _∷_, _++_}
-use Prim.Native.Nat.{ℕ, zero, suc, _+_, _-_, _/_, _%_}
-use lib.ListN.{length}
-use lib.Dec.{eqb, leb, ltb}
+use Prim.Native.Nat.{ℕ, _+_, _-_}
+use lib.Dec.{eqb, leb}
 use Rattle.geometry.specs.Sizes.{sectorsOf, blank}
 use Rattle.directory.specs.Entries.{tableOf, isFree}
 use Rattle.mounting.specs.Mounting.{mounts}
+use Rattle.texts.specs.Texts.{spelled, decimal, spaced}
 use Rattle.directory.specs.declared.Entry.{Entry}
 
--- "FILE NAME KIND RECORD FIRST SECTORS COUNT FLAGS" and the line's end
+-- "prints a header"
 unfoldable pub header : List ℕ
-header =
-    70 ∷ 73 ∷ 76 ∷ 69 ∷ 32 ∷ 78 ∷ 65 ∷ 77 ∷ 69 ∷ 32 ∷ 75 ∷ 73 ∷ 78 ∷ 68 ∷ 32 ∷ 82 ∷ 69 ∷ 67 ∷ 79 ∷ 82 ∷ 68 ∷ 32
-    ∷ 70 ∷ 73 ∷ 82 ∷ 83 ∷ 84 ∷ 32 ∷ 83 ∷ 69 ∷ 67 ∷ 84 ∷ 79 ∷ 82 ∷ 83 ∷ 32 ∷ 67 ∷ 79 ∷ 85 ∷ 78 ∷ 84 ∷ 32 ∷ 70 ∷ 76 ∷ 65 ∷ 71 ∷ 83 ∷ 10 ∷ []
+header = spelled "FILE NAME KIND RECORD FIRST SECTORS COUNT FLAGS\n"
 
--- "BAD IMAGE" and the line's end
+-- "prints only BAD IMAGE"
 unfoldable pub badImage : List ℕ
-badImage = 66 ∷ 65 ∷ 68 ∷ 32 ∷ 73 ∷ 77 ∷ 65 ∷ 71 ∷ 69 ∷ 10 ∷ []
-
--- a number below 10 ^ k in "decimal"
-unfoldable pub decimalIn : ℕ → ℕ → List ℕ
-decimalIn zero n = []
-decimalIn (suc k) n = elim (ltb n 10) [ true ↦ (48 + n) ∷ [] | false ↦ decimalIn k (n / 10) ++ ((48 + n % 10) ∷ []) ]
-
--- a word has at most five digits
-unfoldable pub decimal : ℕ → List ℕ
-decimal n = decimalIn 5 n
+badImage = spelled "BAD IMAGE\n"
 
 -- a capital or a digit of EBCDIC in ASCII
 unfoldable pub ascii : ℕ → ℕ
@@ -45,12 +34,6 @@ ascii c =
 unfoldable pub nameText : List ℕ → List ℕ
 nameText [] = []
 nameText (c ∷ cs) = elim (eqb c blank) [ true ↦ [] | false ↦ ascii c ∷ nameText cs ]
-
--- words with "single blanks" between them, and the line's end
-unfoldable pub spaced : List (List ℕ) → List ℕ
-spaced [] = 10 ∷ []
-spaced (w ∷ []) = w ++ (10 ∷ [])
-spaced (w ∷ v ∷ ws) = w ++ (32 ∷ spaced (v ∷ ws))
 
 -- "one line per used entry"
 unfoldable pub line : ℕ → Entry → List ℕ

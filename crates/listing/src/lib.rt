@@ -1,71 +1,16 @@
 // The directory listing: document 01's "Listing".
 use directory::Entry;
 use geometry::Geometry;
+use texts::put_all;
+use texts::put_byte;
+use texts::put_number;
 ghost use mathlib.Core.Path.{_≡_};
 ghost use mathlib.Core.List.{[], _∷_, _++_};
-ghost use Prim.Native.Nat.{_≤_, _<_, _+_, _%_};
+ghost use Prim.Native.Nat.{_<_, min};
 ghost use lib.ListN.{length};
 ghost use lib.Seq.{sets};
-ghost use Rattle.listing.specs.Listing.{decimalIn, decimal, ascii, nameText, spaced, line, linesFrom, listing};
-ghost use Rattle.listing.specs.Writing.{Wrote};
-
-// Puts c at the place at, if there is such a place.
-fn put_byte(out: &mut [u8], at: usize, c: u8) -> usize
-    requires { ⌜ at < 100000 ⌝ }
-    ensures wrote { λ r. ⌜ Wrote (now (out .entry)) at (c ∷ []) (now (out .exit)) r ⌝ }
-    ensures short { λ r. ⌜ r ≤ at + 1 ⌝ }
-{
-    geometry::put(out, at, c);
-    at + 1
-}
-
-// Puts xs at the place at and behind it, as far as there is room.
-fn put_all(out: &mut [u8], at: usize, xs: &[u8]) -> usize
-    requires { ⌜ (at < 10000) × (length (now xs) < 10000) ⌝ }
-    ensures wrote { λ r. ⌜ Wrote (now (out .entry)) at (now (xs .entry)) (now (out .exit)) r ⌝ }
-    ensures short { λ r. ⌜ r ≤ at + length (now (xs .entry)) ⌝ }
-{
-    let mut a = at;
-    let mut k = 0;
-    while k < xs.len() {
-        a = put_byte(out, a, xs[k]);
-        k += 1;
-    }
-    a
-}
-
-// The last digit of n.
-fn last_digit(n: u32) -> u8
-    ensures { λ r. ⌜ r ≡ 48 + n % 10 ⌝ }
-{
-    (48 + n % 10) as u8
-}
-
-// Puts the number n in decimal, in at most k digits.
-fn put_digits(out: &mut [u8], at: usize, n: u32, k: u32) -> usize
-    requires { ⌜ (at < 90000) × (k ≤ 5) ⌝ }
-    ensures wrote { λ r. ⌜ Wrote (now (out .entry)) at (decimalIn k n) (now (out .exit)) r ⌝ }
-    ensures short { λ r. ⌜ r ≤ at + k ⌝ }
-{
-    if k == 0 {
-        return at;
-    }
-    if n < 10 {
-        return put_byte(out, at, last_digit(n));
-    }
-    let a = put_digits(out, at, n / 10, k - 1);
-    put_byte(out, a, last_digit(n))
-}
-
-// Puts the number n in decimal, and the byte c behind it.
-fn put_number(out: &mut [u8], at: usize, n: u32, c: u8) -> usize
-    requires { ⌜ at < 90000 ⌝ }
-    ensures wrote { λ r. ⌜ Wrote (now (out .entry)) at (decimal n ++ (c ∷ [])) (now (out .exit)) r ⌝ }
-    ensures short { λ r. ⌜ r ≤ at + 6 ⌝ }
-{
-    let a = put_digits(out, at, n, 5);
-    put_byte(out, a, c)
-}
+ghost use Rattle.texts.specs.Texts.{decimal, spaced, Wrote};
+ghost use Rattle.listing.specs.Listing.{ascii, nameText, line, linesFrom, listing};
 
 // A capital or a digit of EBCDIC in ASCII.
 fn to_ascii(c: u8) -> u8
@@ -88,9 +33,7 @@ fn to_ascii(c: u8) -> u8
 
 // Puts a name in ASCII without its trailing blanks.
 fn put_letters(out: &mut [u8], at: usize, x: [u8; 8]) -> usize
-    requires { ⌜ at < 90000 ⌝ }
-    ensures wrote { λ r. ⌜ Wrote (now (out .entry)) at (nameText x) (now (out .exit)) r ⌝ }
-    ensures short { λ r. ⌜ r ≤ at + 8 ⌝ }
+    ensures { λ r. ⌜ Wrote (now (out .entry)) at (nameText x) (now (out .exit)) r ⌝ }
 {
     let mut a = at;
     let mut k: usize = 0;
@@ -107,9 +50,7 @@ fn put_letters(out: &mut [u8], at: usize, x: [u8; 8]) -> usize
 
 // Puts a name, and a blank behind it.
 fn put_name(out: &mut [u8], at: usize, x: [u8; 8]) -> usize
-    requires { ⌜ at < 90000 ⌝ }
-    ensures wrote { λ r. ⌜ Wrote (now (out .entry)) at (nameText x ++ (32 ∷ [])) (now (out .exit)) r ⌝ }
-    ensures short { λ r. ⌜ r ≤ at + 9 ⌝ }
+    ensures { λ r. ⌜ Wrote (now (out .entry)) at (nameText x ++ (32 ∷ [])) (now (out .exit)) r ⌝ }
 {
     let a = put_letters(out, at, x);
     put_byte(out, a, b' ')
@@ -117,9 +58,7 @@ fn put_name(out: &mut [u8], at: usize, x: [u8; 8]) -> usize
 
 // Puts the words of a line behind the kind.
 fn put_sizes(out: &mut [u8], at: usize, e: Entry) -> usize
-    requires { ⌜ at < 80100 ⌝ }
-    ensures wrote { λ r. ⌜ Wrote (now (out .entry)) at (spaced (decimal (e .length) ∷ decimal (e .first) ∷ decimal (e .sectors) ∷ decimal (e .count) ∷ decimal (e .flags) ∷ [])) (now (out .exit)) r ⌝ }
-    ensures short { λ r. ⌜ r ≤ at + 30 ⌝ }
+    ensures { λ r. ⌜ Wrote (now (out .entry)) at (spaced (decimal (e .length) ∷ decimal (e .first) ∷ decimal (e .sectors) ∷ decimal (e .count) ∷ decimal (e .flags) ∷ [])) (now (out .exit)) r ⌝ }
 {
     let a = put_number(out, at, e.length as u32, b' ');
     let b = put_number(out, a, e.first as u32, b' ');
@@ -130,9 +69,7 @@ fn put_sizes(out: &mut [u8], at: usize, e: Entry) -> usize
 
 // Puts the line of entry i.
 fn put_line(out: &mut [u8], at: usize, i: u32, e: Entry) -> usize
-    requires { ⌜ at < 80000 ⌝ }
-    ensures wrote { λ r. ⌜ Wrote (now (out .entry)) at (line i e) (now (out .exit)) r ⌝ }
-    ensures short { λ r. ⌜ r ≤ at + 51 ⌝ }
+    ensures { λ r. ⌜ Wrote (now (out .entry)) at (line i e) (now (out .exit)) r ⌝ }
 {
     let x = e.name;
     let a = put_number(out, at, i, b' ');
@@ -143,9 +80,8 @@ fn put_line(out: &mut [u8], at: usize, i: u32, e: Entry) -> usize
 
 // Puts the line of entry i, if it is used.
 fn put_entry(out: &mut [u8], at: usize, i: usize, e: Entry) -> usize
-    requires { ⌜ (at < 80000) × (i < 18) ⌝ }
-    ensures wrote { λ r. ⌜ Wrote (now (out .entry)) at (linesFrom i (e ∷ [])) (now (out .exit)) r ⌝ }
-    ensures short { λ r. ⌜ r ≤ at + 51 ⌝ }
+    requires { ⌜ i < 18 ⌝ }
+    ensures { λ r. ⌜ Wrote (now (out .entry)) at (linesFrom i (e ∷ [])) (now (out .exit)) r ⌝ }
 {
     if e.kind == Geometry::FREE {
         at
@@ -156,9 +92,7 @@ fn put_entry(out: &mut [u8], at: usize, i: usize, e: Entry) -> usize
 
 // Puts a line for each used entry, in entry order.
 fn put_lines(out: &mut [u8], at: usize, t: [Entry; 18]) -> usize
-    requires { ⌜ at < 70000 ⌝ }
-    ensures wrote { λ r. ⌜ Wrote (now (out .entry)) at (linesFrom 0 t) (now (out .exit)) r ⌝ }
-    ensures short { λ r. ⌜ r ≤ at + 918 ⌝ }
+    ensures { λ r. ⌜ Wrote (now (out .entry)) at (linesFrom 0 t) (now (out .exit)) r ⌝ }
 {
     let mut a = at;
     let mut i: usize = 0;
@@ -173,11 +107,10 @@ fn put_lines(out: &mut [u8], at: usize, t: [Entry; 18]) -> usize
 // The most sectors of an image that is listed.
 const MOST_LISTED: usize = 180;
 
-// Puts the listing of an image into out, as far as there is room; the listing's length.
+// Puts the listing of an image into out, as far as there is room. How many bytes that is.
 pub fn write_listing(image: &[u8], out: &mut [u8]) -> usize
-    ensures ends { λ r. ⌜ r ≡ length (listing (now (image .entry))) ⌝ }
+    ensures ends { λ r. ⌜ r ≡ min (length (listing (now (image .entry)))) (length (now (out .entry))) ⌝ }
     ensures puts { λ _. ⌜ now (out .exit) ≡ sets (now (out .entry)) 0 (listing (now (image .entry))) ⌝ }
-    ensures short { λ r. ⌜ r ≤ 1200 ⌝ }
 {
     if (Geometry::sectors_of(image) <= MOST_LISTED) & mounting::mounts(image) {
         let t = directory::table_of(image);

@@ -1,7 +1,7 @@
 -- `listing::put_entry` meets its contract: a free entry has no line.
 use borrow.Author.Needs.{needs}
 use native.Mathlib.Omega.{arith}
-use Rattle.listing.proofs.Writing.{wrote-none}
+use Rattle.texts.proofs.Writing.{wrote-none}
 use Rattle.listing.proofs.Texts.{free-line, used-line}
 use Rattle.listing.proofs.put_entry.Statement.{statement}
 use Rattle.listing.proofs.put_entry.Tie as tie
@@ -15,7 +15,7 @@ put-line-requires c κs = search needs
 returns : tie.Need-returns
 returns c =
     let a = c .before .before .before .args in
-    rw (free-line (a .i) (a .e) (c .if1 .taken)) (wrote-none _ _, omega arith)
+    rw (free-line (a .i) (a .e) (c .if1 .taken)) (wrote-none _ _)
 
 same-length : tie.Need-same-length
 same-length c = search needs

@@ -6,25 +6,25 @@ use native.Mathlib.Omega.{arith}
 use borrow.Author.Needs.{needs}
 use lib.ListN.{length, drop, getD}
 use Rattle.listing.specs.Listing.{nameText, ascii}
-use Rattle.listing.proofs.Writing.{Leads, leads-on, leads-end}
+use Rattle.texts.proofs.Writing.{Leads, leads-on, leads-end}
 use Rattle.listing.proofs.Texts.{name-stops, name-more, name-ends}
 use Rattle.listing.proofs.put_letters.Statement.{statement}
 use Rattle.listing.proofs.put_letters.Tie as tie
 
 abbrev Inv-loop : tie.InvT-loop
-Inv-loop out₀ at x a₀ k₀ out a k = Leads out₀ at (nameText x) out a (nameText (drop k x)) × (a ≤ at + k) × (k ≤ 8) × (length out ≡ length out₀)
+Inv-loop out₀ at x a₀ k₀ out a k = Leads out₀ at (nameText x) out a (nameText (drop k x)) × (k ≤ 8) × (length out ≡ length out₀)
 
 abbrev μ-loop : tie.MeasureT-loop
 μ-loop out₀ at x a₀ k₀ out a k = 8 - k
 
 loop-holds : tie.Need-loop-holds Inv-loop μ-loop
-loop-holds c = (λ new b w. w, omega arith, omega arith, refl)
+loop-holds c = (λ new b w. w, omega arith, refl)
 
 array-read-c : tie.Need-array-read-c Inv-loop μ-loop
 array-read-c c = search needs
 
 same-length : tie.Need-same-length Inv-loop μ-loop
-same-length c = c .before .before .loop .inv .3
+same-length c = c .before .before .loop .inv .2
 
 returns : tie.Need-returns Inv-loop μ-loop
 returns c =
@@ -32,7 +32,7 @@ returns c =
     let x = c .before .before .before .before .args .t3 in
     let s : length x ≡ 8 = search needs in
     let e : nameText (drop (l .k) x) ≡ [] = name-stops x (l .k) (omega arith) (c .if1 .taken) in
-    (leads-end (rw e at (l .inv .0)), omega arith)
+    leads-end (rw e at (l .inv .0))
 
 to-ascii-requires : tie.Need-to-ascii-requires Inv-loop μ-loop
 to-ascii-requires c κs = search needs
@@ -54,10 +54,10 @@ loop-again c =
     let s : length x ≡ 8 = search needs in
     let e : nameText (drop (l .k) x) ≡ (ascii (getD x (l .k) 0) ∷ []) ++ nameText (drop (l .k + 1) x) =
     name-more x (l .k) (omega arith) (c .before .before .before .before .before .if1 .left) in
-    (leads-on (rw (e, ← c .before .before .before .to-ascii .ensures) at (l .inv .0)) (p .ensures .0), omega arith, omega arith, p .kept .0 ∙ l .inv .3)
+    (leads-on (rw (e, ← c .before .before .before .to-ascii .ensures) at (l .inv .0)) (p .ensures), omega arith, p .kept .0 ∙ l .inv .2)
 
 same-length-2 : tie.Need-same-length-2 Inv-loop μ-loop
-same-length-2 c = c .before .loop .inv .3
+same-length-2 c = c .before .loop .inv .2
 
 returns-2 : tie.Need-returns-2 Inv-loop μ-loop
 returns-2 c =
@@ -65,7 +65,7 @@ returns-2 c =
     let x = c .before .before .before .args .t3 in
     let s : length x ≡ 8 = search needs in
     let e : nameText (drop (l .k) x) ≡ [] = name-ends x (l .k) (omega arith) in
-    (leads-end (rw e at (l .inv .0)), omega arith)
+    leads-end (rw e at (l .inv .0))
 
 pub put-letters-spec : {M : Type 1} → statement M
 put-letters-spec =

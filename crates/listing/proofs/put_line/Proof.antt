@@ -1,7 +1,8 @@
 -- `listing::put_line` meets its contract: each word stands behind the one before it.
 use borrow.Author.Needs.{needs}
-use Rattle.listing.specs.Listing.{decimal, nameText, spaced, line}
-use Rattle.listing.proofs.Writing.{word-then}
+use Rattle.texts.specs.Texts.{decimal, spaced}
+use Rattle.listing.specs.Listing.{nameText, line}
+use Rattle.texts.proofs.Writing.{word-then}
 use Rattle.listing.proofs.put_line.Statement.{statement}
 use Rattle.listing.proofs.put_line.Tie as tie
 
@@ -31,7 +32,7 @@ returns c =
     let p2 = p3 .before .before .before .before .before in
     let p1 = p2 .before .before .before .before in
     let a = p1 .before .before .before .before .args in
-    (word-then (decimal (a .i)) 32 (p1 .put-number .ensures .0) (word-then (nameText (a .e .name)) 32 (p2 .put-name .ensures .0) (word-then (decimal (a .e .kind)) 32 (p3 .put-number2 .ensures .0) (p4 .put-sizes .ensures .0))), search needs)
+    word-then (decimal (a .i)) 32 (p1 .put-number .ensures) (word-then (nameText (a .e .name)) 32 (p2 .put-name .ensures) (word-then (decimal (a .e .kind)) 32 (p3 .put-number2 .ensures) (p4 .put-sizes .ensures)))
 
 pub put-line-spec : {M : Type 1} → statement M
 put-line-spec =

@@ -7,25 +7,25 @@ use borrow.Author.Needs.{needs}
 use lib.ListN.{length, drop}
 use Rattle.directory.specs.Entries.{entryAt, freeEntry}
 use Rattle.listing.specs.Listing.{linesFrom}
-use Rattle.listing.proofs.Writing.{Leads, leads-on, leads-end}
+use Rattle.texts.proofs.Writing.{Leads, leads-on, leads-end}
 use Rattle.listing.proofs.Texts.{lines-more, lines-end}
 use Rattle.listing.proofs.put_lines.Statement.{statement}
 use Rattle.listing.proofs.put_lines.Tie as tie
 
 abbrev Inv-loop : tie.InvT-loop
-Inv-loop out₀ at t a₀ i₀ out a i = Leads out₀ at (linesFrom 0 t) out a (linesFrom i (drop i t)) × (a ≤ at + 51 * i) × (i ≤ 18) × (length out ≡ length out₀)
+Inv-loop out₀ at t a₀ i₀ out a i = Leads out₀ at (linesFrom 0 t) out a (linesFrom i (drop i t)) × (i ≤ 18) × (length out ≡ length out₀)
 
 abbrev μ-loop : tie.MeasureT-loop
 μ-loop out₀ at t a₀ i₀ out a i = 18 - i
 
 loop-holds : tie.Need-loop-holds Inv-loop μ-loop
-loop-holds c = (λ new b w. w, omega arith, omega arith, refl)
+loop-holds c = (λ new b w. w, omega arith, refl)
 
 entry-of-requires : tie.Need-entry-of-requires Inv-loop μ-loop
 entry-of-requires c κs = search needs
 
 put-entry-requires : tie.Need-put-entry-requires Inv-loop μ-loop
-put-entry-requires c κs = (search needs, search needs)
+put-entry-requires c κs = search needs
 
 add-i : tie.Need-add-i Inv-loop μ-loop
 add-i c = search needs
@@ -41,10 +41,10 @@ loop-again c =
     let s : length t ≡ 18 = search needs in
     let e : linesFrom (l .i) (drop (l .i) t) ≡ linesFrom (l .i) (entryAt t (l .i) ∷ []) ++ linesFrom (l .i + 1) (drop (l .i + 1) t) =
     lines-more t (l .i) freeEntry (omega arith) in
-    (leads-on (rw (e, ← c .before .before .before .before .entry-of .ensures) at (l .inv .0)) (p .ensures .0), omega arith, omega arith, p .kept .0 ∙ l .inv .3)
+    (leads-on (rw (e, ← c .before .before .before .before .entry-of .ensures) at (l .inv .0)) (p .ensures), omega arith, p .kept .0 ∙ l .inv .2)
 
 same-length : tie.Need-same-length Inv-loop μ-loop
-same-length c = c .before .loop .inv .3
+same-length c = c .before .loop .inv .2
 
 returns : tie.Need-returns Inv-loop μ-loop
 returns c =
@@ -52,7 +52,7 @@ returns c =
     let t = c .before .before .before .args .t in
     let s : length t ≡ 18 = search needs in
     let e : linesFrom (l .i) (drop (l .i) t) ≡ [] = lines-end t (l .i) (omega arith) in
-    (leads-end (rw e at (l .inv .0)), omega arith)
+    leads-end (rw e at (l .inv .0))
 
 pub put-lines-spec : {M : Type 1} → statement M
 put-lines-spec =

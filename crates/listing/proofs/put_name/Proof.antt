@@ -1,6 +1,6 @@
 -- `listing::put_name` meets its contract: the blank stands behind the letters.
 use borrow.Author.Needs.{needs}
-use Rattle.listing.proofs.Writing.{then}
+use Rattle.texts.proofs.Writing.{then}
 use Rattle.listing.proofs.put_name.Statement.{statement}
 use Rattle.listing.proofs.put_name.Tie as tie
 
@@ -14,7 +14,7 @@ same-length : tie.Need-same-length
 same-length c = search needs
 
 returns : tie.Need-returns
-returns c = (then (c .before .before .before .before .before .before .put-letters .ensures .0) (c .before .before .put-byte .ensures .0), search needs)
+returns c = then (c .before .before .before .before .before .before .put-letters .ensures) (c .before .before .put-byte .ensures)
 
 pub put-name-spec : {M : Type 1} → statement M
 put-name-spec = tie.close (tie.spec put-letters-requires put-byte-requires same-length returns)

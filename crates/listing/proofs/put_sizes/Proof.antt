@@ -1,7 +1,7 @@
 -- `listing::put_sizes` meets its contract: each word stands behind the one before it.
 use borrow.Author.Needs.{needs}
-use Rattle.listing.specs.Listing.{decimal, spaced}
-use Rattle.listing.proofs.Writing.{word-then}
+use Rattle.texts.specs.Texts.{decimal, spaced}
+use Rattle.texts.proofs.Writing.{word-then}
 use Rattle.listing.proofs.put_sizes.Statement.{statement}
 use Rattle.listing.proofs.put_sizes.Tie as tie
 
@@ -44,7 +44,7 @@ returns c =
     let p2 = p3 .before .before .before .before .before in
     let p1 = p2 .before .before .before .before .before in
     let e = p1 .before .before .before .before .args .e in
-    (word-then (decimal (e .length)) 32 (p1 .put-number .ensures .0) (word-then (decimal (e .first)) 32 (p2 .put-number2 .ensures .0) (word-then (decimal (e .sectors)) 32 (p3 .put-number3 .ensures .0) (word-then (decimal (e .count)) 32 (p4 .put-number4 .ensures .0) (p5 .put-number5 .ensures .0)))), search needs)
+    word-then (decimal (e .length)) 32 (p1 .put-number .ensures) (word-then (decimal (e .first)) 32 (p2 .put-number2 .ensures) (word-then (decimal (e .sectors)) 32 (p3 .put-number3 .ensures) (word-then (decimal (e .count)) 32 (p4 .put-number4 .ensures) (p5 .put-number5 .ensures))))
 
 pub put-sizes-spec : {M : Type 1} → statement M
 put-sizes-spec =

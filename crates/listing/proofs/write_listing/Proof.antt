@@ -4,8 +4,9 @@ use mathlib.Core.Bool.{true, false, _&&_}
 use lib.Dec.{leb}
 use Rattle.geometry.specs.Sizes.{sectorsOf}
 use Rattle.mounting.specs.Mounting.{mounts}
+use Rattle.texts.specs.Texts.{spelled}
 use Rattle.listing.specs.Listing.{header, badImage}
-use Rattle.listing.proofs.Writing.{then, ends-at}
+use Rattle.texts.proofs.Writing.{then, ends-at}
 use Rattle.listing.proofs.Texts.{good-listing, bad-listing}
 use borrow.Author.Needs.{needs}
 use Rattle.listing.proofs.write_listing.Statement.{statement}
@@ -39,26 +40,26 @@ same-length : tie.Need-same-length
 same-length c = search needs
 
 returns : tie.Need-returns
-unfolding header
+unfolding header spelled
 returns c =
     let p = c .before .before .before .before .before .before in
     let i = p .before .before .before .before in
     let image = i .before .before .before .before .before .args .image .now in
     let g : (leb (sectorsOf image) 180 && mounts image) ≡ true = rw (i .before .before .sectors-of .ensures, i .before .mounts .ensures) at (i .if1 .taken) in
-    let w = then (p .put-all .ensures .0) (c .before .before .put-lines .ensures .0) in
-    rw (good-listing image g, ← p .before .before .before .table-of .ensures) (ends-at w, (w .puts, search needs))
+    let w = then (p .put-all .ensures) (c .before .before .put-lines .ensures) in
+    rw (good-listing image g, ← p .before .before .before .table-of .ensures) (ends-at w, w .puts)
 
 same-length-2 : tie.Need-same-length-2
 same-length-2 c = search needs
 
 returns-2 : tie.Need-returns-2
-unfolding badImage
+unfolding badImage spelled
 returns-2 c =
     let i = c .before .before .before .before .before in
     let image = i .before .before .before .before .before .args .image .now in
     let g : (leb (sectorsOf image) 180 && mounts image) ≡ false = rw (i .before .before .sectors-of .ensures, i .before .mounts .ensures) at (i .if1 .left) in
-    let w = c .before .before .put-all2 .ensures .0 in
-    rw (bad-listing image g) (ends-at w, (w .puts, search needs))
+    let w = c .before .before .put-all2 .ensures in
+    rw (bad-listing image g) (ends-at w, w .puts)
 
 pub write-listing-spec : {M : Type 1} → statement M
 write-listing-spec =

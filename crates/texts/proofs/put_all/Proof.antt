@@ -1,4 +1,4 @@
--- `listing::put_all` meets its contract: behind the first k bytes the rest is to be put.
+-- `texts::put_all` meets its contract: behind the first k bytes the rest is to be put.
 use mathlib.Core.Path.{_≡_, refl, _∙_}
 use mathlib.Core.List.{[], _∷_, _++_}
 use Prim.Native.Nat.{_≤_, _-_, _+_}
@@ -7,18 +7,18 @@ use native.Mathlib.Numerals.{add-one}
 use borrow.Author.Needs.{needs}
 use lib.ListN.{length, drop, getD, drop-of-length-le}
 use lib.Seq.{drop-cons}
-use Rattle.listing.proofs.Writing.{Leads, leads-on, leads-end}
-use Rattle.listing.proofs.put_all.Statement.{statement}
-use Rattle.listing.proofs.put_all.Tie as tie
+use Rattle.texts.proofs.Writing.{Leads, leads-on, leads-end}
+use Rattle.texts.proofs.put_all.Statement.{statement}
+use Rattle.texts.proofs.put_all.Tie as tie
 
 abbrev Inv-loop : tie.InvT-loop
-Inv-loop out₀ at xs a₀ k₀ out a k = Leads out₀ at xs out a (drop k xs) × (a ≤ at + k) × (k ≤ length xs) × (length out ≡ length out₀)
+Inv-loop out₀ at xs a₀ k₀ out a k = Leads out₀ at xs out a (drop k xs) × (k ≤ length xs) × (length out ≡ length out₀)
 
 abbrev μ-loop : tie.MeasureT-loop
 μ-loop out₀ at xs a₀ k₀ out a k = length xs - k
 
 loop-holds : tie.Need-loop-holds Inv-loop μ-loop
-loop-holds c = (λ new b w. w, omega arith, omega arith, refl)
+loop-holds c = (λ new b w. w, omega arith, refl)
 
 shared-slice-read-put-byte : tie.Need-shared-slice-read-put-byte Inv-loop μ-loop
 shared-slice-read-put-byte c = search needs
@@ -38,17 +38,17 @@ loop-again c =
     let p = c .before .before .put-byte in
     let xs = c .before .before .before .before .before .before .before .before .before .args .xs .now in
     let e : drop (l .k) xs ≡ (getD xs (l .k) 0 ∷ []) ++ drop (l .k + 1) xs = rw (drop-cons xs (l .k) 0 (omega arith), add-one) in
-    (leads-on (rw e at (l .inv .0)) (p .ensures .0), omega arith, omega arith, p .kept .0 ∙ l .inv .3)
+    (leads-on (rw e at (l .inv .0)) (p .ensures), omega arith, p .kept .0 ∙ l .inv .2)
 
 same-length : tie.Need-same-length Inv-loop μ-loop
-same-length c = c .before .loop .inv .3
+same-length c = c .before .loop .inv .2
 
 returns : tie.Need-returns Inv-loop μ-loop
 returns c =
     let l = c .before .loop in
     let xs = c .before .before .before .before .args .xs .now in
     let e : drop (l .k) xs ≡ [] = drop-of-length-le xs {i = l .k} (omega arith) in
-    (leads-end (rw e at (l .inv .0)), omega arith)
+    leads-end (rw e at (l .inv .0))
 
 pub put-all-spec : {M : Type 1} → statement M
 put-all-spec =

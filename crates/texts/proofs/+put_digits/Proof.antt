@@ -1,18 +1,18 @@
--- `listing::put_digits` meets its contract: its three ways are the definition's, and k falls.
+-- `texts::put_digits` meets its contract: its three ways are the definition's, and k falls.
 use Prim.Native.Nat.{ℕ, _<_}
 use native.Mathlib.Omega.{arith}
 use borrow.Author.Needs.{needs}
 use borrow.Fn.Kinds.{In}
 use borrow.Fn.PlainCycle.{Measures, is, falls, and}
-use Rattle.listing.proofs.Writing.{then, wrote-none}
-use Rattle.listing.proofs.Texts.{no-digits, one-digit, last-digit}
-use Rattle.listing.proofs.put_digits.Reads as put-digits
-use Rattle.listing.proofs.put_digits.Kinds as put-digits-kinds
-use Rattle.listing.proofs.+put_digits.Lts-put_digits as put-digits-lts
-use Rattle.listing.proofs.last_digit.Reads as last-digit-reads
-use Rattle.listing.proofs.put_byte.Reads as put-byte-reads
-use Rattle.listing.proofs.+put_digits.{statement}
-use Rattle.listing.proofs.+put_digits.Tie.{close}
+use Rattle.texts.proofs.Writing.{then, wrote-none}
+use Rattle.texts.proofs.Digits.{no-digits, one-digit, last-digit}
+use Rattle.texts.proofs.put_digits.Reads as put-digits
+use Rattle.texts.proofs.put_digits.Kinds as put-digits-kinds
+use Rattle.texts.proofs.+put_digits.Lts-put_digits as put-digits-lts
+use Rattle.texts.proofs.last_digit.Reads as last-digit-reads
+use Rattle.texts.proofs.put_byte.Reads as put-byte-reads
+use Rattle.texts.proofs.+put_digits.{statement}
+use Rattle.texts.proofs.+put_digits.Tie.{close}
 
 abbrev μ-put-digits : Measures 1 put-digits-kinds.ps ℕ
 μ-put-digits κs a = a .1 .1 .1 .0
@@ -30,7 +30,7 @@ abbrev knows : ℕ → put-digits-lts.Claims
 knows t = (last-digit-reads.Asked, last-digit-reads.Learnt, put-byte-reads.Asked, put-byte-reads.Learnt, put-digits-below t, put-digits.Post)
 
 put-digits-returns : (t : ℕ) → put-digits-lts.Need-returns (knows t) (put-digits-at t) put-digits.Post
-put-digits-returns t c = rw (c .if1 .taken, no-digits) (wrote-none _ _, omega arith)
+put-digits-returns t c = rw (c .if1 .taken, no-digits) (wrote-none _ _)
 
 put-digits-last-digit-requires : (t : ℕ) → put-digits-lts.Need-last-digit-requires (knows t) (put-digits-at t) put-digits.Post
 put-digits-last-digit-requires t c κs = search needs
@@ -47,13 +47,13 @@ put-digits-returns-2 t c =
     let d = c .before .before .before .last-digit in
     let a = c .before .before .before .before .before .before .before .before .args in
     let some : 0 < a .k = omega arith in
-    (rw (one-digit (a .k) (a .n) some (c .before .before .before .before .before .if2 .taken), ← d .ensures) (p .ensures .0), omega arith)
+    rw (one-digit (a .k) (a .n) some (c .before .before .before .before .before .if2 .taken), ← d .ensures) (p .ensures)
 
 put-digits-sub-put-digits : (t : ℕ) → put-digits-lts.Need-sub-put-digits (knows t) (put-digits-at t) put-digits.Post
 put-digits-sub-put-digits t c = search needs
 
 put-digits-put-digits-requires : (t : ℕ) → put-digits-lts.Need-put-digits-requires (knows t) (put-digits-at t) put-digits.Post
-put-digits-put-digits-requires t c κs = (search needs, search needs)
+put-digits-put-digits-requires t c κs = search needs
 
 put-digits-last-digit-requires-2 : (t : ℕ) → put-digits-lts.Need-last-digit-requires-2 (knows t) (put-digits-at t) put-digits.Post
 put-digits-last-digit-requires-2 t c κs = search needs
@@ -71,7 +71,7 @@ put-digits-returns-3 t c =
     let m = c .before .before .before .before .before .before .before in
     let a = m .before .before .before .before .before .args in
     let some : 0 < a .k = omega arith in
-    (rw (last-digit (a .k) (a .n) some (m .before .before .if2 .left), ← d .ensures) (then (m .put-digits .ensures .0) (p .ensures .0)), omega arith)
+    rw (last-digit (a .k) (a .n) some (m .before .before .if2 .left), ← d .ensures) (then (m .put-digits .ensures) (p .ensures))
 
 pub +put-digits-spec : {M : Type 1} → statement M
 +put-digits-spec = close μ-put-digits λ t. put-digits-lts.spec (knows t)

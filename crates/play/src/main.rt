@@ -1,0 +1,162 @@
+// Plays a script of requests on an image, with one of the two engines: play plain|buffered IMAGE SCRIPT BYTES OUT. docs/PLAY.md says what
+// these files hold and what is printed.
+use geometry::same;
+use libc::STDERR_FILENO;
+use libc::STDOUT_FILENO;
+use playing::Engine;
+
+// The numbers of its arguments.
+const ENGINE: usize = 1;
+
+const IMAGE: usize = 2;
+
+const SCRIPT: usize = 3;
+
+const BYTES: usize = 4;
+
+const OUT: usize = 5;
+
+// A proved loop has to end, so rows are counted up to a number that no script has.
+const MOST: u32 = 4294967295;
+
+// Prints an error's line: a text, and argument i behind it.
+fn complain(text: &[u8], i: usize) {
+    let mut word = io::buffer();
+    let n = os::arg(i, &mut word);
+    io::write_all(STDOUT_FILENO, b"ERROR ");
+    io::write_all(STDOUT_FILENO, text);
+    io::write_all(STDOUT_FILENO, &word[..n]);
+    io::write_all(STDOUT_FILENO, b"\n");
+}
+
+// Opens the file that argument i names, to read it.
+fn open_read(i: usize) -> i32 {
+    let mut path = io::buffer();
+    let n = os::arg(i, &mut path);
+    os::open_read(&path[..n])
+}
+
+// One more byte of a file: more than 0 if there is one, less if it cannot be read.
+fn more(fd: i32) -> isize {
+    let mut one = [0u8; 1];
+    libc::read(fd, &mut one)
+}
+
+// Whether the file that argument i names can be read. If not, that is told.
+fn readable(i: usize) -> bool {
+    let fd = open_read(i);
+    let got = more(fd);
+    libc::close(fd);
+    if got < 0 {
+        complain(b"cannot read ", i);
+        return false;
+    }
+    true
+}
+
+// Whether the file that argument i names can be written, of which not a byte changes. If not, that is told.
+fn writable(i: usize) -> bool {
+    let mut path = io::buffer();
+    let n = os::arg(i, &mut path);
+    let old = os::open_append(&path[..n]);
+    let fd = if old < 0 { os::create(&path[..n]) } else { old };
+    if fd < 0 {
+        complain(b"cannot write ", i);
+        return false;
+    }
+    libc::close(fd);
+    true
+}
+
+// Writes an image to the file that argument i names.
+fn save(i: usize, image: &[u8]) {
+    let mut path = io::buffer();
+    let n = os::arg(i, &mut path);
+    let fd = os::open_overwrite(&path[..n]);
+    let saved = io::write_all(fd, image);
+    libc::close(fd);
+    if !saved {
+        complain(b"cannot write ", i);
+    }
+}
+
+// Whether every row of the script is in order. If not, that is told.
+fn in_order() -> bool {
+    let script = open_read(SCRIPT);
+    let bytes = open_read(BYTES);
+    let ok = play_io::test(script, bytes, MOST);
+    libc::close(script);
+    libc::close(bytes);
+    ok
+}
+
+// Plays the script on an image. Whether it came to the script's end.
+fn play_script(engine: Engine, image: &mut [u8]) -> bool {
+    let script = open_read(SCRIPT);
+    let bytes = open_read(BYTES);
+    let ok = play_io::play(engine, script, bytes, MOST, image);
+    libc::close(script);
+    libc::close(bytes);
+    ok
+}
+
+// Whether all that was named can be used. If not, the first that cannot is told.
+fn ready() -> bool {
+    readable(SCRIPT) && readable(BYTES) && in_order() && writable(OUT)
+}
+
+// Plays the script on an image, and writes the image.
+fn play_image(engine: Engine, image: &mut [u8]) {
+    if !ready() {
+        return;
+    }
+    if !play_script(engine, image) {
+        return;
+    }
+    save(OUT, image);
+}
+
+// Reads the image, and plays the script on it.
+fn play(engine: Engine, room: &mut [u8]) {
+    let fd = open_read(IMAGE);
+    let n = io::read_full(fd, room);
+    let got = more(fd);
+    libc::close(fd);
+    if got < 0 {
+        complain(b"cannot read ", IMAGE);
+    } else if got > 0 {
+        io::write_all(STDOUT_FILENO, b"ERROR image longer than 1474560 bytes\n");
+    } else {
+        play_image(engine, &mut room[..n]);
+    }
+}
+
+// Plays with the engine that is named.
+fn play_by_name(room: &mut [u8]) {
+    let mut word = io::buffer();
+    let n = os::arg(ENGINE, &mut word);
+    if same(&word[..n], b"plain") {
+        play(Engine::Plain, room);
+    } else if same(&word[..n], b"buffered") {
+        play(Engine::Buffered, room);
+    } else {
+        complain(b"no such engine: ", ENGINE);
+    }
+}
+
+// Lends room for an image of 4,096 sectors.
+fn lend(room: &mut [u8; 1474560]) {
+    play_by_name(room);
+}
+
+fn main() {
+    if os::arg_count() != 6 {
+        io::write_all(
+            STDERR_FILENO,
+            b"usage: play plain|buffered IMAGE SCRIPT BYTES OUT\n",
+        );
+        return;
+    }
+    let mut room = [0u8; 1474560];
+    lend(&mut room);
+}

@@ -1,0 +1,187 @@
+// Plays each case of a file, which its first argument names, with both engines. docs/PLAY.md has the form of that file. What it must print is
+// what the second program, written from document 01 alone, says of each case.
+use geometry::lay;
+use geometry::part;
+use geometry::put;
+use geometry::word_at;
+use libc::SEEK_CUR;
+use libc::SEEK_SET;
+use libc::STDOUT_FILENO;
+use playing::Engine;
+ghost use Prim.Native.Nat.{_<_};
+
+// The file of the cases, opened three times: for the images, the rows, and the bytes given.
+struct Files {
+    cases: i32,
+    script: i32,
+    bytes: i32,
+}
+
+// A case's header.
+struct Header {
+    whole: bool, // whether its image is there whole
+    size: usize, // if so, how many bytes it has; if not, how many patches make it of the last whole one
+    rows: u16,
+    high: u16, // how many bytes are given, in two words
+    low: u16,
+}
+
+// What stands next in a file of cases.
+enum Ahead {
+    Case(Header),
+    End,
+}
+
+// ---- moving in the file
+
+// Two words as a number, high word first.
+fn number(high: u16, low: u16) -> usize
+    ensures { λ r. ⌜ r < 4294967296 ⌝ }
+{
+    (high as usize) * 65536 + (low as usize)
+}
+
+// Goes on by that many bytes.
+fn skip(fd: i32, high: u16, low: u16) {
+    libc::lseek(fd, number(high, low) as i64, SEEK_CUR);
+}
+
+// Goes on by that many rows.
+fn skip_rows(fd: i32, rows: u16) {
+    libc::lseek(fd, ((rows as usize) * 16) as i64, SEEK_CUR);
+}
+
+// ---- a case's image
+
+// The header that stands next.
+fn read_header(fd: i32) -> Ahead {
+    let mut words = [0u8; 16];
+    if io::read_full(fd, &mut words) < 16 {
+        return Ahead::End;
+    }
+    Ahead::Case(Header {
+        whole: word_at(&words, 0) == 1,
+        size: number(word_at(&words, 2), word_at(&words, 4)),
+        rows: word_at(&words, 6),
+        high: word_at(&words, 8),
+        low: word_at(&words, 10),
+    })
+}
+
+// Reads the image, if it is there whole. The length of the last whole image, which before had n bytes; there is room for each of the cases.
+fn read_whole(fd: i32, h: Header, n: usize, whole: &mut [u8]) -> usize {
+    if !h.whole {
+        return n;
+    }
+    let size = h.size;
+    if size <= whole.len() {
+        return io::read_full(fd, &mut whole[..size]);
+    }
+    0
+}
+
+// How many patches a case has.
+fn patches(h: Header) -> usize {
+    if h.whole { 0 } else { h.size }
+}
+
+// Puts the patch that stands next, an offset of two words and a word that is the new byte, into an image.
+fn patch_next(fd: i32, image: &mut [u8]) {
+    let mut p = [0u8; 6];
+    io::read_full(fd, &mut p);
+    put(image, number(word_at(&p, 0), word_at(&p, 2)), p[5]);
+}
+
+// Puts the next n patches into an image.
+fn patch(fd: i32, n: usize, image: &mut [u8]) {
+    let mut i = 0;
+    while i < n {
+        patch_next(fd, image);
+        i += 1;
+    }
+}
+
+// ---- playing
+
+// Plays a script on an image, and prints the image's sums.
+fn play_image(engine: Engine, f: Files, rows: u16, image: &mut [u8]) {
+    play_io::play(engine, f.script, f.bytes, rows as u32, image);
+    play_io::print_image(image);
+}
+
+// The same on the image that the first n bytes of a room are.
+fn play_first(engine: Engine, f: Files, rows: u16, n: usize, room: &mut [u8]) {
+    if n <= room.len() {
+        play_image(engine, f, rows, &mut room[..n]);
+    }
+}
+
+// Plays a case with one engine. The last whole image is given, and the patches stand at a place of the file.
+fn play_with(engine: Engine, f: Files, at: i64, h: Header, whole: &[u8], room: &mut [u8]) {
+    lay(room, 0, whole);
+    libc::lseek(f.cases, at, SEEK_SET);
+    patch(f.cases, patches(h), room);
+    let start = libc::lseek(f.cases, 0, SEEK_CUR);
+    libc::lseek(f.script, start, SEEK_SET);
+    libc::lseek(f.bytes, start, SEEK_SET);
+    skip_rows(f.bytes, h.rows);
+    play_first(engine, f, h.rows, whole.len(), room);
+}
+
+// Plays a case with both.
+fn play_both(f: Files, h: Header, whole: &[u8], room: &mut [u8]) {
+    let at = libc::lseek(f.cases, 0, SEEK_CUR);
+    io::write_all(STDOUT_FILENO, b"PLAIN\n");
+    play_with(Engine::Plain, f, at, h, whole, room);
+    io::write_all(STDOUT_FILENO, b"BUFFERED\n");
+    play_with(Engine::Buffered, f, at, h, whole, room);
+    skip_rows(f.cases, h.rows);
+    skip(f.cases, h.high, h.low);
+}
+
+// Plays case number k. The length of the last whole image, which before had n bytes.
+fn play_case(f: Files, k: u64, h: Header, n: usize, whole: &mut [u8], room: &mut [u8]) -> usize {
+    io::write_all(STDOUT_FILENO, b"CASE ");
+    io::print_decimal(STDOUT_FILENO, k);
+    io::write_all(STDOUT_FILENO, b"\n");
+    let m = read_whole(f.cases, h, n, whole);
+    play_both(f, h, part(whole, 0, m), room);
+    m
+}
+
+// Plays the cases. A proved loop has to end, so it counts the cases up to a number that no file has.
+fn play_all(f: Files, whole: &mut [u8], room: &mut [u8]) {
+    let mut n = 0;
+    let mut k: u64 = 1;
+    while k < 1000000 {
+        let ahead = read_header(f.cases);
+        match ahead {
+            Ahead::Case(h) => {
+                n = play_case(f, k, h, n, whole, room);
+            }
+            Ahead::End => return,
+        }
+        k += 1;
+    }
+}
+
+// Opens the file of the cases.
+fn open() -> i32 {
+    let mut path = io::buffer();
+    let n = os::arg(1, &mut path);
+    os::open_read(&path[..n])
+}
+
+fn main() {
+    let f = Files {
+        cases: open(),
+        script: open(),
+        bytes: open(),
+    };
+    let mut whole = io::large_buffer();
+    let mut room = io::large_buffer();
+    play_all(f, &mut whole, &mut room);
+    libc::close(f.cases);
+    libc::close(f.script);
+    libc::close(f.bytes);
+}

@@ -1,0 +1,4 @@
+pub mod Rows
+pub mod Adding
+pub mod Lines
+pub mod Moved

@@ -1,0 +1,4 @@
+pub mod Script
+pub mod Sums
+pub mod Said
+pub mod Played
