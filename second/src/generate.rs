@@ -301,6 +301,7 @@ impl Maker<'_> {
             10..=12 => self.noise(),
             13..=15 => self.round_trip(),
             16..=19 => self.back_and_skip(),
+            20..=22 => self.mark_in_the_middle(),
             _ => {
                 let number = self.some_open();
                 if self.table.get(number).is_some_and(|e| e.kind == RANDOM) {
@@ -354,6 +355,24 @@ impl Maker<'_> {
         } else {
             self.some_writes(number);
         }
+    }
+
+    /// Skips and a mark, file forward and back, and writes: they go where the mark stands.
+    fn mark_in_the_middle(&mut self) {
+        let number = self.some_open();
+        for (order, most) in [
+            (Order::RewindOnLine, 1),
+            (Order::RecordForward, 4),
+            (Order::WriteFileMark, 1),
+            (Order::RewindOnLine, 1),
+            (Order::FileForward, 1),
+            (Order::FileBack, 1),
+        ] {
+            self.some_orders(number, order, most);
+        }
+        self.some_writes(number);
+        self.some_orders(number, Order::RewindOnLine, 1);
+        self.some_reads(number);
     }
 
     /// A used entry, seldom some other number.
@@ -466,7 +485,8 @@ impl Maker<'_> {
         self.offer(&request);
     }
 
-    /// Bytes for a write: mostly R of them, sometimes fewer, seldom 0, odd or over R.
+    /// Bytes for a write: mostly R of them (few where R is large), sometimes fewer, seldom 0, odd
+    /// or over R.
     fn some_data(&mut self, number: usize) -> Vec<u8> {
         let r = self.r_of(number);
         let length = match self.random.between(0, 99) {
@@ -474,6 +494,7 @@ impl Maker<'_> {
             3..=5 => 2 * self.random.between(0, r / 2) + 1,
             6..=7 => r + 2,
             8..=27 => 2 * self.random.between(1, (r / 2).max(1)),
+            28..=84 if r > 132 => 2 * self.random.between(1, 30),
             _ => r,
         };
         random_text(self.random, length)
