@@ -227,12 +227,15 @@ fn largest_image_case() -> Case {
 // Random scripts.
 
 /// Cases that share an image, one behind another.
-pub const SHARED: usize = 4;
+const SHARED: usize = 4;
 
-/// Random case `number` of a seed: some few have a damaged image.
+/// Random case `number` of a seed: the last with an image may have it damaged.
 pub fn random_case(seed: u64, number: usize, requests: usize) -> Case {
-    let image = shared_image(seed, number / SHARED);
+    let mut image = random_image(&mut numbered(seed, 2 * (number / SHARED)));
     let mut random = numbered(seed, 2 * number + 1);
+    if number % SHARED == SHARED - 1 && random.chance(30) {
+        disturb(&mut random, &mut image);
+    }
     let script = random_script(&mut random, &image, requests);
     Case::new(
         format!("script-{number:05}"),
@@ -240,15 +243,6 @@ pub fn random_case(seed: u64, number: usize, requests: usize) -> Case {
         image,
         script,
     )
-}
-
-fn shared_image(seed: u64, number: usize) -> Vec<u8> {
-    let mut random = numbered(seed, 2 * number);
-    let mut image = random_image(&mut random);
-    if random.chance(8) {
-        disturb(&mut random, &mut image);
-    }
-    image
 }
 
 /// The random numbers of a seed's part.

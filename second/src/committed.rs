@@ -15,7 +15,7 @@ use crate::random::Random;
 const SEED: u64 = 1971;
 
 /// How many random scripts are committed, and codes of other writers.
-const SCRIPTS: usize = 200;
+const SCRIPTS: usize = 180;
 const FOREIGN: usize = 20;
 
 /// The committed cases, in order: the fixed ones, other writers' codes, damage, random scripts.

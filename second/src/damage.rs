@@ -3,10 +3,10 @@
 
 use crate::cases::Case;
 use crate::coding::GO_ON;
-use crate::directory::{directory_is_good, table_of, Entry, BLOCKED, COMPRESSED, ENTRY_BYTES};
-use crate::directory::{MARKED, PROTECTED, RANDOM, UNBLOCKED};
+use crate::directory::{directory_is_good, table_of, ENTRIES, ENTRY_BYTES};
+use crate::directory::{BLOCKED, COMPRESSED, MARKED, PROTECTED, RANDOM, UNBLOCKED};
 use crate::disk::Disk;
-use crate::generate::extent_mut;
+use crate::generate::{extent_mut, foreign_code, put_entry, random_text};
 use crate::image::{put_word, BLANK, SECTOR};
 use crate::notation::script;
 use crate::random::Random;
@@ -373,6 +373,11 @@ fn sector_end_cases() -> Vec<Case> {
             coded_image(&[(0, &two_left), (358, &[2, 0xC1, 0xC2, 0])], 359),
         ),
         code_case(
+            "last-character-is-zero",
+            358,
+            coded_image(&[(0, &empties(357)), (357, &[2, 0xC1, 0])], 358),
+        ),
+        code_case(
             "end-past-sector",
             359,
             coded_image(&[(0, &two_left), (358, &[1, 0xC1, 0])], 359),
@@ -411,7 +416,7 @@ fn sector_end_cases() -> Vec<Case> {
 
 /// Damages a random image in one way.
 pub fn disturb(random: &mut Random, image: &mut Vec<u8>) {
-    match random.between(0, 5) {
+    match random.between(0, 7) {
         0 => image.truncate(image.len() - random.between(1, SECTOR)),
         1 => BREAKS[random.between(0, BREAKS.len() - 1)].apply(image),
         2 => {
@@ -422,20 +427,44 @@ pub fn disturb(random: &mut Random, image: &mut Vec<u8>) {
     }
 }
 
-/// Damages a compressed file that has records, if there is one.
+/// Gives a compressed file, if there is one, empty records and then a bad code.
 fn disturb_codes(random: &mut Random, image: &mut [u8]) {
-    let coded = |entry: &Entry| entry.kind == COMPRESSED && entry.count > 0;
-    let files: Vec<Entry> = table_of(image).into_iter().filter(coded).collect();
+    let table = table_of(image);
+    let files: Vec<usize> = (0..ENTRIES)
+        .filter(|&number| table[number].kind == COMPRESSED)
+        .collect();
     if files.is_empty() {
         return;
     }
-    let extent = extent_mut(image, &random.pick(&files));
-    if extent.len() > SECTOR && random.chance(50) {
-        // A 128 at byte 0, and the codes in the next sector.
-        extent.copy_within(..SECTOR, SECTOR);
-        extent[0] = GO_ON;
-    } else {
-        let at = random.between(0, extent.len().min(2 * SECTOR) - 1);
-        extent[at] = random.pick(&[0, 1, 127, GO_ON, 129, 255]);
+    let number = random.pick(&files);
+    let mut entry = table[number];
+    let extent = extent_mut(image, &entry);
+    let (before, code) = bad_code(random, entry.r(), extent.len());
+    extent[..before].fill(0);
+    let end = extent.len().min(before + code.len());
+    extent[before..end].copy_from_slice(&code[..end - before]);
+    entry.count = before as u16 + 1;
+    put_entry(image, number, &entry);
+}
+
+/// A bad code, and how many empty records stand before it in its extent.
+fn bad_code(random: &mut Random, r: usize, extent: usize) -> (usize, Vec<u8>) {
+    let mut text = random_text(random, r);
+    text[r - 1] = 0xC1;
+    let good = foreign_code(random, &text);
+    text.push(0xC1);
+    match random.between(0, 4) {
+        // "runs past its sector"
+        0 => (SECTOR - random.between(1, good.len() - 1), good),
+        // "gives more than R characters"
+        1 => (random.between(0, 80), foreign_code(random, &text)),
+        // "has 128 elsewhere": behind a run, and at byte 0 of a sector
+        2 => (
+            random.between(0, 80),
+            [&[1, 0xC1, GO_ON][..], &foreign_code(random, &text[2..])].concat(),
+        ),
+        3 => (0, [&[GO_ON; SECTOR][..], &good].concat()),
+        // "leaves the extent"
+        _ => (extent, vec![]),
     }
 }

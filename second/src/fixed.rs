@@ -693,7 +693,22 @@ fn codes_of_others() -> Vec<Case> {
         ));
     }
     cases.push(long_runs());
+    cases.push(old_sector_of_others());
     cases
+}
+
+/// Two codes of 135 bytes, and no 128 behind them as this writer would put it.
+fn old_sector_of_others() -> Case {
+    let disk = Disk::used(5).file(0, COMPRESSED, 132, 3);
+    let full = disk.records(&[vec![0xC1; 132], vec![0xC2; 132]]);
+    case(
+        "foreign-old-sector",
+        "else to the next sector, and then bytes o to 359 of the old sector become 128",
+        full.codes(2, &[(270, &[1; 90])]).image(),
+        132,
+        "open forward*2 chars:132 mixed:132 rewind read*4 close
+         open read*4 close",
+    )
 }
 
 /// Runs of 127 and more, split elsewhere than this writer does.

@@ -217,12 +217,21 @@ pub fn foreign_code(random: &mut Random, record: &[u8]) -> Vec<u8> {
 
 /// Text for a record: blanks alone and in groups, characters of all bytes.
 pub fn random_text(random: &mut Random, length: usize) -> Vec<u8> {
-    match random.between(0, 5) {
+    match random.between(0, 6) {
         0 => vec![BLANK; length],
         1 => vec![0xC1; length],
         2 => random.bytes(length),
+        3 => blanks_first(random, length),
         _ => grouped_text(random, length),
     }
+}
+
+/// Blanks up to one of the last bytes.
+fn blanks_first(random: &mut Random, length: usize) -> Vec<u8> {
+    let mut text = vec![BLANK; length];
+    let characters = random.between(1, 3).min(length);
+    text[length - characters..].fill(0xC2);
+    text
 }
 
 /// Groups of characters and of blanks, short and long.
