@@ -19,6 +19,7 @@ pub fn damaged_cases(random: &mut Random) -> Vec<Case> {
     );
     let mut cases = vec![none];
     cases.extend(single_cases());
+    cases.extend(emptied_cases());
     cases.extend(pair_cases());
     cases.extend(edge_cases());
     cases.extend(byte_cases(random));
@@ -171,6 +172,32 @@ fn single_cases() -> Vec<Case> {
         "names differ",
         same_names(small_image()),
     ));
+    cases
+}
+
+/// Rules that a file with records breaks only together with the rule for its count: the count is
+/// 0 here.
+fn emptied_cases() -> Vec<Case> {
+    let ways = [
+        broken("sectors-0", LEAST, 0, 14, 0),
+        broken("sectors-0-blocked", LEAST, 1, 14, 0),
+        broken("sectors-0-compressed", LEAST, 2, 14, 0),
+        broken("sectors-0-random", LEAST, 3, 14, 0),
+        broken("length-0", LENGTHS, 0, 10, 0),
+        broken("length-odd-blocked", EVEN, 1, 10, 99),
+        broken("length-odd-compressed", EVEN, 2, 10, 79),
+        broken("length-over-3600", LENGTHS, 0, 10, 3_602),
+        broken("length-over-360", LENGTHS, 1, 10, 362),
+        broken("length-over-132", LENGTHS, 2, 10, 134),
+    ];
+    let mut cases = Vec::new();
+    for way in &ways {
+        let mut image = small_image();
+        put_word(&mut image, way.entry * ENTRY_BYTES + 16, 0);
+        way.apply(&mut image);
+        let name = format!("damage-emptied-{}", way.name);
+        cases.push(damaged(name, way.rule, image));
+    }
     cases
 }
 
@@ -450,6 +477,9 @@ fn disturb_codes(random: &mut Random, image: &mut [u8]) {
 /// A bad code, and how many empty records stand before it in its extent.
 fn bad_code(random: &mut Random, r: usize, extent: usize) -> (usize, Vec<u8>) {
     let mut text = random_text(random, r);
+    if random.chance(30) {
+        text.fill(0);
+    }
     text[r - 1] = 0xC1;
     let good = foreign_code(random, &text);
     text.push(0xC1);

@@ -693,22 +693,30 @@ fn codes_of_others() -> Vec<Case> {
         ));
     }
     cases.push(long_runs());
-    cases.push(old_sector_of_others());
+    cases.extend(old_sectors_of_others());
     cases
 }
 
-/// Two codes of 135 bytes, and no 128 behind them as this writer would put it.
-fn old_sector_of_others() -> Case {
-    let disk = Disk::used(5).file(0, COMPRESSED, 132, 3);
-    let full = disk.records(&[vec![0xC1; 132], vec![0xC2; 132]]);
-    case(
-        "foreign-old-sector",
-        "else to the next sector, and then bytes o to 359 of the old sector become 128",
-        full.codes(2, &[(270, &[1; 90])]).image(),
-        132,
-        "open forward*2 chars:132 mixed:132 rewind read*4 close
-         open read*4 close",
-    )
+/// Two codes of 135 bytes, and no 128 behind them as this writer would put it; with and without
+/// a next sector.
+fn old_sectors_of_others() -> Vec<Case> {
+    let rule =
+        "All room is tested before any byte changes; bytes o to 359 of the old sector become 128";
+    let mut cases = Vec::new();
+    for sectors in [1, 3] {
+        let disk = Disk::used(5).file(0, COMPRESSED, 132, sectors);
+        let full = disk.records(&[vec![0xC1; 132], vec![0xC2; 132]]);
+        let image = full.codes(2, &[(270, &[1; 90])]).image();
+        let words = "open forward*2 chars:132 mixed:132 rewind read*4 close open read*4 close";
+        cases.push(case(
+            format!("foreign-old-sector-{sectors}"),
+            rule,
+            image,
+            132,
+            words,
+        ));
+    }
+    cases
 }
 
 /// Runs of 127 and more, split elsewhere than this writer does.
@@ -842,7 +850,13 @@ fn places_of_go_on() -> Vec<Case> {
 }
 
 /// A name, the sectors of the file (R 132), the rule, and what is tried.
-const FITS: [(&str, usize, &str, &str); 10] = [
+const FITS: [(&str, usize, &str, &str); 11] = [
+    (
+        "no-next-in-the-middle",
+        1,
+        "filling with 128 before finding there is no next sector",
+        "chars:118*2 chars:98 rewind forward*2 chars:132 read file-back read*4 close open read*4",
+    ),
     (
         "three-of-120",
         3,

@@ -311,6 +311,7 @@ impl Maker<'_> {
             13..=15 => self.round_trip(),
             16..=19 => self.back_and_skip(),
             20..=22 => self.mark_in_the_middle(),
+            23..=25 => self.write_at_the_end(),
             _ => {
                 let number = self.some_open();
                 if self.table.get(number).is_some_and(|e| e.kind == RANDOM) {
@@ -384,6 +385,16 @@ impl Maker<'_> {
         self.some_reads(number);
     }
 
+    /// Goes to the end of a marked file and writes there, where often there is no room.
+    fn write_at_the_end(&mut self) {
+        let number = self.some_open();
+        self.some_orders(number, Order::RewindOnLine, 1);
+        self.some_orders(number, Order::FileForward, 1);
+        self.some_orders(number, Order::FileBack, 1);
+        self.some_writes(number);
+        self.some_orders(number, Order::WriteFileMark, 1);
+    }
+
     /// A used entry, seldom some other number.
     fn some_used(&mut self) -> usize {
         if self.used.is_empty() || self.random.chance(3) {
@@ -427,7 +438,8 @@ impl Maker<'_> {
 
     fn some_writes(&mut self, number: usize) {
         for _ in 0..self.random.between(1, 8) {
-            let data = self.some_data(number);
+            let exact = self.exact_data(number).filter(|_| self.random.chance(40));
+            let data = exact.unwrap_or_else(|| self.some_data(number));
             self.offer(Script::default().write(number as u16, &data));
         }
     }
@@ -507,6 +519,17 @@ impl Maker<'_> {
             _ => r,
         };
         random_text(self.random, length)
+    }
+
+    /// Characters whose code fills its sector exactly, where there are such.
+    fn exact_data(&self, number: usize) -> Option<Vec<u8>> {
+        let tape = self.model.as_ref()?.tapes.get(number)?.as_ref()?;
+        let (position, _) = tape.stands?;
+        let (_, byte) = *tape.places.get(position)?;
+        let characters = (SECTOR - byte).checked_sub(2)?;
+        let most = self.r_of(number).min(127);
+        let lawful = (1..=most).contains(&characters) && characters.is_multiple_of(2);
+        lawful.then(|| vec![0xC1; characters])
     }
 
     /// A read's buffer size: mostly R, sometimes more, seldom too few.

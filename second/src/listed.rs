@@ -325,6 +325,7 @@ fn bad_codes() -> Vec<Vec<u8>> {
 
 fn broken_rules() -> Vec<Vec<u8>> {
     let mut images = vec![small_image(), same_names(small_image())];
+    images.push(word_of(RANDOM, 90, 1, SECTORS, 0));
     images.extend(BREAKS.iter().map(|way| broken(&[way])));
     let firsts = first_of_each_rule();
     for (i, one) in firsts.iter().enumerate() {
