@@ -1,17 +1,25 @@
 //! Damaged images: each rule of a good directory broken, singly and in pairs, every byte of a
 //! small directory changed, bad codes.
 
-use crate::cases::{lay_codes, Case};
+use crate::cases::Case;
 use crate::coding::GO_ON;
-use crate::directory::{BLOCKED, COMPRESSED, ENTRY_BYTES, RANDOM, UNBLOCKED};
-use crate::generate::{empty_image, extent_mut, new_entry, put_entry};
+use crate::directory::{directory_is_good, table_of, ENTRIES, ENTRY_BYTES};
+use crate::directory::{BLOCKED, COMPRESSED, MARKED, PROTECTED, RANDOM, UNBLOCKED};
+use crate::disk::Disk;
+use crate::generate::{extent_mut, foreign_code, put_entry, random_text};
 use crate::image::{put_word, BLANK, SECTOR};
+use crate::notation::script;
 use crate::random::Random;
-use crate::script::Script;
 
 pub fn damaged_cases(random: &mut Random) -> Vec<Case> {
-    let mut cases = vec![Case::new("damage-none", small_image(), small_script())];
+    let none = damaged(
+        "damage-none",
+        "A directory is good exactly if ...",
+        small_image(),
+    );
+    let mut cases = vec![none];
     cases.extend(single_cases());
+    cases.extend(emptied_cases());
     cases.extend(pair_cases());
     cases.extend(edge_cases());
     cases.extend(byte_cases(random));
@@ -22,125 +30,181 @@ pub fn damaged_cases(random: &mut Random) -> Vec<Case> {
 
 /// Four files of the four kinds in entries 0 to 3 of eleven sectors.
 pub fn small_image() -> Vec<u8> {
-    let mut image = empty_image(11);
-    for (at, byte) in image[SECTOR..].iter_mut().enumerate() {
-        *byte = (at % 251) as u8;
-    }
-    let mut unblocked = new_entry("ALPHA", UNBLOCKED, 400, 1, 4);
-    unblocked.count = 2;
-    unblocked.flags = 1;
-    let mut blocked = new_entry("BETA1", BLOCKED, 100, 5, 2);
-    blocked.count = 6;
-    blocked.flags = 2;
-    let mut compressed = new_entry("GAMMA", COMPRESSED, 80, 7, 2);
-    compressed.flags = 3;
-    let records = [vec![BLANK; 80], vec![0xC1; 80], vec![0xF1; 80]];
-    lay_codes(&mut image, &mut compressed, &records);
-    let random = new_entry("DELTA22X", RANDOM, 360, 9, 2);
-    for (number, entry) in [unblocked, blocked, compressed, random].iter().enumerate() {
-        put_entry(&mut image, number, entry);
-    }
-    image
+    Disk::used(11)
+        .file(0, UNBLOCKED, 400, 4)
+        .named("ALPHA")
+        .holding(2)
+        .flags(MARKED)
+        .file(1, BLOCKED, 100, 2)
+        .named("BETA1")
+        .holding(6)
+        .flags(PROTECTED)
+        .file(2, COMPRESSED, 80, 2)
+        .named("GAMMA")
+        .records(&[vec![BLANK; 80], vec![0xC1; 80], vec![0xF1; 80]])
+        .flags(MARKED | PROTECTED)
+        .file(3, RANDOM, 360, 2)
+        .named("DELTA22X")
+        .image()
 }
 
-/// Opens everything, reads, writes a little and closes.
-fn small_script() -> Script {
-    let mut script = Script::default();
-    for entry in [0, 1, 2, 3, 4, 17, 18] {
-        script.open(entry).read(entry, 400);
-    }
-    script
-        .granule_read(3, 1, 400)
-        .granule_write(3, 0, &[1, 2])
-        .write(0, &[3, 4]);
-    for entry in 0..4 {
-        script.close(entry);
-    }
-    script
+/// A case on the small image or one made of it: opens everything, reads, writes a little and
+/// closes.
+fn damaged(name: impl Into<String>, rule: &'static str, image: Vec<u8>) -> Case {
+    let words = "open read @1 open read @2 open read @3 open read @4 open read @17 open @18 open
+        @3 get:1 put:0:2 @0 write:4 close @1 close @2 close @3 close";
+    Case::new(name, rule, image, script(400, words))
 }
 
-/// One way to break a rule.
-struct Break {
-    name: &'static str,
-    /// The entry and the byte in it.
+/// A case of one changed part of an entry: some few requests on that entry.
+fn changed(name: String, rule: &'static str, image: Vec<u8>, entry: usize) -> Case {
+    let words = match (directory_is_good(&image), entry) {
+        (false, _) => "open read close",
+        (true, 3) => "open look:0 put:1:2 get:1 close",
+        _ => "open read file-forward file-back write:2 close",
+    };
+    Case::new(
+        name,
+        rule,
+        image,
+        script(4_000, &format!("@{entry} {words}")),
+    )
+}
+
+/// One way to break a rule: a word at a byte of an entry. A name's rules are broken by a word of
+/// two letters.
+pub struct Break {
+    pub name: &'static str,
+    pub rule: &'static str,
     entry: usize,
     at: usize,
     word: u16,
 }
 
-/// Every rule, with the word that breaks it. A name's rules are broken by a word of two letters.
-const BREAKS: [Break; 40] = [
-    broken("kind-5", 0, 8, 5),
-    broken("kind-large", 1, 8, 0x0100),
-    broken("free-name", 4, 0, 0xC1C1),
-    broken("free-blank-name", 17, 6, 0x4040),
-    broken("free-length", 5, 10, 80),
-    broken("free-first", 6, 12, 1),
-    broken("free-sectors", 7, 14, 1),
-    broken("free-count", 8, 16, 1),
-    broken("free-flags", 17, 18, 1),
-    broken("used-made-free", 1, 8, 0),
-    broken("name-digit-first", 0, 0, 0xF1C1),
-    broken("name-blank-first", 0, 0, 0x40C1),
-    broken("name-small-letter", 1, 2, 0xA381),
-    broken("name-between-letters", 2, 2, 0xCAC1),
-    broken("name-e1", 0, 2, 0xE1C1),
-    broken("name-zero-behind", 0, 6, 0x0000),
-    broken("name-letter-behind-blank", 0, 6, 0x40C1),
-    broken("name-fa", 3, 6, 0xFAE7),
-    broken("first-0", 0, 12, 0),
-    broken("sectors-0", 1, 14, 0),
-    broken("sum-over-n", 3, 14, 3),
-    broken("sum-over-a-word", 3, 12, 0xFFFF),
-    broken("sectors-largest", 3, 14, 0xFFFF),
-    broken("shares-with-next", 0, 14, 5),
-    broken("shares-with-last", 2, 12, 6),
-    broken("shares-all", 3, 12, 1),
-    broken("flags-4", 0, 18, 4),
-    broken("flags-large", 1, 18, 0x0100),
-    broken("length-odd", 0, 10, 399),
-    broken("length-0", 1, 10, 0),
-    broken("length-over-3600", 0, 10, 3_602),
-    broken("length-over-360", 1, 10, 362),
-    broken("length-over-132", 2, 10, 134),
-    broken("length-over-3600-random", 3, 10, 3_602),
-    broken("count-over-unblocked", 0, 16, 3),
-    broken("count-over-blocked", 1, 16, 7),
-    broken("count-of-random", 3, 16, 1),
-    broken("random-marked", 3, 18, 1),
-    broken("random-both", 3, 18, 3),
-    broken("count-behind-codes", 2, 16, 9),
+const KINDS: &str = "kinds are 0 to 4";
+const FREE: &str = "free entries are 20 zero bytes";
+const NAMES: &str = "a name is a capital letter followed by capitals or digits, then only blanks";
+const LEAST: &str = "first sector and sector count are at least 1";
+const SUM: &str = "their sum is at most N";
+const SHARE: &str = "extents share no sector";
+const FLAGS: &str = "flags are 0 to 3";
+const EVEN: &str = "R is even";
+const LENGTHS: &str = "2 to 3,600 for kinds 1 and 4, 2 to 360 for kind 2, 2 to 132 for kind 3";
+const COUNT: &str = "the count is at most the capacity for kinds 1 and 2";
+const RANDOMS: &str = "kind 4 has count 0 and is not marked";
+const DECODE: &str = "kind 3's first \"count\" records decode one after another inside the extent";
+
+/// Every rule, with words that break it.
+pub const BREAKS: [Break; 40] = [
+    broken("kind-5", KINDS, 0, 8, 5),
+    broken("kind-large", KINDS, 1, 8, 0x0100),
+    broken("free-name", FREE, 4, 0, 0xC1C1),
+    broken("free-blank-name", FREE, 17, 6, 0x4040),
+    broken("free-length", FREE, 5, 10, 80),
+    broken("free-first", FREE, 6, 12, 1),
+    broken("free-sectors", FREE, 7, 14, 1),
+    broken("free-count", FREE, 8, 16, 1),
+    broken("free-flags", FREE, 17, 18, 1),
+    broken("used-made-free", FREE, 1, 8, 0),
+    broken("name-digit-first", NAMES, 0, 0, 0xF1C1),
+    broken("name-blank-first", NAMES, 0, 0, 0x40C1),
+    broken("name-small-letter", NAMES, 1, 2, 0xA381),
+    broken("name-between-letters", NAMES, 2, 2, 0xCAC1),
+    broken("name-e1", NAMES, 0, 2, 0xE1C1),
+    broken("name-zero-behind", NAMES, 0, 6, 0x0000),
+    broken("name-letter-behind-blank", NAMES, 0, 6, 0x40C1),
+    broken("name-fa", NAMES, 3, 6, 0xFAE7),
+    broken("first-0", LEAST, 0, 12, 0),
+    broken("sectors-0", LEAST, 1, 14, 0),
+    broken("sum-over-n", SUM, 3, 14, 3),
+    broken("sum-over-a-word", SUM, 3, 12, 0xFFFF),
+    broken("sectors-largest", SUM, 3, 14, 0xFFFF),
+    broken("shares-with-next", SHARE, 0, 14, 5),
+    broken("shares-with-last", SHARE, 2, 12, 6),
+    broken("shares-all", SHARE, 3, 12, 1),
+    broken("flags-4", FLAGS, 0, 18, 4),
+    broken("flags-large", FLAGS, 1, 18, 0x0100),
+    broken("length-odd", EVEN, 0, 10, 399),
+    broken("length-0", LENGTHS, 1, 10, 0),
+    broken("length-over-3600", LENGTHS, 0, 10, 3_602),
+    broken("length-over-360", LENGTHS, 1, 10, 362),
+    broken("length-over-132", LENGTHS, 2, 10, 134),
+    broken("length-over-3600-random", LENGTHS, 3, 10, 3_602),
+    broken("count-over-unblocked", COUNT, 0, 16, 3),
+    broken("count-over-blocked", COUNT, 1, 16, 7),
+    broken("count-of-random", RANDOMS, 3, 16, 1),
+    broken("random-marked", RANDOMS, 3, 18, 1),
+    broken("random-both", RANDOMS, 3, 18, 3),
+    broken("count-behind-codes", DECODE, 2, 16, 9),
 ];
 
-const fn broken(name: &'static str, entry: usize, at: usize, word: u16) -> Break {
+const fn broken(
+    name: &'static str,
+    rule: &'static str,
+    entry: usize,
+    at: usize,
+    word: u16,
+) -> Break {
     Break {
         name,
+        rule,
         entry,
         at,
         word,
     }
 }
 
-fn apply(image: &mut [u8], way: &Break) {
-    put_word(image, way.entry * ENTRY_BYTES + way.at, way.word);
+impl Break {
+    pub fn apply(&self, image: &mut [u8]) {
+        put_word(image, self.entry * ENTRY_BYTES + self.at, self.word);
+    }
 }
 
 fn single_cases() -> Vec<Case> {
     let mut cases = Vec::new();
     for way in &BREAKS {
         let mut image = small_image();
-        apply(&mut image, way);
-        cases.push(Case::new(
-            format!("damage-{}", way.name),
-            image,
-            small_script(),
-        ));
+        way.apply(&mut image);
+        cases.push(damaged(format!("damage-{}", way.name), way.rule, image));
     }
-    let mut same_names = small_image();
-    let name = same_names[..8].to_vec();
-    same_names[60..68].copy_from_slice(&name);
-    cases.push(Case::new("damage-same-names", same_names, small_script()));
+    cases.push(damaged(
+        "damage-same-names",
+        "names differ",
+        same_names(small_image()),
+    ));
     cases
+}
+
+/// Rules that a file with records breaks only together with the rule for its count: the count is
+/// 0 here.
+fn emptied_cases() -> Vec<Case> {
+    let ways = [
+        broken("sectors-0", LEAST, 0, 14, 0),
+        broken("sectors-0-blocked", LEAST, 1, 14, 0),
+        broken("sectors-0-compressed", LEAST, 2, 14, 0),
+        broken("sectors-0-random", LEAST, 3, 14, 0),
+        broken("length-0", LENGTHS, 0, 10, 0),
+        broken("length-odd-blocked", EVEN, 1, 10, 99),
+        broken("length-odd-compressed", EVEN, 2, 10, 79),
+        broken("length-over-3600", LENGTHS, 0, 10, 3_602),
+        broken("length-over-360", LENGTHS, 1, 10, 362),
+        broken("length-over-132", LENGTHS, 2, 10, 134),
+    ];
+    let mut cases = Vec::new();
+    for way in &ways {
+        let mut image = small_image();
+        put_word(&mut image, way.entry * ENTRY_BYTES + 16, 0);
+        way.apply(&mut image);
+        let name = format!("damage-emptied-{}", way.name);
+        cases.push(damaged(name, way.rule, image));
+    }
+    cases
+}
+
+/// The last of four files has the first one's name.
+pub fn same_names(mut image: Vec<u8>) -> Vec<u8> {
+    image.copy_within(..8, 3 * ENTRY_BYTES);
+    image
 }
 
 fn pair_cases() -> Vec<Case> {
@@ -148,10 +212,10 @@ fn pair_cases() -> Vec<Case> {
     for (i, one) in BREAKS.iter().enumerate() {
         for other in &BREAKS[..i] {
             let mut image = small_image();
-            apply(&mut image, one);
-            apply(&mut image, other);
+            one.apply(&mut image);
+            other.apply(&mut image);
             let name = format!("damage-pair-{}-{}", other.name, one.name);
-            cases.push(Case::new(name, image, small_script()));
+            cases.push(changed(name, one.rule, image, one.entry));
         }
     }
     cases
@@ -160,35 +224,31 @@ fn pair_cases() -> Vec<Case> {
 /// Words at the very edge of the rules, on the good side.
 fn edge_cases() -> Vec<Case> {
     let edges = [
-        broken("length-least", 0, 10, 2),
-        broken("length-3600", 3, 10, 3_600),
-        broken("length-other", 1, 10, 60),
-        broken("length-132", 2, 10, 132),
-        broken("length-just-codes", 2, 10, 80),
-        broken("length-under-codes", 2, 10, 78),
-        broken("sectors-fewer", 3, 14, 1),
-        broken("count-0", 0, 16, 0),
-        broken("count-0-blocked", 1, 16, 0),
-        broken("count-0-compressed", 2, 16, 0),
-        broken("count-1-compressed", 2, 16, 1),
-        broken("flags-3", 0, 18, 3),
-        broken("random-protected", 3, 18, 2),
-        broken("name-one-letter-more", 0, 4, 0xC1E9),
-        broken("name-all-digits-behind", 0, 2, 0xF0F9),
-        broken("kind-2-for-1", 0, 8, 2),
-        broken("kind-4-for-1", 0, 8, 4),
-        broken("kind-1-for-4", 3, 8, 1),
-        broken("kind-3-for-2", 1, 8, 3),
+        broken("length-least", LENGTHS, 0, 10, 2),
+        broken("length-3600", LENGTHS, 3, 10, 3_600),
+        broken("length-other", LENGTHS, 1, 10, 60),
+        broken("length-132", LENGTHS, 2, 10, 132),
+        broken("length-just-codes", LENGTHS, 2, 10, 80),
+        broken("length-under-codes", LENGTHS, 2, 10, 78),
+        broken("sectors-fewer", LEAST, 3, 14, 1),
+        broken("count-0", COUNT, 0, 16, 0),
+        broken("count-0-blocked", COUNT, 1, 16, 0),
+        broken("count-0-compressed", COUNT, 2, 16, 0),
+        broken("count-1-compressed", COUNT, 2, 16, 1),
+        broken("flags-3", FLAGS, 0, 18, 3),
+        broken("random-protected", RANDOMS, 3, 18, 2),
+        broken("name-one-letter-more", NAMES, 0, 4, 0xC1E9),
+        broken("name-all-digits-behind", NAMES, 0, 2, 0xF0F9),
+        broken("kind-2-for-1", KINDS, 0, 8, 2),
+        broken("kind-4-for-1", KINDS, 0, 8, 4),
+        broken("kind-1-for-4", KINDS, 3, 8, 1),
+        broken("kind-3-for-2", KINDS, 1, 8, 3),
     ];
     let mut cases = Vec::new();
     for edge in &edges {
         let mut image = small_image();
-        apply(&mut image, edge);
-        cases.push(Case::new(
-            format!("edge-{}", edge.name),
-            image,
-            small_script(),
-        ));
+        edge.apply(&mut image);
+        cases.push(damaged(format!("edge-{}", edge.name), edge.rule, image));
     }
     cases
 }
@@ -197,34 +257,44 @@ fn edge_cases() -> Vec<Case> {
 fn byte_cases(random: &mut Random) -> Vec<Case> {
     let mut cases = Vec::new();
     for at in 0..SECTOR {
-        let old = small_image()[at];
-        let mut values = vec![old ^ 1, old ^ 0x80, old.wrapping_add(3), random.byte()];
-        if at % ENTRY_BYTES < 8 {
-            values.push(0xC9);
-        }
-        values.retain(|&value| value != old);
-        values.sort_unstable();
-        values.dedup();
-        for value in values {
+        for value in other_values(random, at) {
             let mut image = small_image();
             image[at] = value;
-            cases.push(Case::new(
-                format!("byte-{at:03}-{value:02x}"),
-                image,
-                small_script(),
-            ));
+            let rule = "A directory is good exactly if ...";
+            let name = format!("byte-{at:03}-{value:02x}");
+            cases.push(changed(name, rule, image, at / ENTRY_BYTES));
         }
     }
     cases
 }
 
-/// Lengths that are not lawful: "An image is 360·N bytes, N from 1 to 4,096."
+/// Values for a byte of the small directory, other than its own: more for one that is in use.
+fn other_values(random: &mut Random, at: usize) -> Vec<u8> {
+    let old = small_image()[at];
+    let mut values = vec![old ^ 1, random.byte()];
+    if at < 4 * ENTRY_BYTES {
+        values.extend([old ^ 0x80, old.wrapping_add(3)]);
+    }
+    if at < 4 * ENTRY_BYTES && at % ENTRY_BYTES < 8 {
+        values.extend([0xC9, BLANK]);
+    }
+    values.retain(|&value| value != old);
+    values.sort_unstable();
+    values.dedup();
+    values
+}
+
+/// Lengths that are not lawful: every request is then answered 12.
 fn length_cases() -> Vec<Case> {
     let mut cases = Vec::new();
-    for length in [0, 1, 20, 359, 361, 719, 3_599, 3_958] {
+    for length in [0, 1, 20, 359, 361, 719, 3_599, 3_958, 3_961] {
         let mut image = small_image();
         image.resize(length, 0);
-        cases.push(Case::new(format!("length-{length}"), image, small_script()));
+        let words = "open read write:1 get:0 put:0:1 look:0 mark rewind forward back file-forward
+            file-back close @18 open";
+        let rule = "An image is 360·N bytes; 12: session not legal for this image";
+        let name = format!("length-{length}");
+        cases.push(Case::new(name, rule, image, script(400, words)));
     }
     cases
 }
@@ -234,16 +304,11 @@ fn length_cases() -> Vec<Case> {
 
 /// A file of R 10 in two sectors, with these codes at these bytes of the extent.
 fn coded_image(codes: &[(usize, &[u8])], count: u16) -> Vec<u8> {
-    let mut image = empty_image(3);
-    let mut entry = new_entry("CODES", COMPRESSED, 10, 1, 2);
-    entry.count = count;
-    put_entry(&mut image, 0, &entry);
-    let extent = extent_mut(&mut image, &entry);
-    extent.fill(0x11);
-    for &(at, code) in codes {
-        extent[at..at + code.len()].copy_from_slice(code);
-    }
-    image
+    Disk::empty(3)
+        .file(0, COMPRESSED, 10, 2)
+        .filled(0x11)
+        .codes(usize::from(count), codes)
+        .image()
 }
 
 /// A sector of empty records up to byte `end`.
@@ -281,18 +346,15 @@ fn bad_code_cases() -> Vec<Case> {
 }
 
 fn code_case(name: &str, count: u16, image: Vec<u8>) -> Case {
-    let mut script = Script::default();
-    script.open(0);
-    for _ in 0..4 {
-        script.read(0, 10);
-    }
-    script
-        .write(0, &[0xC1, 0xC2])
-        .close(0)
-        .open(0)
-        .read(0, 10)
-        .close(0);
-    Case::new(format!("code-{name}-count{count}"), image, script)
+    let rule = "A code is bad if it runs past its sector, gives more than R \
+                characters, has 128 elsewhere, or leaves the extent";
+    let words = "open read*4 text:AB close open read close";
+    Case::new(
+        format!("code-{name}-count{count}"),
+        rule,
+        image,
+        script(10, words),
+    )
 }
 
 /// Codes at the ends of sectors and of the extent.
@@ -338,6 +400,11 @@ fn sector_end_cases() -> Vec<Case> {
             coded_image(&[(0, &two_left), (358, &[2, 0xC1, 0xC2, 0])], 359),
         ),
         code_case(
+            "last-character-is-zero",
+            358,
+            coded_image(&[(0, &empties(357)), (357, &[2, 0xC1, 0])], 358),
+        ),
+        code_case(
             "end-past-sector",
             359,
             coded_image(&[(0, &two_left), (358, &[1, 0xC1, 0])], 359),
@@ -369,4 +436,65 @@ fn sector_end_cases() -> Vec<Case> {
             coded_image(&[(0, &full), (360, &full)], 720),
         ),
     ]
+}
+
+// ---------------------------------------------------------------------------------------------
+// Random damage.
+
+/// Damages a random image in one way.
+pub fn disturb(random: &mut Random, image: &mut Vec<u8>) {
+    match random.between(0, 7) {
+        0 => image.truncate(image.len() - random.between(1, SECTOR)),
+        1 => BREAKS[random.between(0, BREAKS.len() - 1)].apply(image),
+        2 => {
+            let at = random.between(0, SECTOR - 1);
+            image[at] = random.byte();
+        }
+        _ => disturb_codes(random, image),
+    }
+}
+
+/// Gives a compressed file, if there is one, empty records and then a bad code.
+fn disturb_codes(random: &mut Random, image: &mut [u8]) {
+    let table = table_of(image);
+    let files: Vec<usize> = (0..ENTRIES)
+        .filter(|&number| table[number].kind == COMPRESSED)
+        .collect();
+    if files.is_empty() {
+        return;
+    }
+    let number = random.pick(&files);
+    let mut entry = table[number];
+    let extent = extent_mut(image, &entry);
+    let (before, code) = bad_code(random, entry.r(), extent.len());
+    extent[..before].fill(0);
+    let end = extent.len().min(before + code.len());
+    extent[before..end].copy_from_slice(&code[..end - before]);
+    entry.count = before as u16 + 1;
+    put_entry(image, number, &entry);
+}
+
+/// A bad code, and how many empty records stand before it in its extent.
+fn bad_code(random: &mut Random, r: usize, extent: usize) -> (usize, Vec<u8>) {
+    let mut text = random_text(random, r);
+    if random.chance(30) {
+        text.fill(0);
+    }
+    text[r - 1] = 0xC1;
+    let good = foreign_code(random, &text);
+    text.push(0xC1);
+    match random.between(0, 4) {
+        // "runs past its sector"
+        0 => (SECTOR - random.between(1, good.len() - 1), good),
+        // "gives more than R characters"
+        1 => (random.between(0, 80), foreign_code(random, &text)),
+        // "has 128 elsewhere": behind a run, and at byte 0 of a sector
+        2 => (
+            random.between(0, 80),
+            [&[1, 0xC1, GO_ON][..], &foreign_code(random, &text[2..])].concat(),
+        ),
+        3 => (0, [&[GO_ON; SECTOR][..], &good].concat()),
+        // "leaves the extent"
+        _ => (extent, vec![]),
+    }
 }

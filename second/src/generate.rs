@@ -217,12 +217,21 @@ pub fn foreign_code(random: &mut Random, record: &[u8]) -> Vec<u8> {
 
 /// Text for a record: blanks alone and in groups, characters of all bytes.
 pub fn random_text(random: &mut Random, length: usize) -> Vec<u8> {
-    match random.between(0, 5) {
+    match random.between(0, 6) {
         0 => vec![BLANK; length],
         1 => vec![0xC1; length],
         2 => random.bytes(length),
+        3 => blanks_first(random, length),
         _ => grouped_text(random, length),
     }
+}
+
+/// Blanks up to one of the last bytes.
+fn blanks_first(random: &mut Random, length: usize) -> Vec<u8> {
+    let mut text = vec![BLANK; length];
+    let characters = random.between(1, 3).min(length);
+    text[length - characters..].fill(0xC2);
+    text
 }
 
 /// Groups of characters and of blanks, short and long.
@@ -301,6 +310,8 @@ impl Maker<'_> {
             10..=12 => self.noise(),
             13..=15 => self.round_trip(),
             16..=19 => self.back_and_skip(),
+            20..=22 => self.mark_in_the_middle(),
+            23..=25 => self.write_at_the_end(),
             _ => {
                 let number = self.some_open();
                 if self.table.get(number).is_some_and(|e| e.kind == RANDOM) {
@@ -356,6 +367,34 @@ impl Maker<'_> {
         }
     }
 
+    /// Skips and a mark, file forward and back, and writes: they go where the mark stands.
+    fn mark_in_the_middle(&mut self) {
+        let number = self.some_open();
+        for (order, most) in [
+            (Order::RewindOnLine, 1),
+            (Order::RecordForward, 4),
+            (Order::WriteFileMark, 1),
+            (Order::RewindOnLine, 1),
+            (Order::FileForward, 1),
+            (Order::FileBack, 1),
+        ] {
+            self.some_orders(number, order, most);
+        }
+        self.some_writes(number);
+        self.some_orders(number, Order::RewindOnLine, 1);
+        self.some_reads(number);
+    }
+
+    /// Goes to the end of a marked file and writes there, where often there is no room.
+    fn write_at_the_end(&mut self) {
+        let number = self.some_open();
+        self.some_orders(number, Order::RewindOnLine, 1);
+        self.some_orders(number, Order::FileForward, 1);
+        self.some_orders(number, Order::FileBack, 1);
+        self.some_writes(number);
+        self.some_orders(number, Order::WriteFileMark, 1);
+    }
+
     /// A used entry, seldom some other number.
     fn some_used(&mut self) -> usize {
         if self.used.is_empty() || self.random.chance(3) {
@@ -399,7 +438,8 @@ impl Maker<'_> {
 
     fn some_writes(&mut self, number: usize) {
         for _ in 0..self.random.between(1, 8) {
-            let data = self.some_data(number);
+            let exact = self.exact_data(number).filter(|_| self.random.chance(40));
+            let data = exact.unwrap_or_else(|| self.some_data(number));
             self.offer(Script::default().write(number as u16, &data));
         }
     }
@@ -466,7 +506,8 @@ impl Maker<'_> {
         self.offer(&request);
     }
 
-    /// Bytes for a write: mostly R of them, sometimes fewer, seldom 0, odd or over R.
+    /// Bytes for a write: mostly R of them (few where R is large), sometimes fewer, seldom 0, odd
+    /// or over R.
     fn some_data(&mut self, number: usize) -> Vec<u8> {
         let r = self.r_of(number);
         let length = match self.random.between(0, 99) {
@@ -474,9 +515,21 @@ impl Maker<'_> {
             3..=5 => 2 * self.random.between(0, r / 2) + 1,
             6..=7 => r + 2,
             8..=27 => 2 * self.random.between(1, (r / 2).max(1)),
+            28..=84 if r > 132 => 2 * self.random.between(1, 30),
             _ => r,
         };
         random_text(self.random, length)
+    }
+
+    /// Characters whose code fills its sector exactly, where there are such.
+    fn exact_data(&self, number: usize) -> Option<Vec<u8>> {
+        let tape = self.model.as_ref()?.tapes.get(number)?.as_ref()?;
+        let (position, _) = tape.stands?;
+        let (_, byte) = *tape.places.get(position)?;
+        let characters = (SECTOR - byte).checked_sub(2)?;
+        let most = self.r_of(number).min(127);
+        let lawful = (1..=most).contains(&characters) && characters.is_multiple_of(2);
+        lawful.then(|| vec![0xC1; characters])
     }
 
     /// A read's buffer size: mostly R, sometimes more, seldom too few.

@@ -6,16 +6,22 @@
 #![forbid(unsafe_code)]
 
 mod answer;
+mod bundle;
 mod cases;
 mod coding;
+mod committed;
 mod damage;
 mod directory;
+mod disk;
 mod engine;
+mod fixed;
 mod generate;
 mod image;
 mod layout;
+mod listed;
 mod listing;
 mod model;
+mod notation;
 mod play;
 mod random;
 mod script;
@@ -36,6 +42,12 @@ const USAGE: &str = "usage:
   second list IMAGE
   second find IMAGE NAME
   second play plain|buffered IMAGE SCRIPT BYTES OUT
+  second play_cases FILE
+  second list_cases FILE
+  second committed TOP
+  second names
+  second wide FILE EXPECTED [--seed S] [--first F] [--count K] [--requests N]
+  second extract FILE NUMBER DIR
   second cases DIR [--seed S] [--count K]
   second selfcheck [--seed S] [--count K] [--requests N]
 ";
@@ -46,7 +58,15 @@ fn main() -> ExitCode {
     match words[..] {
         ["list", image] => list(image),
         ["find", image, name] => find(image, name),
-        ["play", engine, image, script, bytes, out] => play(engine, [image, script, bytes], out),
+        ["play", engine, image, script, bytes, out] => {
+            answer(play(engine, [image, script, bytes], out))
+        }
+        ["play_cases", file] => answer(play_cases(file)),
+        ["list_cases", file] => answer(list_cases(file)),
+        ["committed", top] => answer(committed(top)),
+        ["names"] => answer(Ok(committed::names())),
+        ["wide", file, expected, ref options @ ..] => wide([file, expected], options),
+        ["extract", file, number, dir] => answer(extract(file, number, dir)),
         ["cases", dir, ref options @ ..] => cases(dir, options),
         ["selfcheck", ref options @ ..] => selfcheck(options),
         _ => usage(),
@@ -91,9 +111,9 @@ fn find(path: &str, name: &str) -> ExitCode {
     ExitCode::SUCCESS
 }
 
-/// `second play`: the text, or one line that tells why there is none.
-fn play(engine: &str, inputs: [&str; 3], out: &str) -> ExitCode {
-    match try_play(engine, inputs, out) {
+/// Prints a text, or one line that tells why there is none.
+fn answer(text: Result<String, String>) -> ExitCode {
+    match text {
         Ok(text) => {
             print(&text);
             ExitCode::SUCCESS
@@ -105,24 +125,79 @@ fn play(engine: &str, inputs: [&str; 3], out: &str) -> ExitCode {
     }
 }
 
-fn try_play(engine: &str, inputs: [&str; 3], out: &str) -> Result<String, String> {
+/// `second play`.
+fn play(engine: &str, inputs: [&str; 3], out: &str) -> Result<String, String> {
     let engine = match engine {
         "plain" => Engine::Plain,
         "buffered" => Engine::Buffered,
         _ => return Err(format!("no such engine: {engine}")),
     };
     let [image_path, script_path, bytes_path] = inputs;
-    let unreadable = |path: &str| format!("cannot read {path}");
     let image = read_up_to(image_path, play::MOST_PLAYED).map_err(|_| unreadable(image_path))?;
     if image.len() > play::MOST_PLAYED {
         return Err(format!("image longer than {} bytes", play::MOST_PLAYED));
     }
-    let rows = std::fs::read(script_path).map_err(|_| unreadable(script_path))?;
-    let bytes = std::fs::read(bytes_path).map_err(|_| unreadable(bytes_path))?;
-    let script = Script::parse(&rows, bytes)?;
+    let script = Script::parse(&read(script_path)?, read(bytes_path)?)?;
     let played = play::play(engine, image, &script);
-    std::fs::write(out, &played.image).map_err(|_| format!("cannot write {out}"))?;
+    write(Path::new(out), &played.image)?;
     Ok(played.text)
+}
+
+fn unreadable(path: &str) -> String {
+    format!("cannot read {path}")
+}
+
+fn read(path: &str) -> Result<Vec<u8>, String> {
+    std::fs::read(path).map_err(|_| unreadable(path))
+}
+
+fn write(path: &Path, bytes: &[u8]) -> Result<(), String> {
+    std::fs::write(path, bytes).map_err(|_| format!("cannot write {}", path.display()))
+}
+
+/// `second play_cases`: what the program of that name prints for a file of cases.
+fn play_cases(file: &str) -> Result<String, String> {
+    Ok(bundle::expected(&bundle::unbundle(&read(file)?)?))
+}
+
+/// `second list_cases`: what the program of that name prints for a file of images.
+fn list_cases(file: &str) -> Result<String, String> {
+    Ok(listed::expected_listings(&listed::images_of(&read(file)?)?))
+}
+
+/// `second committed`.
+fn committed(top: &str) -> Result<String, String> {
+    committed::write_committed(Path::new(top))?;
+    Ok(format!("the committed cases are written below {top}\n"))
+}
+
+/// `second wide`: random cases, from a number of the seed's on, and what is expected of them.
+fn wide(paths: [&str; 2], options: &[&str]) -> ExitCode {
+    let names = ["--seed", "--first", "--count", "--requests"];
+    let Some([seed, first, count, requests]) = numbers(options, names, [1, 0, 500, 100]) else {
+        return usage();
+    };
+    let numbers = first as usize..(first + count) as usize;
+    let cases: Vec<cases::Case> = numbers
+        .map(|number| cases::random_case(seed, number, requests as usize))
+        .collect();
+    let written = write(Path::new(paths[0]), &bundle::bundle(&cases))
+        .and_then(|()| write(Path::new(paths[1]), bundle::expected(&cases).as_bytes()));
+    answer(written.map(|()| String::new()))
+}
+
+/// `second extract`: one case of a file, as the files that `play` takes.
+fn extract(file: &str, number: &str, dir: &str) -> Result<String, String> {
+    let cases = bundle::unbundle(&read(file)?)?;
+    let index = number.parse::<usize>().ok().and_then(|n| n.checked_sub(1));
+    let case = index.and_then(|index| cases.get(index));
+    let case = case.ok_or(format!("no case {number} in {file}"))?;
+    std::fs::create_dir_all(dir).map_err(|_| format!("cannot make {dir}"))?;
+    let path = |name: &str| Path::new(dir).join(name);
+    write(&path("image"), &case.image)?;
+    write(&path("script"), &case.script.row_bytes())?;
+    write(&path("bytes"), &case.script.bytes)?;
+    Ok(String::new())
 }
 
 /// `second cases`.

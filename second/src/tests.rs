@@ -3,8 +3,10 @@
 use std::collections::HashSet;
 
 use crate::answer::Answer::{self, *};
-use crate::cases::{all_cases, coded_in_120, coded_rows, six_file_image};
+use crate::bundle::{bundle, expected, unbundle};
+use crate::cases::{all_cases, random_case, Case};
 use crate::coding::{decode, encode};
+use crate::committed::committed_cases;
 use crate::damage::{damaged_cases, small_image};
 use crate::directory::{directory_is_good, ENTRIES, MARKED};
 use crate::directory::{find_by_name, table_of, Entry, BLOCKED, COMPRESSED, RANDOM, UNBLOCKED};
@@ -12,13 +14,22 @@ use crate::engine::{self, Order};
 use crate::generate::{empty_image, new_entry, put_entry};
 use crate::image::{sector, BLANK, SECTOR};
 use crate::layout::{blocked_place, capacity, records_per_sector, unblocked_capacity, Place};
+use crate::listed::{images_of, listed_file, listed_images};
 use crate::listing::listing;
+use crate::notation::script;
 use crate::random::Random;
 use crate::script::Script;
 use crate::selfcheck::selfcheck;
 use crate::session::{mount, Engine, OpenFile, Session};
 
 const BOTH: [Engine; 2] = [Engine::Plain, Engine::Buffered];
+
+/// A record of R 132 whose code has 120 bytes: a run of 118 characters and the 0.
+fn chars_118() -> Vec<u8> {
+    let mut record = vec![0xC1; 118];
+    record.resize(132, BLANK);
+    record
+}
 
 /// An image at work in an engine, for short tests.
 struct Bench {
@@ -101,6 +112,32 @@ fn all_answers(image: &mut [u8], session: &mut Session, number: usize) -> Vec<An
 
 // ---------------------------------------------------------------------------------------------
 // "Table to be proved".
+
+/// Rows 1 to 8 of the table: the row, R and the record.
+fn coded_rows() -> Vec<(usize, usize, Vec<u8>)> {
+    let (a, b, x) = (0xC1, 0xC2, 0xE7);
+    let row = |r: usize, front: Vec<u8>| {
+        let mut record = front;
+        record.resize(r, BLANK);
+        (r, record)
+    };
+    let mut blanks_then_ab = vec![BLANK; 130];
+    blanks_then_ab.extend([a, b]);
+    let rows = [
+        row(80, vec![]),
+        row(80, vec![a, b]),
+        row(80, vec![a, BLANK, b]),
+        row(80, vec![a, BLANK, BLANK, b]),
+        row(80, vec![BLANK, BLANK, BLANK, BLANK, BLANK, x]),
+        row(80, vec![BLANK, a]),
+        row(132, blanks_then_ab),
+        row(132, vec![a; 132]),
+    ];
+    (1..)
+        .zip(rows)
+        .map(|(row, (r, record))| (row, r, record))
+        .collect()
+}
 
 #[test]
 fn table_rows_1_to_8() {
@@ -251,7 +288,7 @@ fn shorter_rewrite_clears_the_sector() {
 fn sector_filled_exactly() {
     for engine in BOTH {
         let mut bench = Bench::with_file(engine, COMPRESSED, 132, 2);
-        let record = coded_in_120();
+        let record = chars_118();
         assert_eq!(encode(&record).len(), 120);
         for _ in 0..3 {
             assert_eq!(bench.write(&record), Done);
@@ -338,13 +375,13 @@ fn reading_on_takes_the_old_sector_first() {
 fn reading_from_byte_360_keeps_a_held_next_sector() {
     let mut bench = Bench::with_file(Engine::Buffered, COMPRESSED, 132, 2);
     for _ in 0..4 {
-        assert_eq!(bench.write(&coded_in_120()), Done);
+        assert_eq!(bench.write(&chars_118()), Done);
     }
     assert_eq!(bench.order(Order::FileBack), BeginningOfTape);
     for _ in 0..3 {
         assert_eq!(bench.order(Order::RecordForward), Done);
     }
-    assert_eq!(bench.read(), (Done, coded_in_120()));
+    assert_eq!(bench.read(), (Done, chars_118()));
     assert_eq!(sector(&bench.image, 2), [0x55; SECTOR]);
     assert!(bench.file().buffer.holds_sector(1) && bench.file().buffer.changed);
 }
@@ -492,10 +529,10 @@ fn bad_code_met_changes_nothing() {
 
 #[test]
 fn found_by_name() {
-    let mut table = table_of(&six_file_image());
-    let name = table[6].name;
-    assert_eq!(find_by_name(&table, &name), Ok(6));
-    table[2] = table[6];
+    let mut table = table_of(&small_image());
+    let name = table[3].name;
+    assert_eq!(find_by_name(&table, &name), Ok(3));
+    table[2] = table[3];
     assert_eq!(find_by_name(&table, &name), Ok(2));
     assert_eq!(find_by_name(&table, &name[..7]), Err(NotThere));
     assert_eq!(find_by_name(&table, &[0; 8]), Err(NotThere));
@@ -692,6 +729,121 @@ fn cases_have_names_of_their_own_and_parse() {
             Ok(case.script.rows.clone())
         );
     }
+}
+
+/// The words of a script, its rows and its bytes.
+#[test]
+fn scripts_in_words() {
+    let told = script(
+        4,
+        "open @2 read:R+1 text:A..B put:7:2 forward*2 look:9 close",
+    );
+    let mut wanted = Script::default();
+    wanted.open(0).read(2, 5);
+    wanted.write(2, &[0xC1, BLANK, BLANK, 0xC2]);
+    wanted.granule_write(2, 7, &told.bytes[4..]);
+    wanted.order(2, Order::RecordForward);
+    wanted.order(2, Order::RecordForward);
+    wanted.granule_look(2, 9).close(2);
+    assert_eq!(told.rows, wanted.rows);
+    assert_eq!(told.bytes, wanted.bytes);
+}
+
+/// The form of a file of cases, byte by byte, and the text for it.
+#[test]
+fn form_of_a_bundle() {
+    let two =
+        [vec![], vec![0xFF, 0xFF, 1]].map(|image| Case::new("", "", image, script(2, "open")));
+    let open = [&[0, 1][..], &[0; 14]].concat();
+    let first = [&[0, 1, 0, 0, 0, 0, 0, 1][..], &[0; 8], &open].concat();
+    let second = [
+        &[0, 1, 0, 0, 0, 3, 0, 1][..],
+        &[0; 8],
+        &[0xFF, 0xFF, 1],
+        &open,
+    ]
+    .concat();
+    assert_eq!(bundle(&two), [first, second].concat());
+    let part = |name: &str, sums: &str| format!("{name}\nMOUNT 11\n0 12 0 - -\nIMAGE {sums}\n");
+    let case = |sums: &str| part("PLAIN", sums) + &part("BUFFERED", sums);
+    let text = format!("CASE 1\n{}CASE 2\n{}", case("0 0"), case("256 256"));
+    assert_eq!(expected(&two), text);
+}
+
+/// A case much like the one before is told by patches.
+#[test]
+fn patches_of_a_bundle() {
+    let mut image = small_image();
+    let whole = Case::new("", "", image.clone(), script(80, "write:2"));
+    image[3_000] ^= 0x55;
+    let changed = Case::new("", "", image.clone(), Script::default());
+    let file = bundle(&[whole, changed]);
+    let patched = [
+        0,
+        2,
+        0,
+        0,
+        0,
+        1,
+        0,
+        0,
+        0,
+        0,
+        0,
+        0,
+        0,
+        0,
+        0,
+        0,
+        0,
+        0,
+        0x0B,
+        0xB8,
+        0,
+        image[3_000],
+    ];
+    assert_eq!(file[16 + image.len() + 16 + 2..], patched);
+}
+
+#[test]
+fn committed_cases_come_back() {
+    let cases = committed_cases();
+    let back = unbundle(&bundle(&cases)).unwrap_or_default();
+    assert_eq!(back.len(), cases.len());
+    for (one, other) in cases.iter().zip(&back) {
+        assert_eq!(one.image, other.image, "{}", one.name);
+        assert_eq!(one.script.rows, other.script.rows, "{}", one.name);
+        assert_eq!(one.script.bytes, other.script.bytes, "{}", one.name);
+        assert!(!one.rule.is_empty(), "{}", one.name);
+    }
+    let images = listed_images();
+    assert_eq!(images_of(&listed_file(&images)), Ok(images));
+}
+
+/// Bundles that are cut short or name no known form are refused.
+#[test]
+fn bad_bundles() {
+    let file = bundle(&[random_case(1, 0, 5)]);
+    for length in [1, 15, 16, 40, file.len() - 1] {
+        assert!(unbundle(&file[..length]).is_err());
+    }
+    assert!(unbundle(&[&[0, 3][..], &[0; 14]].concat()).is_err());
+    assert!(unbundle(&[&[0, 2, 0, 0, 0, 1][..], &[0; 16]].concat()).is_err());
+}
+
+/// Every answer that can be met from a mounting on is met; 11 is the mounting's alone.
+#[test]
+fn committed_cases_meet_the_answers() {
+    let text = expected(&committed_cases());
+    let rows = text
+        .lines()
+        .filter(|line| line.starts_with(|c: char| c.is_ascii_digit()));
+    let met: HashSet<&str> = rows.filter_map(|row| row.split(' ').nth(1)).collect();
+    for answer in 0..=12 {
+        let is_met = met.contains(answer.to_string().as_str());
+        assert_eq!(is_met, answer != 11, "answer {answer}");
+    }
+    assert!(text.contains("MOUNT 11\n"));
 }
 
 #[test]

@@ -1,0 +1,57 @@
+//! The committed cases: what the programs `play_cases` and `list_cases` are given, and what they
+//! must print. The same bytes are written every time.
+
+use std::fs;
+use std::path::Path;
+
+use crate::bundle::{bundle, expected, MOST_BUNDLED};
+use crate::cases::{foreign_cases, random_case, Case};
+use crate::damage::damaged_cases;
+use crate::fixed::fixed_cases;
+use crate::listed::{expected_listings, listed_file, listed_images};
+use crate::random::Random;
+
+/// The seed of everything committed that is random.
+const SEED: u64 = 1971;
+
+/// How many random scripts are committed, and codes of other writers.
+const SCRIPTS: usize = 180;
+const FOREIGN: usize = 20;
+
+/// The committed cases, in order: the fixed ones, other writers' codes, damage, random scripts.
+pub fn committed_cases() -> Vec<Case> {
+    let mut random = Random::new(SEED);
+    let mut cases = fixed_cases();
+    cases.extend(foreign_cases(&mut random, FOREIGN));
+    cases.extend(damaged_cases(&mut random));
+    cases.extend((0..SCRIPTS).map(|number| random_case(SEED, number, 40 + number % 21)));
+    cases.retain(|case| case.image.len() <= MOST_BUNDLED);
+    cases
+}
+
+/// Writes the four files below a directory, where they stand below the repository's.
+pub fn write_committed(top: &Path) -> Result<(), String> {
+    let cases = committed_cases();
+    put(top, "crates/play_cases/data/cases", &bundle(&cases))?;
+    put(top, "crates/play_cases/stdout", expected(&cases).as_bytes())?;
+    let images = listed_images();
+    let listings = expected_listings(&images);
+    put(top, "crates/list_cases/data/cases", &listed_file(&images))?;
+    put(top, "crates/list_cases/stdout", listings.as_bytes())
+}
+
+fn put(top: &Path, name: &str, bytes: &[u8]) -> Result<(), String> {
+    let path = top.join(name);
+    let dir = path.parent().unwrap_or(top);
+    fs::create_dir_all(dir)
+        .and_then(|()| fs::write(&path, bytes))
+        .map_err(|why| format!("{}: {why}", path.display()))
+}
+
+/// A line for each committed case: its number, its name and the rule that it tries.
+pub fn names() -> String {
+    (1..)
+        .zip(committed_cases())
+        .map(|(number, case)| format!("{number} {}: {}\n", case.name, case.rule))
+        .collect()
+}
