@@ -1,16 +1,21 @@
 -- What a request asks of a session in lent bytes. Definitions only.
 use mathlib.Core.List.{List}
-use Prim.Native.Nat.{ℕ}
+use Prim.Native.Nat.{ℕ, _+_, _*_, _≤_}
+use lib.ListN.{length}
 use Rattle.geometry.specs.Sizes.{mostOpen}
 use Rattle.directory.specs.Entries.{entryAt}
 use Rattle.sessions.specs.Session.{fileOf, slotOf, openFiles}
 use Rattle.sessions.specs.declared.OpenFile.{OpenFile}
 use Rattle.sessions.specs.declared.Session.{Session}
 use Rattle.storing.specs.Rows.{rowIn}
-use Rattle.storing.specs.Stored.{filesAt, fileIn, tableIn}
+use Rattle.storing.specs.Stored.{fileWidth, heldWidth, filesAt, fileIn, tableIn}
 use Rattle.storing.specs.declared.lawful.Seen.{Seen}
 
--- the open-file states that stand w bytes apart, without what is behind each
+-- four open-file states of w bytes each stand in the bytes, with or without a buffer
+abbrev pub Spaced : ℕ → List ℕ → Type 0
+Spaced w b = (fileWidth ≤ w) × (w ≤ heldWidth) × (filesAt + mostOpen * w ≤ length b)
+
+-- those states, without their buffers
 unfoldable pub filesIn : ℕ → List ℕ → List OpenFile
 filesIn w b = rowIn fileIn w mostOpen b filesAt
 

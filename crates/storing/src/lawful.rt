@@ -37,8 +37,8 @@ ghost use Rattle.directory.specs.Grouped.{twoGood};
 ghost use Rattle.sessions.specs.Session.{bare, isOf, openFiles, heldGood, legal, bufferedLegal};
 ghost use Rattle.sessions.specs.Grouped.{filesGood};
 ghost use Rattle.storing.specs.Rows.{rowIn};
-ghost use Rattle.storing.specs.Stored.{fileIn, heldIn, tableIn, unlawful as noSession, sessionIn, bufferedIn};
-ghost use Rattle.storing.specs.Lent.{filesIn, bareIn, seenOf};
+ghost use Rattle.storing.specs.Stored.{fileIn, heldIn, tableIn, sessionIn, bufferedIn};
+ghost use Rattle.storing.specs.Lent.{Spaced, filesIn, bareIn, seenOf};
 
 // What a request asks of a session: how many files are open, which state is the entry's or is to be, the entry, and its file.
 pub struct Seen {
@@ -133,7 +133,7 @@ fn is_of_at(b: &[u8], at: usize, i: usize) -> bool
 
 // Whether no state before number k is entry i's.
 fn none_before(b: &[u8], w: usize, k: usize, i: usize) -> bool
-    requires { ⌜ (k ≤ 4) × (30 ≤ w) × (w ≤ 396) × (396 + 4 * w ≤ length (now b)) ⌝ }
+    requires { ⌜ (k ≤ 4) × Spaced w (now b) ⌝ }
     ensures { λ r. ⌜ r ≡ every (λ f. not (isOf i f)) (take k (filesIn w (now (b .entry)))) ⌝ }
 {
     let mut j: usize = 0;
@@ -149,7 +149,7 @@ fn none_before(b: &[u8], w: usize, k: usize, i: usize) -> bool
 
 // Whether the open files keep the rules of files.
 fn files_good(b: &[u8], w: usize) -> bool
-    requires { ⌜ (30 ≤ w) × (w ≤ 396) × (396 + 4 * w ≤ length (now b)) ⌝ }
+    requires { ⌜ Spaced w (now b) ⌝ }
     ensures { λ r. ⌜ r ≡ filesGood (tableIn (now (b .entry))) (filesIn w (now (b .entry))) ⌝ }
 {
     let mut k: usize = 0;
@@ -193,7 +193,7 @@ fn holds_good(b: &[u8]) -> bool
 
 // Whether a session is legal for an image, but for what its buffers hold.
 fn is_lawful(image: &[u8], b: &[u8], w: usize) -> bool
-    requires { ⌜ (30 ≤ w) × (w ≤ 396) × (396 + 4 * w ≤ length (now b)) ⌝ }
+    requires { ⌜ Spaced w (now b) ⌝ }
     ensures { λ r. ⌜ r ≡ legal (now (image .entry)) (bareIn w (now (b .entry))) ⌝ }
 {
     if Geometry::lawful_length(image) {
@@ -230,7 +230,7 @@ pub fn is_legal_buffered_in(image: &[u8], b: &[u8]) -> bool
 
 // The number of the first state that is entry i's; 4 where there is none.
 fn first_of(b: &[u8], w: usize, i: usize) -> usize
-    requires { ⌜ (30 ≤ w) × (w ≤ 396) × (396 + 4 * w ≤ length (now b)) ⌝ }
+    requires { ⌜ Spaced w (now b) ⌝ }
     ensures { λ r. ⌜ r ≡ firstWith (isOf i) (filesIn w (now (b .entry))) ⌝ }
 {
     let mut k: usize = 0;
@@ -246,7 +246,7 @@ fn first_of(b: &[u8], w: usize, i: usize) -> usize
 
 // The number of the first state that is not in use; 4 where there is none.
 fn first_idle(b: &[u8], w: usize) -> usize
-    requires { ⌜ (30 ≤ w) × (w ≤ 396) × (396 + 4 * w ≤ length (now b)) ⌝ }
+    requires { ⌜ Spaced w (now b) ⌝ }
     ensures { λ r. ⌜ r ≡ firstWith (λ f. not (f .used)) (filesIn w (now (b .entry))) ⌝ }
 {
     let mut k: usize = 0;
@@ -262,7 +262,7 @@ fn first_idle(b: &[u8], w: usize) -> usize
 
 // How many files are open.
 fn opened_in(b: &[u8], w: usize) -> u32
-    requires { ⌜ (30 ≤ w) × (w ≤ 396) × (396 + 4 * w ≤ length (now b)) ⌝ }
+    requires { ⌜ Spaced w (now b) ⌝ }
     ensures { λ r. ⌜ r ≡ openFiles (filesIn w (now (b .entry))) ⌝ }
 {
     let mut n: u32 = 0;
@@ -279,7 +279,7 @@ fn opened_in(b: &[u8], w: usize) -> u32
 
 // What a session in bytes has of entry i.
 fn seen_in(b: &[u8], w: usize, i: usize) -> Seen
-    requires { ⌜ (30 ≤ w) × (w ≤ 396) × (396 + 4 * w ≤ length (now b)) ⌝ }
+    requires { ⌜ Spaced w (now b) ⌝ }
     ensures { λ r. ⌜ r ≡ seenOf (bareIn w (now (b .entry))) i ⌝ }
 {
     let n = opened_in(b, w);
