@@ -1,7 +1,7 @@
 -- A request on a session in lent bytes is the step on the session that they are: laying the verdict's entry and state is storing the next session, and bytes that
 -- are no session are refused.
 use mathlib.Core.Path.{_≡_, refl, sym, ap, _∙_}
-use mathlib.Core.Bool.{Bool, true, false}
+use mathlib.Core.Bool.{true, false}
 use mathlib.Core.List.{List, []}
 use Prim.Native.Nat.{ℕ, _<_}
 use lib.ListN.{length, set}
@@ -10,8 +10,8 @@ use Rattle.geometry.specs.Bytes.{part}
 use Rattle.geometry.specs.Sizes.{entries}
 use Rattle.geometry.proofs.Tests.{either, both-ways}
 use Rattle.requests.specs.Judge.{judge}
-use Rattle.requests.proofs.Done.{done-allows, met-meets}
-use Rattle.requests.proofs.Live.{done-real, met-live}
+use Rattle.requests.proofs.Done.{Live, done-allows, met-meets}
+use Rattle.requests.proofs.Live.{Real, done-real, met-live}
 use Rattle.sessions.specs.Session.{slotOf, openFiles, legal}
 use Rattle.steps.specs.Effects.{effects, plainAll}
 use Rattle.steps.specs.Next.{factsOf}
@@ -99,6 +99,18 @@ module _ (image b : List ℕ) (i : ℕ) (q : Request) (given buffer : List ℕ) 
   abbrev answered : Answer
   answered = judge q (factsOf (legal image s) (openFiles (s .files)) (length buffer) q (plainScene image s i given))
 
+  done-legal : answered ≡ Done → legal image s ≡ true
+  unfolding factsOf
+  done-legal d =
+      let r : Real (factsOf (legal image s) (openFiles (s .files)) (length buffer) q (plainScene image s i given)) = done-real q _ (done-allows q _ d) in
+      r .legal
+
+  met-legal : (y : Edge) → answered ≡ Met y → legal image s ≡ true
+  unfolding factsOf
+  met-legal y d =
+      let r : Live (factsOf (legal image s) (openFiles (s .files)) (length buffer) q (plainScene image s i given)) = met-live _ q y (met-meets q _ y d) in
+      r .legal
+
   module _ (x : Seen) (found : x ≡ seenOf s i) (n : ℕ) (size : n ≡ length (codeGiven (x .entry) given)) (v : Verdict)
       (told : v ≡ verdictOf (legal image s) (openFiles (s .files)) (length buffer) n q (seenScene image s 0 [] i given)) where
     verdict-told : v ≡ judged
@@ -126,14 +138,14 @@ module _ (image b : List ℕ) (i : ℕ) (q : Request) (given buffer : List ℕ) 
           → afterIn (v .answer) to lent moved ≡ lentAfter (isStored b) stored b stepped
       unfolding seenOf plainScene
       done-served d to t lent long l =
-          laid image b i stepped (done-real q _ (done-allows q _ (answer-told Done d)) .legal) v (v .answer) to moved lent long (rw found at l)
+          laid image b i stepped (done-legal (answer-told Done d)) v (v .answer) to moved lent long (rw found at l)
           (rw (verdict-told, t, found, buffer-told) (done-after image s i q given buffer (answer-told Done d)))
 
       pub met-served : (y : Edge) → v .answer ≡ Met y → (lent : List ℕ) → length (entryStored (v .entry)) ≡ entryWidth
           → lent ≡ layFile (layEntry b i (v .entry)) (x .slot) (v .file) → afterIn (v .answer) image lent moved ≡ lentAfter (isStored b) stored b stepped
       unfolding seenOf
       met-served y d lent long l =
-          laid image b i stepped (met-live _ q y (met-meets q _ y (answer-told (Met y) d)) .legal) v (v .answer) image moved lent long (rw found at l)
+          laid image b i stepped (met-legal y (answer-told (Met y) d)) v (v .answer) image moved lent long (rw found at l)
           (rw (verdict-told, buffer-told) (met-after image s i q given buffer y (answer-told (Met y) d)))
 
       pub refused-served : (y : Refusal) → v .answer ≡ Refused y → afterIn (v .answer) image b moved ≡ lentAfter (isStored b) stored b stepped

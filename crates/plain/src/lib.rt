@@ -194,17 +194,17 @@ fn serve_in(
     let seen = find_in(session, i);
     let e = seen.entry;
     let f = seen.file;
-    let n = encode_given(e, given, code);
-    let v = verdict_in(image, session, i, q, given, n, buffer);
-    let a = v.answer;
+    let m = encode_given(e, given, code);
+    let w = verdict_in(image, session, i, q, given, m, buffer);
+    let a = w.answer;
     match a {
         Answer::Done => {
-            act(image, i, e, f, q, given, part(code, 0, n));
-            put_next(session, i, seen.slot, v);
+            act(image, i, e, f, q, given, part(code, 0, m));
+            put_next(session, i, seen.slot, w);
             a
         }
         Answer::Met(_) => {
-            put_next(session, i, seen.slot, v);
+            put_next(session, i, seen.slot, w);
             a
         }
         Answer::Refused(_) => a,
