@@ -1,1 +1,3 @@
 pub mod Acts
+pub mod Goes
+pub mod Stepped

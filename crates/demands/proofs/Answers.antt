@@ -38,6 +38,10 @@ of-number (Refused FifthFile) = refl
 of-number (Refused BadImage) = refl
 of-number (Refused NotLegal) = refl
 
+pub number-done : (a : Answer) → numberOf a ≡ 0 → a ≡ Done
+unfolding answerOf
+number-done a h = sym (of-number a) ∙ ap answerOf h
+
 -- ---- the last report of a run
 
 last-report : (E : Engine) (asked : List Asked) (a : Asked) (d : Report) (w : Standing (E .Session))

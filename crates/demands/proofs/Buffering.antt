@@ -30,7 +30,7 @@ use Rattle.sessions.specs.Session.{bare, fileOf, openFiles, extent, extentWith,
 use Rattle.sessions.proofs.Legal.{bare-legal, good-table}
 use Rattle.settling.proofs.Kept.{table-length}
 use Rattle.settling.proofs.Bench.{takes-held}
-use Rattle.settling.proofs.Next.{kept-used, kept-file}
+use Rattle.settling.proofs.Next.{withBuffer, kept-used, kept-file}
 use Rattle.settling.proofs.Standing.{Standing, isOpen, isShut, standing, held-file, held-set}
 use Rattle.demands.specs.Demand3.{changed, readIn, putFirst, liesIn, goesIn, Holds, Buffers, Buffering, PutsBack, leaves, puts, stamps, OnlyPutsBack, isGranule, ByPuttingBack}
 use Rattle.geometry.specs.declared.Place.{Place}
@@ -228,7 +228,7 @@ module _ (c : Scene) where
 
 -- ---- one request
 
-module _ (image : List ℕ) (s : BufferedSession) (i : ℕ) (given buffer : List ℕ) (types : typed s ≡ true) (kind : (isKind blocked (entryAt (s .table) i) || isKind compressed (entryAt (s .table) i)) ≡ true) where
+module _ (image : List ℕ) (s : BufferedSession) (i : ℕ) (given buffer : List ℕ) where
   abbrev found : Bench
   found = record { image = image; file = heldOf s i }
 
@@ -241,85 +241,89 @@ module _ (image : List ℕ) (s : BufferedSession) (i : ℕ) (given buffer : List
   answer-is q (Met x) = refl
   answer-is q (Refused x) = refl
 
-  is-done : (q : Request) → bufferedStep image s i q given buffer .answer ≡ Done → bufferedAnswer image s i q given (length buffer) ≡ Done
+  pub is-done : (q : Request) → bufferedStep image s i q given buffer .answer ≡ Done → bufferedAnswer image s i q given (length buffer) ≡ Done
   unfolding bufferedStep
   is-done q h = sym (answer-is q (bufferedAnswer image s i q given (length buffer))) ∙ h
 
-  step-is : (q : Request) → bufferedStep image s i q given buffer .answer ≡ Done → bufferedStep image s i q given buffer ≡ bufferedAfter Done image s q scene (heldOf s i) buffer
+  pub step-is : (q : Request) → bufferedStep image s i q given buffer .answer ≡ Done → bufferedStep image s i q given buffer ≡ bufferedAfter Done image s q scene (heldOf s i) buffer
   unfolding bufferedStep
   step-is q h = ap (λ (a : Answer). bufferedAfter a image s q scene (heldOf s i) buffer) (is-done q h)
 
-  -- a write wholly in the held sector
-  write-inside : bufferedStep image s i Write given buffer .answer ≡ Done → heldOf s i .holds ≡ true
-      → every (λ k. eqb k (heldOf s i .held)) (changed (entryAt (s .table) i) (heldOf s i .file) given) ≡ true → bufferedStep image s i Write given buffer .image ≡ image
-  unfolding bufferedAfter effects bufferedScene
-  write-inside d h r = ap (λ (x : After BufferedSession). x .image) (step-is Write d) ∙ write-stays scene found kind h (rw (held-file s i) at r)
-
-  read-inside : bufferedStep image s i Read given buffer .answer ≡ Done → heldOf s i .holds ≡ true
-      → every (λ k. eqb k (heldOf s i .held)) (readIn (entryAt (s .table) i) (heldOf s i .file) (extentWith (entryAt (s .table) i) (heldOf s i) image)) ≡ true
-      → bufferedStep image s i Read given buffer .image ≡ image
-  unfolding bufferedAfter effects bufferedScene
-  read-inside d h r =
-      ap (λ (x : After BufferedSession). x .image) (step-is Read d) ∙ ap (λ (w : Bench). w .image) (read-stays scene found kind h
-      (subst (λ (f : OpenFile). every (λ k. eqb k (heldOf s i .held)) (readIn (entryAt (s .table) i) f (extentWith (entryAt (s .table) i) (heldOf s i) image)) ≡ true) (held-file s i) r))
-
-  allowed : (q : Request) → bufferedStep image s i q given buffer .answer ≡ Done → Allows q (factsOf (bufferedLegal image s) (openFiles (bare s .files)) (length buffer) q scene)
+  pub allowed : (q : Request) → bufferedStep image s i q given buffer .answer ≡ Done → Allows q (factsOf (bufferedLegal image s) (openFiles (bare s .files)) (length buffer) q scene)
   unfolding bufferedAnswer
   allowed q d = done-allows q _ (is-done q d)
 
-  -- an order puts back first, unless it is a skip; a close then writes in the directory alone
-  stamp-elsewhere : bufferedLegal image s ≡ true → isFree (entryAt (s .table) i) ≡ false → (x xs : List ℕ) → length xs ≡ 4 → extent (entryAt (s .table) i) (lay x (entrySize * i + 16) xs) ≡ extent (entryAt (s .table) i) x
-  unfolding extent bare
-  stamp-elsewhere l u x xs n =
-      let k : ¬ (entryAt (s .table) i .kind ≡ 0) = eqb-false (entryAt (s .table) i .kind) 0 u in
-      part-lay-apart x (entrySize * i + 16) xs _ _
-      (omega (arith, lies (sectorsOf image) (s .table) (good-table image (bare s) (bare-legal image s l)) i k .starts, used-inside (s .table) i k, table-length s types))
-
-  after-order : (o : Order) → Live (factsOf (bufferedLegal image s) (openFiles (bare s .files)) (length buffer) (Position o) scene)
-      → extent (entryAt (s .table) i) (bufferedAfter Done image s (Position o) scene (heldOf s i) buffer .image) ≡ extent (entryAt (s .table) i) (putFirst o (entryAt (s .table) i) found)
-  unfolding bufferedAfter effects bufferedAll bufferedDo plainDo putFirst bufferedScene factsOf stampBytes word
-  after-order WriteMark l = refl
-  after-order RewindOnline l = refl
-  after-order RewindOffline l = stamp-elsewhere (l .legal) (l .used) (puttingBack (entryAt (s .table) i) found .image) _ refl
-  after-order RecordForward l = refl
-  after-order RecordBack l = refl
-  after-order FileForward l = refl
-  after-order FileBack l = refl
-
-  order-puts : (o : Order) → bufferedStep image s i (Position o) given buffer .answer ≡ Done
-      → extent (entryAt (s .table) i) (bufferedStep image s i (Position o) given buffer .image) ≡ extent (entryAt (s .table) i) (putFirst o (entryAt (s .table) i) found)
-  order-puts o d = ap (λ (x : After BufferedSession). extent (entryAt (s .table) i) (x .image)) (step-is (Position o) d) ∙ after-order o (done-live (Position o) _ (allowed (Position o) d))
-
-  -- the file stays open, and is found in the session that is left
-  left-held : (q : Request) → Live (factsOf (bufferedLegal image s) (openFiles (bare s .files)) (length buffer) q scene) → fileDone q scene .used ≡ true → fileDone q scene .entry ≡ fileOf (bare s .files) i .entry
-      → (k : ℕ) → bufferedStep image s i q given buffer .answer ≡ Done → Holds (bufferedAll scene (effects q scene) found .file) k → Holds (heldOf (bufferedStep image s i q given buffer .session) i) k
+  -- a file that stays open is found in the session that is left, with the buffer that it then has
+  pub left-is : (q : Request) → Live (factsOf (bufferedLegal image s) (openFiles (bare s .files)) (length buffer) q scene) → fileDone q scene .used ≡ true → fileDone q scene .entry ≡ fileOf (bare s .files) i .entry
+      → bufferedStep image s i q given buffer .answer ≡ Done → heldOf (bufferedStep image s i q given buffer .session) i ≡ withBuffer (fileDone q scene) (bufferedAll scene (effects q scene) found .file)
   unfolding bufferedAfter bufferedScene factsOf
-  left-held q l u e k d h = go (standing s i)
+  left-is q l u e d = go (standing s i)
     where
       after : BufferedFile
       after = bufferedAll scene (effects q scene) found .file
 
-      go : Standing s i → Holds (heldOf (bufferedStep image s i q given buffer .session) i) k
+      go : Standing s i → heldOf (bufferedStep image s i q given buffer .session) i ≡ withBuffer (fileDone q scene) after
       go (isOpen n o) =
           let f : OpenFile = fileDone q scene in
           let w : f .entry ≡ i = e ∙ ap (λ (x : OpenFile). x .entry) (o .file) ∙ o .entry in
           let t : List Entry = set (s .table) i (entryDone q scene) in
-          subst (λ (b : BufferedFile). Holds b k)
-          (sym (ap (λ (x : After BufferedSession). heldOf (x .session) i) (step-is q d)
+          ap (λ (x : After BufferedSession). heldOf (x .session) i) (step-is q d)
           ∙ ap (λ (m : ℕ). heldOf (record { table = t; files = set (s .files) m (kept f after) }) i) (o .slot)
           ∙ held-set s i n o t (kept f after) (ap (λ (x : OpenFile). x .used) (kept-file f after) ∙ u) (ap (λ (x : OpenFile). x .entry) (kept-file f after) ∙ w)
-          ∙ kept-used f after u)) h
+          ∙ kept-used f after u
       go (isShut z) = both-ways (fileOf (bare s .files) i .used) (l .opened) (ap (λ (x : OpenFile). x .used) (z .file))
 
-  buffers-well : Buffers image s i given buffer (entryAt (s .table) i) (heldOf s i)
-  unfolding fileDone effects bufferedScene
-  buffers-well = record {
-    inside = write-inside;
-    readInside = read-inside;
-    ordered = order-puts;
-    readHolds = λ d. left-held Read (done-live Read _ (allowed Read d)) refl refl _ d (subst (λ (f : OpenFile). Holds (bufferedAll scene (effects Read scene) found .file) (liesIn (entryAt (s .table) i) f (extentWith (entryAt (s .table) i) (heldOf s i) image))) (sym (held-file s i)) (read-holds scene found kind));
-    writeHolds = λ d. left-held Write (done-live Write _ (allowed Write d)) refl refl _ d (subst (λ (f : OpenFile). Holds (bufferedAll scene (effects Write scene) found .file) (goesIn (entryAt (s .table) i) f given)) (sym (held-file s i)) (write-holds scene found kind));
-  }
+  left-held : (q : Request) → Live (factsOf (bufferedLegal image s) (openFiles (bare s .files)) (length buffer) q scene) → fileDone q scene .used ≡ true → fileDone q scene .entry ≡ fileOf (bare s .files) i .entry
+      → (k : ℕ) → bufferedStep image s i q given buffer .answer ≡ Done → Holds (bufferedAll scene (effects q scene) found .file) k → Holds (heldOf (bufferedStep image s i q given buffer .session) i) k
+  left-held q l u e k d h = subst (λ (b : BufferedFile). Holds b k) (sym (left-is q l u e d)) h
+
+  module _ (types : typed s ≡ true) (kind : (isKind blocked (entryAt (s .table) i) || isKind compressed (entryAt (s .table) i)) ≡ true) where
+    -- a write wholly in the held sector
+    write-inside : bufferedStep image s i Write given buffer .answer ≡ Done → heldOf s i .holds ≡ true
+        → every (λ k. eqb k (heldOf s i .held)) (changed (entryAt (s .table) i) (heldOf s i .file) given) ≡ true → bufferedStep image s i Write given buffer .image ≡ image
+    unfolding bufferedAfter effects bufferedScene
+    write-inside d h r = ap (λ (x : After BufferedSession). x .image) (step-is Write d) ∙ write-stays scene found kind h (rw (held-file s i) at r)
+
+    read-inside : bufferedStep image s i Read given buffer .answer ≡ Done → heldOf s i .holds ≡ true
+        → every (λ k. eqb k (heldOf s i .held)) (readIn (entryAt (s .table) i) (heldOf s i .file) (extentWith (entryAt (s .table) i) (heldOf s i) image)) ≡ true
+        → bufferedStep image s i Read given buffer .image ≡ image
+    unfolding bufferedAfter effects bufferedScene
+    read-inside d h r =
+        ap (λ (x : After BufferedSession). x .image) (step-is Read d) ∙ ap (λ (w : Bench). w .image) (read-stays scene found kind h
+        (subst (λ (f : OpenFile). every (λ k. eqb k (heldOf s i .held)) (readIn (entryAt (s .table) i) f (extentWith (entryAt (s .table) i) (heldOf s i) image)) ≡ true) (held-file s i) r))
+
+    -- an order puts back first, unless it is a skip; a close then writes in the directory alone
+    stamp-elsewhere : bufferedLegal image s ≡ true → isFree (entryAt (s .table) i) ≡ false → (x xs : List ℕ) → length xs ≡ 4 → extent (entryAt (s .table) i) (lay x (entrySize * i + 16) xs) ≡ extent (entryAt (s .table) i) x
+    unfolding extent bare
+    stamp-elsewhere l u x xs n =
+        let k : ¬ (entryAt (s .table) i .kind ≡ 0) = eqb-false (entryAt (s .table) i .kind) 0 u in
+        part-lay-apart x (entrySize * i + 16) xs _ _
+        (omega (arith, lies (sectorsOf image) (s .table) (good-table image (bare s) (bare-legal image s l)) i k .starts, used-inside (s .table) i k, table-length s types))
+
+    after-order : (o : Order) → Live (factsOf (bufferedLegal image s) (openFiles (bare s .files)) (length buffer) (Position o) scene)
+        → extent (entryAt (s .table) i) (bufferedAfter Done image s (Position o) scene (heldOf s i) buffer .image) ≡ extent (entryAt (s .table) i) (putFirst o (entryAt (s .table) i) found)
+    unfolding bufferedAfter effects bufferedAll bufferedDo plainDo putFirst bufferedScene factsOf stampBytes word
+    after-order WriteMark l = refl
+    after-order RewindOnline l = refl
+    after-order RewindOffline l = stamp-elsewhere (l .legal) (l .used) (puttingBack (entryAt (s .table) i) found .image) _ refl
+    after-order RecordForward l = refl
+    after-order RecordBack l = refl
+    after-order FileForward l = refl
+    after-order FileBack l = refl
+
+    order-puts : (o : Order) → bufferedStep image s i (Position o) given buffer .answer ≡ Done
+        → extent (entryAt (s .table) i) (bufferedStep image s i (Position o) given buffer .image) ≡ extent (entryAt (s .table) i) (putFirst o (entryAt (s .table) i) found)
+    order-puts o d = ap (λ (x : After BufferedSession). extent (entryAt (s .table) i) (x .image)) (step-is (Position o) d) ∙ after-order o (done-live (Position o) _ (allowed (Position o) d))
+
+    buffers-well : Buffers image s i given buffer (entryAt (s .table) i) (heldOf s i)
+    unfolding fileDone effects bufferedScene
+    buffers-well = record {
+      inside = write-inside;
+      readInside = read-inside;
+      ordered = order-puts;
+      readHolds = λ d. left-held Read (done-live Read _ (allowed Read d)) refl refl _ d (subst (λ (f : OpenFile). Holds (bufferedAll scene (effects Read scene) found .file) (liesIn (entryAt (s .table) i) f (extentWith (entryAt (s .table) i) (heldOf s i) image))) (sym (held-file s i)) (read-holds scene found kind));
+      writeHolds = λ d. left-held Write (done-live Write _ (allowed Write d)) refl refl _ d (subst (λ (f : OpenFile). Holds (bufferedAll scene (effects Write scene) found .file) (goesIn (entryAt (s .table) i) f given)) (sym (held-file s i)) (write-holds scene found kind));
+    }
 
 pub buffering : Buffering
 buffering = record { each = buffers-well }

@@ -10,3 +10,4 @@ pub mod Answers
 pub mod ReadsBack
 pub mod Counts
 pub mod Impostors
+pub mod Writes

@@ -18,7 +18,7 @@ use Rattle.steps.specs.Next.{Scene, factsOf, fileDone, fileMet, entryDone}
 use Rattle.steps.specs.Step.{heldOf, kept, bufferedScene, bufferedAnswer, bufferedAfter, bufferedStep}
 use Rattle.steps.specs.Verdict.{entryNext, fileNext}
 use Rattle.steps.proofs.Inside.{buffers, lawful, suit}
-use Rattle.serving.proofs.Keeping.{Goes, on, off, goes, Of, done, met, legal-next}
+use Rattle.serving.proofs.Keeping.{goes-used, goes, Of, done, met, legal-next}
 use Rattle.settling.proofs.Bench.{Within, within-all, length-all}
 use Rattle.settling.proofs.Kept.{heldAt, table-length, files-length}
 use Rattle.settling.proofs.Standing.{Standing, isOpen, isShut, standing}
@@ -42,10 +42,6 @@ held-within image s ok i = go (standing s i)
     go : Standing s i → Within (entryAt (s .table) i) (heldOf s i)
     go (isOpen k o) = rw (o .buffer) (held-inside image s ok k (heldAt s k) (entryAt (s .table) i) refl (ap (entryAt (s .table)) (sym (o .entry))) (o .used))
     go (isShut h) = rw (h .buffer) (λ x. both-ways false x refl)
-
-of-entry : (q : Request) (i : ℕ) (f : OpenFile) → Goes q i f → f .used ≡ true → f .entry ≡ i
-of-entry q i f (on u e) v = e
-of-entry q i f (off z e) v = both-ways (f .used) v (ap (λ (g : OpenFile). g .used) e)
 
 module _ (image : List ℕ) (s : BufferedSession) (types : typed s ≡ true) (ok : bufferedLegal image s ≡ true) (i : ℕ) (q : Request) (given buffer : List ℕ) where
   abbrev scene : Scene
@@ -85,14 +81,14 @@ module _ (image : List ℕ) (s : BufferedSession) (types : typed s ≡ true) (ok
       let u : isFree (entryAt (s .table) i) ≡ false = done-real q _ a .used in
       let w : Bench = record { image = image; file = heldOf s i } in
       next-legal (bufferedAll scene (effects q scene) w .image) (entryDone q scene) (fileDone q scene) (bufferedAll scene (effects q scene) w .file) (length-all scene (effects q scene) w) (entry-shape q scene)
-      (of-entry q i (fileDone q scene) (goes image plain plain-legal many four i scene its u (length buffer) q Done (done a)))
+      (goes-used q i (fileDone q scene) (goes image plain plain-legal many four i scene its u (length buffer) q Done (done a)))
       (within-all scene (effects q scene) (suit (openFiles (plain .files)) (length buffer) q scene (lawful image plain plain-legal i u) e) w (held-within image s ok i))
       (legal-next image plain plain-legal many four i scene its u (length buffer) q Done (done a))
   after-legal (Met x) e =
       let a : Meets (factsOf true (openFiles (plain .files)) (length buffer) q scene) q x = met-meets q _ x e in
       let u : isFree (entryAt (s .table) i) ≡ false = met-live _ q x a .used in
       let l = next-legal image (entryAt (s .table) i) (fileMet x (scene .file)) (heldOf s i) refl (same-shape (entryAt (s .table) i))
-      (of-entry q i (fileMet x (scene .file)) (goes image plain plain-legal many four i scene its u (length buffer) q (Met x) (met x a))) (held-within image s ok i)
+      (goes-used q i (fileMet x (scene .file)) (goes image plain plain-legal many four i scene its u (length buffer) q (Met x) (met x a))) (held-within image s ok i)
       (legal-next image plain plain-legal many four i scene its u (length buffer) q (Met x) (met x a)) in
       rw (set-getD (s .table) i freeEntry) at l
   after-legal (Refused x) e = ok

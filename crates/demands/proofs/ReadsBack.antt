@@ -122,14 +122,14 @@ module _ (i : ℕ) (t : Tape) (given : List ℕ) (standing : t .position ≤ len
         tape-step (modelStep ms (writing i given)) i (tapeDone Write given t) w (Position RewindOnline) [] [] (rewinds _ refl used refl sequential) in
         goes-far (t .position) _ 0 r (omega arith) ∙ ap (λ (m : ℕ). tape (at m)) z
 
-    module _ (buffer : List ℕ) (size : length buffer ≡ t .shape .length) where
+    module _ (buffer : List ℕ) (size : length buffer ≡ t .shape .recordLength) where
       back-answer : modelAnswer then (asking i [] buffer) ≡ Done
       unfolding tapeFacts
       back-answer =
           tape-answer then i (at (t .position)) then-at Read [] buffer
           ∙ reads _ refl used refl sequential refl refl (omega (arith, length-rs)) (omega arith)
 
-      back-record : modelInto Read (modelAt then i) ≡ padded (padByte (t .shape .kind)) (t .shape .length) given
+      back-record : modelInto Read (modelAt then i) ≡ padded (padByte (t .shape .kind)) (t .shape .recordLength) given
       unfolding modelInto modelRecord tapeRecord newRecord
       back-record =
           rw then-at
@@ -145,7 +145,7 @@ module _ (E : Engine) (faithful : Faithful E) (image : List ℕ) (ok : mounts im
   abbrev ms : List Model
   ms = modelRun (modelsOf image) before
 
-  module _ (buffer : List ℕ) (size : length buffer ≡ t .shape .length) (done : answered E (run E (mounted E image) before) (writing i given) .answer ≡ Done) where
+  module _ (buffer : List ℕ) (size : length buffer ≡ t .shape .recordLength) (done : answered E (run E (mounted E image) before) (writing i given) .answer ≡ Done) where
     wrote : modelAnswer ms (writing i given) ≡ Done
     wrote = sym (same-answer E faithful image ok before (writing i given)) ∙ done
 
@@ -163,7 +163,7 @@ module _ (E : Engine) (faithful : Faithful E) (image : List ℕ) (ok : mounts im
     unfolding tapeFacts
     sequential = allowed .marks .running .sequential
 
-    short : length given ≤ t .shape .length
+    short : length given ≤ t .shape .recordLength
     unfolding tapeFacts
     short = allowed .short
 
@@ -175,7 +175,7 @@ module _ (E : Engine) (faithful : Faithful E) (image : List ℕ) (ok : mounts im
         same-answer E faithful image ok all (asking i [] buffer)
         ∙ rw (run-append (modelsOf image) before (writing i given ∷ skipping i (t .position))) (back-answer i t given standing used sequential ms here wrote buffer size)
 
-    gives : answered E (run E (mounted E image) all) (asking i [] buffer) .buffer ≡ padded (padByte (t .shape .kind)) (t .shape .length) given
+    gives : answered E (run E (mounted E image) all) (asking i [] buffer) .buffer ≡ padded (padByte (t .shape .kind)) (t .shape .recordLength) given
     unfolding ifDone
     gives =
         same-buffer E faithful image ok all (asking i [] buffer)
@@ -183,7 +183,7 @@ module _ (E : Engine) (faithful : Faithful E) (image : List ℕ) (ok : mounts im
           run-append (modelsOf image) before (writing i given ∷ skipping i (t .position)),
           back-answer i t given standing used sequential ms here wrote buffer size,
           back-record i t given standing used sequential ms here wrote buffer size,
-        ) (lay-whole buffer _ (length-padded _ (t .shape .length) given short ∙ sym size))
+        ) (lay-whole buffer _ (length-padded _ (t .shape .recordLength) given short ∙ sym size))
 
 pub reads-back : (E : Engine) → Faithful E → ReadsBack E
 reads-back E faithful = record {

@@ -48,11 +48,11 @@ skipping i p =
 pub record ReadsBack (E : Engine) : Type 0 where
   pub back : (image : List ℕ) → mounts image ≡ true → (asked : List Asked) (i : ℕ) (t : Tape)
       → modelAt (modelRun (modelsOf image) asked) i ≡ tape t
-      → (given buffer : List ℕ) → length buffer ≡ t .shape .length
+      → (given buffer : List ℕ) → length buffer ≡ t .shape .recordLength
       → answered E (run E (mounted E image) asked) (writing i given) .answer ≡ Done
       → (answered E (run E (mounted E image) (asked ++ (writing i given ∷ skipping i (t .position)))) (asking i [] buffer) .answer ≡ Done)
       × (answered E (run E (mounted E image) (asked ++ (writing i given ∷ skipping i (t .position)))) (asking i [] buffer) .buffer
-      ≡ padded (padByte (t .shape .kind)) (t .shape .length) given)
+      ≡ padded (padByte (t .shape .kind)) (t .shape .recordLength) given)
 
 -- "A write is lawful when no check before 3 stops it."
 abbrev pub checksBefore3 : List Test

@@ -45,7 +45,7 @@ shows-row e f bytes u r = rw (u, r, shows)
 
 -- the granules, by their rule
 granuleAt : Shape → List ℕ → ℕ → List ℕ
-granuleAt s bytes g = part bytes (byteOf (placeOf random (s .length) g)) (s .length)
+granuleAt s bytes g = part bytes (byteOf (placeOf random (s .recordLength) g)) (s .recordLength)
 
 by-rule : (s : Shape) (bytes : List ℕ) (n : ℕ) → granulesIn s bytes n ≡ listOf (granuleAt s bytes) n
 unfolding granulesIn listOf granuleAt

@@ -70,7 +70,7 @@ pub data Goes (q : Request) (i : ℕ) (f : OpenFile) : Type 0 where
   on : f .used ≡ true → f .entry ≡ i → Goes q i f
   off : q ≡ Position RewindOffline → f ≡ idle → Goes q i f
 
-goes-used : (q : Request) (i : ℕ) (f : OpenFile) → Goes q i f → f .used ≡ true → f .entry ≡ i
+pub goes-used : (q : Request) (i : ℕ) (f : OpenFile) → Goes q i f → f .used ≡ true → f .entry ≡ i
 goes-used q i f (on u e) v = e
 goes-used q i f (off z e) v = both-ways (f .used) v (ap (λ (g : OpenFile). g .used) e)
 

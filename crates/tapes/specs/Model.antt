@@ -30,7 +30,7 @@ pub data Model : Type 0 where
   row : Row → Model
 
 unfoldable pub shapeOf : Entry → Shape
-shapeOf e = record { kind = e .kind; length = e .length; sectors = e .sectors; protected = isProtected e }
+shapeOf e = record { kind = e .kind; recordLength = e .length; sectors = e .sectors; protected = isProtected e }
 
 unfoldable pub modelOf : List ℕ → Entry → Model
 modelOf image e = elim (isFree e) [

@@ -22,10 +22,10 @@ pub record Row : Type 0 where
 -- "granule g begins s·g sectors into the extent"
 unfoldable pub granulesIn : Shape → List ℕ → ℕ → List (List ℕ)
 granulesIn f bytes zero = []
-granulesIn f bytes (suc n) = granulesIn f bytes n ++ (part bytes (byteOf (placeOf random (f .length) n)) (f .length) ∷ [])
+granulesIn f bytes (suc n) = granulesIn f bytes n ++ (part bytes (byteOf (placeOf random (f .recordLength) n)) (f .recordLength) ∷ [])
 
 unfoldable pub rowOf : Shape → List ℕ → Row
-rowOf f bytes = record { shape = f; isOpen = false; granules = granulesIn f bytes (capacity random (f .length) (f .sectors)) }
+rowOf f bytes = record { shape = f; isOpen = false; granules = granulesIn f bytes (capacity random (f .recordLength) (f .sectors)) }
 
 -- what a request is judged by
 unfoldable pub rowFacts : ℕ → List ℕ → ℕ → Row → Facts
@@ -33,7 +33,7 @@ rowFacts files given buffer w = record {
   legal = true;
   files = files;
   kind = w .shape .kind;
-  length = w .shape .length;
+  length = w .shape .recordLength;
   sectors = w .shape .sectors;
   protected = w .shape .protected;
   opened = w .isOpen;
@@ -57,7 +57,7 @@ rowDone Open given w = rowHolding w true (w .granules)
 rowDone Read given w = w
 rowDone Write given w = w
 rowDone (GranuleRead g) given w = w
-rowDone (GranuleWrite g) given w = rowHolding w true (set (w .granules) g (padded 0 (w .shape .length) given))
+rowDone (GranuleWrite g) given w = rowHolding w true (set (w .granules) g (padded 0 (w .shape .recordLength) given))
 rowDone (GranuleLook g) given w = w
 rowDone (Position WriteMark) given w = w
 rowDone (Position RewindOnline) given w = w

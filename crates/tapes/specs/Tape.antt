@@ -24,7 +24,8 @@ use Rattle.requests.specs.declared.Request.the-variants.{Open, Read, Write, Gra
 -- what no request changes of a file
 pub record Shape : Type 0 where
   pub kind : ℕ
-  pub length : ℕ
+  -- R
+  pub recordLength : ℕ
   pub sectors : ℕ
   pub protected : Bool
 
@@ -41,7 +42,7 @@ pub record Tape : Type 0 where
 
 -- record k of a file of kind 1 or 2
 unfoldable pub fixedRecord : Shape → List ℕ → ℕ → Recorded
-fixedRecord f bytes k = record { bytes = part bytes (byteOf (placeOf (f .kind) (f .length) k)) (f .length); behind = origin }
+fixedRecord f bytes k = record { bytes = part bytes (byteOf (placeOf (f .kind) (f .recordLength) k)) (f .recordLength); behind = origin }
 
 unfoldable pub fixedRecords : Shape → List ℕ → ℕ → List Recorded
 fixedRecords f bytes zero = []
@@ -50,7 +51,7 @@ fixedRecords f bytes (suc n) = fixedRecords f bytes n ++ (fixedRecord f bytes n 
 -- its first n records
 unfoldable pub recordsIn : Shape → List ℕ → ℕ → List Recorded
 recordsIn f bytes n = elim (eqb (f .kind) compressed) [
-  | true ↦ recordsOf (walk (f .length) (f .sectors) bytes n origin)
+  | true ↦ recordsOf (walk (f .recordLength) (f .sectors) bytes n origin)
   | false ↦ fixedRecords f bytes n
 ]
 
@@ -61,14 +62,14 @@ tapeOf f m count bytes = record { shape = f; isOpen = false; records = recordsIn
 
 -- the length of the code of the bytes given, where they may be a record of a compressed file
 unfoldable pub recordCode : Shape → List ℕ → ℕ
-recordCode f given = elim (eqb (f .kind) compressed && leb (length given) (f .length)) [ true ↦ length (codeOf (f .length) given) | false ↦ 0 ]
+recordCode f given = elim (eqb (f .kind) compressed && leb (length given) (f .recordLength)) [ true ↦ length (codeOf (f .recordLength) given) | false ↦ 0 ]
 
 unfoldable pub tapeFacts : ℕ → List ℕ → ℕ → Tape → Facts
 tapeFacts files given buffer t = record {
   legal = true;
   files = files;
   kind = t .shape .kind;
-  length = t .shape .length;
+  length = t .shape .recordLength;
   sectors = t .shape .sectors;
   protected = t .shape .protected;
   opened = t .isOpen;
@@ -96,9 +97,9 @@ padByte kind = elim (eqb kind compressed) [ true ↦ blank | false ↦ 0 ]
 -- the record that is written, and in a compressed file the place behind it
 unfoldable pub newRecord : List ℕ → Tape → Recorded
 newRecord given t = record {
-  bytes = padded (padByte (t .shape .kind)) (t .shape .length) given;
+  bytes = padded (padByte (t .shape .kind)) (t .shape .recordLength) given;
   behind = elim (eqb (t .shape .kind) compressed) [
-    | true ↦ behindNew (behind (t .records) (t .position)) (length (codeOf (t .shape .length) given))
+    | true ↦ behindNew (behind (t .records) (t .position)) (length (codeOf (t .shape .recordLength) given))
     | false ↦ origin
   ];
 }

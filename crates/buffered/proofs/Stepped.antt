@@ -1,0 +1,294 @@
+-- A request is what its verdict says: in a legal session the scene that is judged, with the held sector lent, is the engine's own; and each answer
+-- is its own case of the step.
+use mathlib.Core.Path.{_≡_, refl, sym, ap, _∙_}
+use mathlib.Core.Logic.{_⊎_, inl, inr}
+use mathlib.Core.Bool.{Bool, true, false, _&&_, _||_, not}
+use mathlib.Core.List.{List, []}
+use Prim.Native.Nat.{ℕ, _+_, _*_, _≤_, _<_}
+use native.Mathlib.Omega.{arith}
+use native.Mathlib.Decide.{decLt}
+use lib.Dec.{eqb}
+use lib.Seq.{sets}
+use lib.ListN.{length, getD, set, List·getD-map, List·getD-eq-default}
+use borrow.Author.Tests.{eq-eqb, not-true}
+use Rattle.geometry.specs.Bytes.{part, lay}
+use Rattle.geometry.specs.Lists.{every, firstWith}
+use Rattle.geometry.specs.Sizes.{sector, entries, blocked, compressed}
+use Rattle.geometry.proofs.Bytes.{part-all}
+use Rattle.geometry.proofs.Tests.{either, both-ways, and-both, first-holds}
+use Rattle.directory.specs.Entries.{entryAt, isKind}
+use Rattle.directory.proofs.Table.{getD-any}
+use Rattle.packing.specs.Reading.{overlaid, startOf}
+use Rattle.requests.specs.Judge.{judge}
+use Rattle.sessions.specs.Session.{idle, fresh, bare, fileOf, slotOf, openFiles, extent, extentWith, heldGood, legal, bufferedLegal}
+use Rattle.sessions.proofs.Files.{Finds, opened, closed, finds}
+use Rattle.sessions.proofs.Legal.{bare-legal, held-inside}
+use Rattle.steps.specs.Effects.{Bench, effects, bufferedAll}
+use Rattle.steps.specs.Next.{Scene, codeLength, factsOf}
+use Rattle.steps.specs.Step.{heldOf, kept, bufferedScene, bufferedAnswer, bufferedAfter, bufferedStep}
+use Rattle.steps.proofs.Inside.{AllSuit}
+use Rattle.steps.specs.Verdict.{seenBytes, seenScene, entryNext, fileNext, bufferNext, answerOf, verdictOf}
+use Rattle.straight.specs.Straight.{codeGiven, Encoded}
+use Rattle.straight.proofs.Judged.{judgement, judged, buffer-judged}
+use Rattle.held.specs.Held.{bench}
+use Rattle.buffered.specs.Buffered.{sceneWith, Found, stateAt, lentBy}
+use Rattle.buffered.proofs.Goes.{right, there, room, suits, lies-in, encoded}
+use Rattle.directory.specs.declared.Entry.{Entry}
+use Rattle.requests.specs.declared.Request.{Request}
+use Rattle.requests.specs.declared.Answer.{Answer}
+use Rattle.requests.specs.declared.Answer.the-variants.{Done, Met, Refused}
+use Rattle.requests.specs.declared.Edge.{Edge}
+use Rattle.requests.specs.declared.Refusal.{Refusal}
+use Rattle.sessions.specs.declared.BufferedFile.{BufferedFile}
+use Rattle.sessions.specs.declared.BufferedSession.{BufferedSession}
+use Rattle.sessions.specs.declared.OpenFile.{OpenFile}
+use Rattle.sessions.specs.declared.Session.{Session}
+use Rattle.steps.specs.declared.Verdict.{Verdict}
+
+-- ---- what is lent
+
+pub lent : (b : BufferedFile) (n : ℕ) → length (b .buffer) ≡ sector → ((b .holds ≡ true) × (n ≡ sector)) ⊎ ((b .holds ≡ false) × (n ≡ 0)) → part (b .buffer) 0 n ≡ lentBy b
+unfolding lentBy part
+lent b n l (inl h) = rw (h .0, h .1, lentBy) (part-all (b .buffer) sector l)
+lent b n l (inr h) = rw (h .0, h .1, lentBy)
+
+-- a case whose test is known
+chosen : {A : Type 0} (t : Bool) (x y : A) → t ≡ true → elim t [ true ↦ x | false ↦ y ] ≡ x
+chosen true x y h = refl
+chosen false x y h = both-ways false h refl
+
+not-chosen : {A : Type 0} (t : Bool) (x y : A) → t ≡ false → elim t [ true ↦ x | false ↦ y ] ≡ y
+not-chosen true x y h = both-ways true refl h
+not-chosen false x y h = refl
+
+nothing-over : (e : Entry) (f : OpenFile) (bytes : List ℕ) (held : ℕ) → seenBytes e f bytes held [] ≡ bytes
+unfolding seenBytes overlaid
+nothing-over e f bytes held = either (f .used && (isKind blocked e || isKind compressed e))
+    (λ (t : f .used && (isKind blocked e || isKind compressed e) ≡ true). rw (t, seenBytes))
+    (λ (t : f .used && (isKind blocked e || isKind compressed e) ≡ false). rw (t, seenBytes))
+
+-- the held sector is seen where it is held, if only a file that has a buffer holds one
+seen-held : (e : Entry) (f : OpenFile) (b : BufferedFile) (image : List ℕ) → length (b .buffer) ≡ sector
+    → (b .holds ≡ true → f .used && (isKind blocked e || isKind compressed e) ≡ true) → seenBytes e f (extent e image) (b .held) (lentBy b) ≡ extentWith e b image
+unfolding seenBytes overlaid lentBy extentWith
+seen-held e f b image l h = either (b .holds)
+    (λ (t : b .holds ≡ true).
+    let p : lentBy b ≡ b .buffer = chosen (b .holds) (b .buffer) [] t in
+    chosen (f .used && (isKind blocked e || isKind compressed e)) (overlaid (extent e image) (b .held) (lentBy b)) (extent e image) (h t)
+    ∙ ap (overlaid (extent e image) (b .held)) p
+    ∙ chosen (eqb (length (b .buffer)) sector) (lay (extent e image) (sector * b .held) (b .buffer)) (extent e image) (eq-eqb _ _ l)
+    ∙ sym (chosen (b .holds) (lay (extent e image) (sector * b .held) (b .buffer)) (extent e image) t))
+    (λ (t : b .holds ≡ false).
+    let p : lentBy b ≡ [] = not-chosen (b .holds) (b .buffer) [] t in
+    ap (λ (xs : List ℕ). seenBytes e f (extent e image) (b .held) xs) p
+    ∙ nothing-over e f (extent e image) (b .held)
+    ∙ sym (not-chosen (b .holds) (lay (extent e image) (sector * b .held) (b .buffer)) (extent e image) t))
+
+-- ---- the state of an entry
+
+-- whatever is put past the end of the states, if it is not in use
+module _ (files : List BufferedFile) (k : ℕ) (d : BufferedFile) where
+  pub state-used : k < length files → getD files k d .file .used ≡ true → getD files k d ≡ stateAt files k
+  unfolding stateAt
+  state-used l h =
+      let p : getD files k d ≡ getD files k (fresh idle) = getD-any files k d (fresh idle) l in
+      p ∙ sym (chosen (getD files k (fresh idle) .file .used) (getD files k (fresh idle)) (fresh idle) (rw p at h))
+
+  pub state-unused : d .file .used ≡ false → getD files k d .file .used ≡ false → fresh idle ≡ stateAt files k
+  unfolding stateAt
+  state-unused z h = sym (not-chosen (getD files k (fresh idle) .file .used) (getD files k (fresh idle)) (fresh idle) (go (decLt k (length files))))
+    where
+      go : Dec (k < length files) → getD files k (fresh idle) .file .used ≡ false
+      go (yes l) = rw (getD-any files k (fresh idle) d l) h
+      go (no l) = ap (λ (b : BufferedFile). b .file .used) (List·getD-eq-default files (fresh idle) (omega arith))
+
+pub kept-open : (f : OpenFile) (b : BufferedFile) → f .used ≡ true → record { file = f; holds = b .holds; held = b .held; changed = b .changed; buffer = b .buffer } ≡ kept f b
+unfolding kept
+kept-open f b h = sym (chosen (f .used) _ _ h)
+
+pub kept-closed : (f : OpenFile) (b : BufferedFile) → f .used ≡ false → fresh f ≡ kept f b
+unfolding kept
+kept-closed f b h = sym (not-chosen (f .used) _ _ h)
+
+module _ (s : BufferedSession) (i : ℕ) where
+  abbrev k : ℕ
+  k = slotOf (bare s .files) i
+
+  abbrev f : OpenFile
+  f = fileOf (bare s .files) i
+
+  abbrev b : BufferedFile
+  b = getD (s .files) k (fresh idle)
+
+  bare-at : getD (bare s .files) k idle ≡ b .file
+  unfolding bare
+  bare-at = List·getD-map (λ f. f .file) (s .files) k (fresh idle)
+
+  -- it is in use where the entry is open
+  in-use : f .used ≡ b .file .used
+  in-use = go (finds (bare s .files) i)
+    where
+      unused : (n : ℕ) → n ≡ firstWith (λ f. not (f .used)) (bare s .files) → Dec (n < length (bare s .files)) → getD (bare s .files) n idle .used ≡ false
+      unused n h (yes l) = rw h (not-true _ (first-holds (λ f. not (f .used)) (bare s .files) idle (rw h at l)))
+      unused n h (no l) = ap (λ (f : OpenFile). f .used) (List·getD-eq-default (bare s .files) idle (omega arith))
+
+      go : Finds (bare s .files) i → f .used ≡ b .file .used
+      go (opened h p u e n) = ap (λ (f : OpenFile). f .used) (p ∙ bare-at)
+      go (closed p h n) = ap (λ (f : OpenFile). f .used) p ∙ sym (unused k h (decLt k (length (bare s .files)))) ∙ ap (λ (f : OpenFile). f .used) bare-at
+
+  state-is : stateAt (s .files) k ≡ heldOf s i
+  unfolding stateAt heldOf
+  state-is = ap (λ (t : Bool). elim t [ true ↦ b | false ↦ fresh idle ]) (sym in-use)
+
+  pub slot-told : (bares : List OpenFile) (n : ℕ) → bares ≡ bare s .files → n ≡ slotOf bares i → n ≡ k
+  slot-told bares n o h = h ∙ ap (λ (fs : List OpenFile). slotOf fs i) o
+
+  pub state-told : (n : ℕ) (x : BufferedFile) → n ≡ k → x ≡ stateAt (s .files) n → x ≡ heldOf s i
+  state-told n x h z = z ∙ ap (stateAt (s .files)) h ∙ state-is
+
+  pub held-file : heldOf s i .file ≡ f
+  held-file = go (finds (bare s .files) i)
+    where
+      go : Finds (bare s .files) i → heldOf s i .file ≡ f
+      go (opened h p u e n) = unfold heldOf in ap (λ (b : BufferedFile). b .file) (chosen (f .used) b (fresh idle) u) ∙ sym (p ∙ bare-at)
+      go (closed p h n) = unfold heldOf in ap (λ (b : BufferedFile). b .file) (not-chosen (f .used) b (fresh idle) (ap (λ (f : OpenFile). f .used) p)) ∙ sym p
+
+  -- only an open blocked or compressed file holds a sector
+  only-buffers : (image : List ℕ) → bufferedLegal image s ≡ true → heldOf s i .holds ≡ true
+      → f .used && (isKind blocked (entryAt (s .table) i) || isKind compressed (entryAt (s .table) i)) ≡ true
+  only-buffers image ok h = go (finds (bare s .files) i)
+    where
+      go : Finds (bare s .files) i → f .used && (isKind blocked (entryAt (s .table) i) || isKind compressed (entryAt (s .table) i)) ≡ true
+      go (opened l p u e n) =
+          let q : f ≡ b .file = p ∙ bare-at in
+          let o : heldOf s i ≡ b = unfold heldOf in chosen (f .used) b (fresh idle) u in
+          and-both _ _ u (held-inside image s ok k b (entryAt (s .table) i) refl (ap (entryAt (s .table)) (sym e ∙ ap (λ (f : OpenFile). f .entry) q)) (ap (λ (f : OpenFile). f .used) (sym q) ∙ u) (ap (λ (b : BufferedFile). b .holds) (sym o) ∙ h) .0)
+      go (closed p l n) =
+          let o : heldOf s i ≡ fresh idle = unfold heldOf in not-chosen (f .used) b (fresh idle) (ap (λ (f : OpenFile). f .used) p) in
+          both-ways (heldOf s i .holds) h (ap (λ (b : BufferedFile). b .holds) o)
+
+-- ---- each answer
+
+module _ (image : List ℕ) (s : BufferedSession) (i : ℕ) (q : Request) (given buffer : List ℕ) where
+  abbrev c : Scene
+  c = bufferedScene image s i given
+
+  abbrev held : BufferedFile
+  held = heldOf s i
+
+  abbrev ok : Bool
+  ok = bufferedLegal image s
+
+  abbrev files : ℕ
+  files = openFiles (bare s .files)
+
+  abbrev a : Answer
+  a = judge q (factsOf ok files (length buffer) q c)
+
+  abbrev j : Verdict
+  j = judgement ok files (length buffer) q c
+
+  abbrev n : ℕ
+  n = length (codeGiven (entryAt (s .table) i) given)
+
+  abbrev found : Scene
+  found = seenScene image (bare s) (held .held) (lentBy held) i given
+
+  seen : length (held .buffer) ≡ sector → ok ≡ true → found ≡ c
+  unfolding seenScene bufferedScene bare
+  seen l h = rw (seen-held (entryAt (s .table) i) (fileOf (bare s .files) i) held image l (only-buffers s i image h))
+
+  right-code : ok ≡ true → n ≡ codeLength (entryAt (s .table) i) given
+  unfolding bare
+  right-code = right image (bare s) ok (bare-legal image s) i [] given
+
+  verdict-is : length (held .buffer) ≡ sector
+      → verdictOf (legal image (bare s) && every (heldGood (s .table)) (s .files)) files (length buffer) n q found ≡ j
+  unfolding seenScene bufferedScene bufferedLegal bare
+  verdict-is l = judged files (length buffer) q ok n found c refl refl (seen l) right-code
+
+  buffer-is : length (held .buffer) ≡ sector
+      → bufferNext (answerOf (legal image (bare s) && every (heldGood (s .table)) (s .files)) files (length buffer) n q found) q found buffer ≡ bufferNext a q c buffer
+  unfolding seenScene bufferedScene bufferedLegal bare
+  buffer-is l = buffer-judged files (length buffer) q ok n found c (seen l) right-code buffer
+
+  -- the same, of what the program has found
+  module _ (bares : List OpenFile) (o : bares ≡ bare s .files) (sound : Bool) (t : sound ≡ every (heldGood (s .table)) (s .files)) (e : Entry) (x : e ≡ entryAt (s .table) i)
+      (b : BufferedFile) (h : b ≡ heldOf s i) (l : length (b .buffer) ≡ sector) (m : ℕ) (z : m ≡ length (codeGiven e given)) where
+    abbrev plain : Session
+    plain = record { table = s .table; files = bares }
+
+    abbrev met : Scene
+    met = seenScene image plain (b .held) (lentBy b) i given
+
+    pub verdict-told : verdictOf (legal image plain && sound) (openFiles bares) (length buffer) m q met ≡ j
+    unfolding bare
+    verdict-told = rw (o, t, h, z, x) (verdict-is (rw h at l))
+
+    pub buffer-told : bufferNext (answerOf (legal image plain && sound) (openFiles bares) (length buffer) m q met) q met buffer ≡ bufferNext a q c buffer
+    unfolding bare
+    buffer-told = rw (o, t, h, z, x) (buffer-is (rw h at l))
+
+  -- the scene that the effects go by
+  pub scene-is : sceneWith image i (entryAt (s .table) i) held given ≡ c
+  unfolding bufferedScene
+  scene-is = rw (held-file s i)
+
+  -- what a request answered 0 goes by
+  module _ (d : a ≡ Done) where
+    abbrev E : Entry
+    E = entryAt (s .table) i
+
+    goes-there : length (s .table) ≡ entries → i < entries
+    unfolding bufferedScene bare
+    goes-there = there image (bare s) ok (bare-legal image s) i (extentWith E held image) given files (length buffer) q d
+
+    goes-in-room : sector * (E .first + E .sectors) ≤ length image
+    unfolding bufferedScene bare
+    goes-in-room = room image (bare s) ok (bare-legal image s) i (extentWith E held image) given files (length buffer) q d
+
+    goes-suited : AllSuit E (effects q c)
+    unfolding bufferedScene bare
+    goes-suited = suits image (bare s) ok (bare-legal image s) i (extentWith E held image) given files (length buffer) q d
+
+    goes-found : (k : ℕ) → k ≡ j .file .here .sector → Found image q E held k
+    unfolding bufferedScene bare fileNext
+    goes-found k h w z =
+        h ∙ ap (λ (x : Answer). fileNext x q c .here .sector) d
+        ∙ lies-in image (bare s) ok (bare-legal image s) i (extentWith E held image) given files (length buffer) q d w z
+        ∙ ap (λ (f : OpenFile). startOf (extentWith E held image) (f .here) .sector) (sym (held-file s i))
+
+    goes-encoded : (room : List ℕ) → length room ≡ 135 → Encoded q E given (part (sets room 0 (codeGiven E given)) 0 n)
+    unfolding bufferedScene bare
+    goes-encoded = encoded image (bare s) ok (bare-legal image s) i (extentWith E held image) given files (length buffer) q d
+
+    pub act-told : length (s .table) ≡ entries → (e : Entry) → e ≡ entryAt (s .table) i → (b : BufferedFile) → b ≡ heldOf s i → (k : ℕ) → k ≡ j .file .here .sector
+        → (room : List ℕ) → length room ≡ 135 → (filled : List ℕ) → filled ≡ sets room 0 (codeGiven e given) → (m : ℕ) → m ≡ length (codeGiven e given)
+        → (code : List ℕ) → code ≡ part filled 0 m
+        → (i < entries) × (sector * (e .first + e .sectors) ≤ length image) × AllSuit e (effects q (sceneWith image i e b given)) × Found image q e b k × Encoded q e given code
+    act-told t e x b h k z room l filled r m p code y =
+        rw (x, h) (goes-there t, goes-in-room, rw scene-is goes-suited, goes-found k z, rw (y, r, p, x) (goes-encoded room l))
+
+  -- the session that the answer hands out, and all else that is behind it
+  module _ (v : Verdict) (v-is : v ≡ j) (old : List ℕ) (old-is : old ≡ bufferNext a q c buffer) where
+    abbrev told : (x : Answer) → v .answer ≡ x → a ≡ x
+    told x h = sym (ap (λ (v : Verdict). v .answer) v-is) ∙ h
+
+    module _ (k : ℕ) (k-is : k ≡ slotOf (bare s .files) i) (b : BufferedFile) (b-is : b ≡ heldOf s i) (y : BufferedFile) (fs : List BufferedFile) (fs-is : fs ≡ set (s .files) k y) where
+      pub done-told : v .answer ≡ Done → (e : Entry) → e ≡ entryAt (s .table) i → (new : List ℕ) (x : BufferedFile)
+          → bench new x ≡ bufferedAll (sceneWith image i e b given) (effects q (sceneWith image i e b given)) (bench image b)
+          → (t : List Entry) → t ≡ set (s .table) i (v .entry) → y ≡ kept (v .file) x
+          → record { answer = v .answer; image = new; session = record { table = t; files = fs }; buffer = old } ≡ bufferedStep image s i q given buffer
+      unfolding bufferedStep bufferedAnswer bufferedAfter entryNext fileNext bufferNext bufferedScene
+      done-told d e e-is new x w-is t t-is y-is =
+          let z : bench new x ≡ bufferedAll c (effects q c) (bench image held) = rw (e-is, b-is, scene-is) at w-is in
+          rw (fs-is, y-is, t-is, k-is, old-is, v-is, ap (λ (w : Bench). w .image) z, ap (λ (w : Bench). w .file) z) (rw (told Done d))
+
+      pub met-told : (x : Edge) → v .answer ≡ Met x → y ≡ kept (v .file) b
+          → record { answer = v .answer; image = image; session = record { table = s .table; files = fs }; buffer = old } ≡ bufferedStep image s i q given buffer
+      unfolding bufferedStep bufferedAnswer bufferedAfter fileNext bufferNext bufferedScene
+      met-told x d y-is = rw (fs-is, y-is, b-is, k-is, old-is, v-is) (rw (told (Met x) d))
+
+    pub refused-told : (x : Refusal) → v .answer ≡ Refused x → record { answer = v .answer; image = image; session = s; buffer = old } ≡ bufferedStep image s i q given buffer
+    unfolding bufferedStep bufferedAnswer bufferedAfter bufferNext
+    refused-told x d = rw (old-is, v-is) (rw (told (Refused x) d))

@@ -1,0 +1,132 @@
+-- How many sectors of the image each engine writes. "A blocking buffer of 360 bytes, put back before another sector takes it" is there to save
+-- them: of a blocked file's records that lie in one sector the plain engine writes each, the buffered engine all at once. As a statement over
+-- the two engines.
+use mathlib.Core.Path.{_≡_}
+use mathlib.Core.Bool.{Bool, true, false, _&&_}
+use mathlib.Core.List.{List, [], _∷_, _++_, map}
+use Prim.Native.Nat.{ℕ, _+_, _-_, _/_, _%_, _≤_}
+use lib.ListN.{length}
+use lib.Dec.{eqb}
+use Rattle.geometry.specs.Lists.{every}
+use Rattle.geometry.specs.Places.{perSector, sectorsFor}
+use Rattle.geometry.specs.Sizes.{blocked}
+use Rattle.directory.specs.Entries.{entryAt, isKind}
+use Rattle.sessions.specs.Session.{bare, fileOf}
+use Rattle.steps.specs.Effects.{Effect, hold, change, store, stamp, putBack, effects, Bench, bufferedDo}
+use Rattle.steps.specs.Next.{Scene}
+use Rattle.steps.specs.Step.{heldOf, plainScene, bufferedScene}
+use Rattle.tapes.specs.Model.{Asked}
+use Rattle.demands.specs.Engine.{Engine, plainEngine, bufferedEngine, Standing, answered, stepOf, reports}
+use Rattle.demands.specs.Demand2.{writing}
+use Rattle.requests.specs.declared.Answer.{Answer}
+use Rattle.requests.specs.declared.Answer.the-variants.{Done, Met, Refused}
+use Rattle.requests.specs.declared.Order.the-variants.{RewindOffline}
+use Rattle.requests.specs.declared.Request.{Request}
+use Rattle.requests.specs.declared.Request.the-variants.{Position}
+use Rattle.sessions.specs.declared.BufferedSession.{BufferedSession}
+use Rattle.sessions.specs.declared.Session.{Session}
+
+-- ---- the sectors that one effect writes
+
+-- straight: the sector that changes; as many as a record or granule takes; the directory's, for count and flags
+unfoldable pub plainWrites : Effect → ℕ
+plainWrites (hold k) = 0
+plainWrites (change x) = 1
+plainWrites (store k xs) = sectorsFor (length xs)
+plainWrites (stamp xs) = 1
+plainWrites putBack = 0
+
+-- a changed buffer goes back to its sector
+unfoldable pub backWrites : Bench → ℕ
+backWrites w = elim (w .file .holds && w .file .changed) [ true ↦ 1 | false ↦ 0 ]
+
+-- "put back before another sector takes it"; none for the one that is "held already"
+unfoldable pub takeWrites : ℕ → Bench → ℕ
+takeWrites k w = elim (w .file .holds && eqb (w .file .held) k) [ true ↦ 0 | false ↦ backWrites w ]
+
+-- by way of the buffer
+unfoldable pub bufferedWrites : Effect → Bench → ℕ
+bufferedWrites (hold k) w = takeWrites k w
+bufferedWrites (change x) w = takeWrites (x .place .sector) w
+bufferedWrites (store k xs) w = plainWrites (store k xs)
+bufferedWrites (stamp xs) w = plainWrites (stamp xs)
+bufferedWrites putBack w = backWrites w
+
+-- ---- one request
+
+-- a request not answered 0 has no effect on bytes
+unfoldable pub effectsOf : Answer → Request → Scene → List Effect
+effectsOf Done q c = effects q c
+effectsOf (Met x) q c = []
+effectsOf (Refused x) q c = []
+
+unfoldable pub plainSum : List Effect → ℕ
+plainSum [] = 0
+plainSum (x ∷ xs) = plainWrites x + plainSum xs
+
+unfoldable pub bufferedSum : Scene → List Effect → Bench → ℕ
+bufferedSum c [] w = 0
+bufferedSum c (x ∷ xs) w = bufferedWrites x w + bufferedSum c xs (bufferedDo c x w)
+
+-- what a request finds of its file: the image, and the buffer
+abbrev pub benchOf : Standing BufferedSession → ℕ → Bench
+benchOf w i = record { image = w .image; file = heldOf (w .session) i }
+
+unfoldable pub plainCount : Standing Session → Asked → ℕ
+plainCount w a = plainSum (effectsOf (answered plainEngine w a .answer) (a .request) (plainScene (w .image) (w .session) (a .entry) (a .given)))
+
+unfoldable pub bufferedCount : Standing BufferedSession → Asked → ℕ
+bufferedCount w a =
+    let c : Scene = bufferedScene (w .image) (w .session) (a .entry) (a .given) in
+    bufferedSum c (effectsOf (answered bufferedEngine w a .answer) (a .request) c) (benchOf w (a .entry))
+
+-- ---- a run
+
+-- the sum over a run of what `count` says of each request
+unfoldable pub inRun : (E : Engine) → (Standing (E .Session) → Asked → ℕ) → Standing (E .Session) → List Asked → ℕ
+inRun E count w [] = 0
+inRun E count w (a ∷ rest) = count w a + inRun E count (stepOf E w a) rest
+
+-- every request of a run is answered 0
+unfoldable pub allDone : (E : Engine) → Standing (E .Session) → List Asked → Bool
+allDone E w asked = every (λ r. eqb (r .number) 0) (reports E w asked)
+
+-- records written to entry i one behind another
+abbrev pub records : ℕ → List (List ℕ) → List Asked
+records i givens = map (writing i) givens
+
+-- and the file then closed
+abbrev pub closing : ℕ → Asked
+closing i = record { entry = i; request = Position RewindOffline; given = []; buffer = [] }
+
+-- ---- what is saved
+
+-- what is counted as none changes nothing
+pub record Counted : Type 0 where
+  pub plain : (w : Standing Session) (a : Asked) → plainCount w a ≡ 0 → answered plainEngine w a .image ≡ w .image
+  pub buffered : (w : Standing BufferedSession) (a : Asked) → bufferedCount w a ≡ 0 → answered bufferedEngine w a .image ≡ w .image
+
+-- entry i is a blocked file with q records in a sector, and stands at position p
+pub record BlockedAt (s : Session) (i p q : ℕ) : Type 0 where
+  pub kind : isKind blocked (entryAt (s .table) i) ≡ true
+  pub position : fileOf (s .files) i .position ≡ p
+  pub many : perSector (entryAt (s .table) i .length) ≡ q
+
+-- the records given are written there one behind another, each answered 0
+pub record Saving : Type 0 where
+  -- the plain engine writes a sector for each record
+  pub plain : (w : Standing Session) (i p q : ℕ) → BlockedAt (w .session) i p q → (givens : List (List ℕ)) → allDone plainEngine w (records i givens) ≡ true
+      → inRun plainEngine plainCount w (records i givens) ≡ length givens
+  -- the buffered engine the changed one that it held before, if that is another, and one each time that the next record lies in another sector
+  pub buffered : (w : Standing BufferedSession) (i p q : ℕ) → BlockedAt (bare (w .session)) i p q
+      → (given : List ℕ) (givens : List (List ℕ)) → allDone bufferedEngine w (records i (given ∷ givens)) ≡ true
+      → inRun bufferedEngine bufferedCount w (records i (given ∷ givens)) ≡ takeWrites (p / q) (benchOf w i) + ((p + length givens) / q - p / q)
+  -- so up to q records from a sector's first on write at most one sector, and none if nothing changed was held before
+  pub inSector : (w : Standing BufferedSession) (i p q : ℕ) → BlockedAt (bare (w .session)) i p q → p % q ≡ 0
+      → (givens : List (List ℕ)) → length givens ≤ q → allDone bufferedEngine w (records i givens) ≡ true
+      → (inRun bufferedEngine bufferedCount w (records i givens) ≤ 1)
+      × (heldOf (w .session) i .changed ≡ false → inRun bufferedEngine bufferedCount w (records i givens) ≡ 0)
+  -- and a whole file, written from the beginning on with nothing changed held, and closed: each of its sectors once, and the directory
+  pub whole : (w : Standing BufferedSession) (i q : ℕ) → BlockedAt (bare (w .session)) i 0 q → heldOf (w .session) i .changed ≡ false
+      → (given : List ℕ) (givens : List (List ℕ)) → allDone bufferedEngine w (records i (given ∷ givens) ++ (closing i ∷ [])) ≡ true
+      → inRun bufferedEngine bufferedCount w (records i (given ∷ givens) ++ (closing i ∷ [])) ≡ (length givens / q + 1) + 1
