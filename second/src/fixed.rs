@@ -584,57 +584,64 @@ fn tapes() -> Vec<Case> {
 // ---------------------------------------------------------------------------------------------
 // Bytes behind a record.
 
+/// A name, the rule, kind and R of a file of six sectors, and what is tried on it.
+const PADDINGS: [(&str, &str, u16, usize, &str); 6] = [
+    (
+        "padding-unblocked",
+        "Bytes behind R in its last sector are written as zero; short records \
+         are padded with zero",
+        UNBLOCKED,
+        400,
+        "open write:R write:2 write:362 rewind read*3 rewind write:398 close \
+         open read close",
+    ),
+    (
+        "padding-unblocked-sector",
+        "s = R/360 rounded up: 360 bytes are one sector",
+        UNBLOCKED,
+        360,
+        "open write:R write:2 write:358 rewind read*3 back write:2 read close",
+    ),
+    (
+        "padding-blocked",
+        "A write puts zero in every byte of the sector behind the record",
+        BLOCKED,
+        100,
+        "open write:R write:R write:R write:R rewind forward write:2 rewind \
+         read*3 write:4 close open read*4 close",
+    ),
+    (
+        "padding-blocked-tail",
+        "q = 360/R rounded down; zero in every byte of the sector behind the record",
+        BLOCKED,
+        180,
+        "open write:178 write:R write:2 rewind read*3 back*2 write:4 close open \
+         read*2 close",
+    ),
+    (
+        "padding-random",
+        "Bytes behind R are written as zero; short ... granules are padded with zero",
+        RANDOM,
+        722,
+        "open put:0 put:0:2 look:0 put:1:720 look:1 get:1 close",
+    ),
+    (
+        "padding-compressed",
+        "Short records ... are padded ..., in compressed files with blanks",
+        COMPRESSED,
+        80,
+        "open chars:2 write:2 text:AB.. text:.... blanks:2 rewind read*5 close \
+         open read*5 close",
+    ),
+];
+
 fn padding() -> Vec<Case> {
-    let one = |kind: u16, r: usize| Disk::used(8).file(0, kind, r, 6).image();
-    vec![
-        case(
-            "padding-unblocked",
-            "Bytes behind R in its last sector are written as zero; short records \
-             are padded with zero",
-            one(UNBLOCKED, 400),
-            400,
-            "open write:R write:2 write:362 rewind read*3 rewind write:398 close \
-             open read close",
-        ),
-        case(
-            "padding-unblocked-sector",
-            "s = R/360 rounded up: 360 bytes are one sector",
-            one(UNBLOCKED, 360),
-            360,
-            "open write:R write:2 write:358 rewind read*3 back write:2 read close",
-        ),
-        case(
-            "padding-blocked",
-            "A write puts zero in every byte of the sector behind the record",
-            one(BLOCKED, 100),
-            100,
-            "open write:R write:R write:R write:R rewind forward write:2 rewind \
-             read*3 write:4 close open read*4 close",
-        ),
-        case(
-            "padding-blocked-tail",
-            "q = 360/R rounded down; zero in every byte of the sector behind the record",
-            one(BLOCKED, 180),
-            180,
-            "open write:178 write:R write:2 rewind read*3 back*2 write:4 close open \
-             read*2 close",
-        ),
-        case(
-            "padding-random",
-            "Bytes behind R are written as zero; short ... granules are padded with zero",
-            one(RANDOM, 722),
-            722,
-            "open put:0 put:0:2 look:0 put:1:720 look:1 get:1 close",
-        ),
-        case(
-            "padding-compressed",
-            "Short records ... are padded ..., in compressed files with blanks",
-            one(COMPRESSED, 80),
-            80,
-            "open chars:2 write:2 text:AB.. text:.... blanks:2 rewind read*5 close \
-             open read*5 close",
-        ),
-    ]
+    let mut cases = Vec::new();
+    for (name, rule, kind, r, words) in PADDINGS {
+        let image = Disk::used(8).file(0, kind, r, 6).image();
+        cases.push(case(name, rule, image, r, words));
+    }
+    cases
 }
 
 // ---------------------------------------------------------------------------------------------
@@ -1218,75 +1225,74 @@ fn several_files() -> Vec<Case> {
 /// Opens and reads some entries of any image.
 const KNOCKING: &str = "open read @1 open @17 open look:0 mark @18 open @65535 open close";
 
+/// Reading and writing about the end of a file.
+const FAR: &str = "@17 open file-forward read file-back write write back*2 read mark
+    rewind read*2 forward file-forward file-back read close open read write close";
+
+/// A name, the rule, kind, R and count of a marked file of 181 sectors of zero bytes, and what is
+/// tried on it.
+const LIMITS: [(&str, &str, u16, usize, usize, &str); 6] = [
+    (
+        "blocked-full",
+        "181 sectors of 180 records of 2 bytes",
+        BLOCKED,
+        2,
+        32_580,
+        FAR,
+    ),
+    (
+        "blocked-one-left",
+        "write at p = capacity",
+        BLOCKED,
+        2,
+        32_579,
+        FAR,
+    ),
+    (
+        "compressed-full",
+        "181 sectors of 360 codes of one byte",
+        COMPRESSED,
+        2,
+        65_160,
+        FAR,
+    ),
+    (
+        "compressed-one-left",
+        "a coded record due in a sector past the extent",
+        COMPRESSED,
+        2,
+        65_159,
+        "@17 open file-forward file-back write blanks blanks read mark file-back blanks mark close",
+    ),
+    (
+        "compressed-over",
+        "kind 3's first \"count\" records decode one after another inside the extent",
+        COMPRESSED,
+        2,
+        65_161,
+        KNOCKING,
+    ),
+    (
+        "unblocked-far",
+        "Record k begins s·k sectors into the extent",
+        UNBLOCKED,
+        3_600,
+        17,
+        "@17 open file-forward file-back write:4 write:4 back*2 read*2 read close",
+    ),
+];
+
 fn limits() -> Vec<Case> {
-    let long = |kind: u16, count: usize| {
-        Disk::empty(182)
-            .file(17, kind, 2, 181)
-            .codes(count, &[])
-            .flags(MARKED)
-            .image()
-    };
-    let far = "@17 open file-forward read file-back write write back*2 read mark \
-               rewind read*2 forward file-forward file-back read close open read \
-               write close";
-    let mut cases = vec![
-        case(
-            "limit-blocked-full",
-            "181 sectors of 180 records of 2 bytes",
-            long(BLOCKED, 32_580),
-            2,
-            far,
-        ),
-        case(
-            "limit-blocked-one-left",
-            "write at p = capacity",
-            long(BLOCKED, 32_579),
-            2,
-            far,
-        ),
-        case(
-            "limit-compressed-full",
-            "181 sectors of 360 codes of one byte",
-            long(COMPRESSED, 65_160),
-            2,
-            far,
-        ),
-        case(
-            "limit-compressed-one-left",
-            "a coded record due in a sector past the extent",
-            long(COMPRESSED, 65_159),
-            2,
-            "@17 open file-forward file-back write blanks blanks read mark \
-             file-back blanks mark close",
-        ),
-        case(
-            "limit-compressed-over",
-            "kind 3's first \"count\" records decode one after another inside the extent",
-            long(COMPRESSED, 65_161),
-            2,
-            KNOCKING,
-        ),
-        case(
-            "limit-unblocked-far",
-            "Record k begins s·k sectors into the extent",
-            Disk::empty(182)
-                .file(17, UNBLOCKED, 3_600, 181)
-                .codes(17, &[])
-                .flags(MARKED)
-                .image(),
-            3_600,
-            "@17 open file-forward file-back write:4 write:4 back*2 read*2 read close",
-        ),
-    ];
+    let mut cases = Vec::new();
+    for (name, rule, kind, r, count, words) in LIMITS {
+        let disk = Disk::empty(182).file(17, kind, r, 181);
+        let image = disk.codes(count, &[]).flags(MARKED).image();
+        cases.push(case(format!("limit-{name}"), rule, image, r, words));
+    }
     for n in [1, 2, 3] {
         let rule = "An image is 360·N bytes, N from 1 to 4,096";
-        cases.push(case(
-            format!("limit-sectors-{n}"),
-            rule,
-            Disk::empty(n).image(),
-            80,
-            KNOCKING,
-        ));
+        let name = format!("limit-sectors-{n}");
+        cases.push(case(name, rule, Disk::empty(n).image(), 80, KNOCKING));
     }
     cases
 }
