@@ -1,0 +1,44 @@
+use borrow.Author.Needs.{needs}
+use Rattle.board.proofs.keep_held.Statement.{statement}
+use Rattle.board.proofs.keep_held.Tie as tie
+use Rattle.board.proofs.keep_held.Reads as reads
+use Rattle.board.proofs.keep_held.Lts as lts
+use Rattle.board.proofs.held_state.Reads as held-state-reads
+use Rattle.directory.proofs.entry_of.Reads as entry-of-reads
+use Rattle.storing.proofs.put_entry.Reads as put-entry-reads
+use Rattle.storing.proofs.put_held.Reads as put-held-reads
+
+-- src/lib.rt:157:9
+entry-of-requires : tie.Need-entry-of-requires
+entry-of-requires c κs = search needs
+
+-- src/lib.rt:158:9
+held-state-requires : tie.Need-held-state-requires
+held-state-requires c κs = search needs
+
+-- src/lib.rt:159:5
+put-entry-requires : tie.Need-put-entry-requires
+put-entry-requires c κs = search needs
+
+-- src/lib.rt:160:5
+put-held-requires : tie.Need-put-held-requires
+put-held-requires c κs = search needs
+
+-- src/lib.rt:151:1
+same-length : tie.Need-same-length
+same-length c = search needs
+
+-- src/lib.rt:151:1
+returns : tie.Need-returns
+returns c = ?
+
+pub keep-held-spec : {M : Type 1} → statement M
+keep-held-spec =
+    tie.close
+    (tie.spec
+    entry-of-requires
+    held-state-requires
+    put-entry-requires
+    put-held-requires
+    same-length
+    returns)
