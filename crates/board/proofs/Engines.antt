@@ -1,7 +1,7 @@
 -- Both engines are steady: a step sets one entry and one state, refuses with nothing changed, and gives 12 where the session is not legal.
 use mathlib.Core.Path.{_≡_, refl, sym, ap, _∙_, subst}
 use mathlib.Core.Bool.{Bool, true, false}
-use mathlib.Core.List.{List}
+use mathlib.Core.List.{List, map}
 use Prim.Native.Nat.{ℕ, _≤_, _<_}
 use native.Mathlib.Omega.{arith}
 use native.Mathlib.Decide.{decLt}
@@ -97,6 +97,11 @@ plain-steady = record {
 }
 
 -- ---- the engine with buffers
+
+-- a session's states without their buffers
+pub bare-files : (s : BufferedSession) → map (λ f. f .file) (s .files) ≡ bare s .files
+unfolding bare
+bare-files s = refl
 
 module _ (image : List ℕ) (s : BufferedSession) (q : Request) (c : Scene) (f : BufferedFile) (buffer : List ℕ) where
   abbrev next : Answer → BufferedSession

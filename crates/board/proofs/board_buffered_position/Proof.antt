@@ -1,5 +1,5 @@
 use mathlib.Core.Path.{ap, _∙_}
-use Rattle.sessions.specs.Session.{spotOf}
+use Rattle.sessions.specs.Session.{bare, spotOf}
 use Rattle.sessions.specs.declared.BufferedSession.{BufferedSession}
 use Rattle.sessions.specs.declared.Spot.{Spot}
 use Rattle.board.specs.Codes.{standing, recordAt}
@@ -27,7 +27,7 @@ tell-requires c κs = search needs
 -- src/lib.rt:227:1
 returns : tie.Need-returns
 returns c =
-    let s = c .before .before .position .ensures ∙ ap (λ (x : BufferedSession). spotOf x (c .before .before .before .before .before .args .entry)) (c .before .before .before .read-buffered .ensures) in
+    let s = c .before .before .position .ensures ∙ ap (λ (x : BufferedSession). spotOf (bare x) (c .before .before .before .before .before .args .entry)) (c .before .before .before .read-buffered .ensures) in
     (c .tell .ensures .0 ∙ ap standing s, c .tell .ensures .1 ∙ ap (λ (x : Spot). recordAt x (c .before .before .before .before .before .args .at .now)) s)
 
 pub board-buffered-position-spec : {M : Type 1} → statement M

@@ -1,3 +1,8 @@
+use mathlib.Core.Path.{_≡_, sym, ap, _∙_}
+use native.Mathlib.Omega.{arith}
+use lib.ListN.{length, List·getD-eq-default}
+use Rattle.sessions.specs.Session.{idle, fresh}
+use Rattle.directory.proofs.Table.{getD-any}
 use borrow.Author.Needs.{needs}
 use Rattle.board.proofs.held_state.Statement.{statement}
 use Rattle.board.proofs.held_state.Tie as tie
@@ -24,11 +29,17 @@ fresh-requires c κs = search needs
 
 -- src/lib.rt:144:1
 returns : tie.Need-returns
-returns c = ?
+returns c =
+    let a = c .before .before .args in
+    let n : length (a .t1) ≡ 4 = search needs in
+    getD-any (a .t1) (a .k) _ (fresh idle) (omega arith)
 
 -- src/lib.rt:144:1
 returns-2 : tie.Need-returns-2
-returns-2 c = ?
+returns-2 c =
+    let a = c .before .before .before .args in
+    let n : length (a .t1) ≡ 4 = search needs in
+    c .fresh .ensures ∙ ap fresh (c .before .idle .ensures) ∙ sym (List·getD-eq-default (a .t1) (fresh idle) (omega arith))
 
 pub held-state-spec : {M : Type 1} → statement M
 held-state-spec =

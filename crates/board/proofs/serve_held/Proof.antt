@@ -1,3 +1,16 @@
+use mathlib.Core.Path.{_≡_, ap, _∙_}
+use Prim.Native.Nat.{ℕ}
+use lib.ListN.{getD}
+use Rattle.directory.specs.Entries.{entryAt}
+use Rattle.sessions.specs.Session.{idle, fresh, bare, slotOf}
+use Rattle.sessions.specs.declared.BufferedSession.{BufferedSession}
+use Rattle.steps.specs.Step.{bufferedStep}
+use Rattle.buffered.specs.Buffered.{after}
+use Rattle.storing.specs.Stored.{layEntry, layHeld}
+use Rattle.board.specs.Board.{bufferedEngine}
+use Rattle.board.proofs.Served.{answers-low, answers-high}
+use Rattle.board.proofs.Engines.{bare-files, buffered-steady}
+use Rattle.storing.specs.Stored.{bufferedIn}
 use borrow.Author.Needs.{needs}
 use Rattle.board.proofs.serve_held.Statement.{statement}
 use Rattle.board.proofs.serve_held.Tie as tie
@@ -48,7 +61,13 @@ same-length-3 c = search needs
 
 -- src/lib.rt:164:1
 returns : tie.Need-returns
-returns c = ?
+returns c =
+    let a = c .before .before .before .before .before .before .before .before .before .before .before .before .before .before .before .before .before .before .before .before .before .before .before .args in
+    let r = c .before .before .before .before .before .before .before .before .before .before .before .before .before .before .request in
+    let s = c .before .before .before .before .before .before .before .before .before .before .before .before .before .before .before .before .before .read-buffered .ensures in
+    let k = c .before .before .keep-held .ensures in
+    let p : c .before .before .before .slot-of .result ≡ slotOf (bare (bufferedIn (a .b .now)) .files) (a .i) = c .before .before .before .slot-of .ensures ∙ ap (λ x. slotOf x (a .i)) (c .before .before .before .before .bare-files .ensures ∙ bare-files (c .before .before .before .before .before .before .before .before .before .before .before .before .before .before .before .before .before .read-buffered .result) ∙ ap (λ (x : BufferedSession). bare x .files) s) in
+    answers-low bufferedEngine buffered-steady (a .image .now) (a .b .now) (a .i) (a .q) (a .given .now) (a .buffer .now) (after (r .result) (r .last .0) (r .last .1 .1 .1 .1 .1 .0)) (r .ensures ∙ ap (λ (x : BufferedSession). bufferedStep (a .image .now) x (a .i) (a .q) (a .given .now) (a .buffer .now)) s) (c .before .before .before .before .before .before .before .before .before .number .result) (c .before .before .keep-held .last .0) (c .before .before .before .before .before .before .before .before .before .number .ensures) (search needs) (k .1, rw (← p) (k .2)) (k .0 ∙ ap (λ (n : ℕ). layHeld (layEntry (a .b .now) (a .i) (entryAt (r .result .session .table) (a .i))) n (getD (r .result .session .files) n (fresh idle))) p)
 
 -- src/lib.rt:164:1
 same-length-4 : tie.Need-same-length-4
@@ -64,7 +83,10 @@ same-length-6 c = search needs
 
 -- src/lib.rt:164:1
 returns-2 : tie.Need-returns-2
-returns-2 c = ?
+returns-2 c =
+    let a = c .before .before .before .before .before .before .before .before .before .before .before .before .before .before .before .args in
+    let r = c .before .before .before .before .before .before .request in
+    answers-high bufferedEngine buffered-steady (a .image .now) (a .b .now) (a .i) (a .q) (a .given .now) (a .buffer .now) (after (r .result) (r .last .0) (r .last .1 .1 .1 .1 .1 .0)) (r .ensures ∙ ap (λ (x : BufferedSession). bufferedStep (a .image .now) x (a .i) (a .q) (a .given .now) (a .buffer .now)) (c .before .before .before .before .before .before .before .before .before .read-buffered .ensures)) (c .before .number .result) (c .before .number .ensures) (search needs)
 
 pub serve-held-spec : {M : Type 1} → statement M
 serve-held-spec =
