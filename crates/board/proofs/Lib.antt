@@ -1,0 +1,5 @@
+pub mod Codes
+pub mod Served
+pub mod Engines
+pub mod Looks
+pub mod Mounts

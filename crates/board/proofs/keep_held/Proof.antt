@@ -1,0 +1,51 @@
+use mathlib.Core.Path.{sym, ap, _∙_}
+use lib.ListN.{length}
+use Rattle.storing.specs.Stored.{entryStored, heldStored, layHeld}
+use borrow.Author.Needs.{needs}
+use Rattle.board.proofs.keep_held.Statement.{statement}
+use Rattle.board.proofs.keep_held.Tie as tie
+use Rattle.board.proofs.keep_held.Reads as reads
+use Rattle.board.proofs.keep_held.Lts as lts
+use Rattle.board.proofs.held_state.Reads as held-state-reads
+use Rattle.directory.proofs.entry_of.Reads as entry-of-reads
+use Rattle.storing.proofs.put_entry.Reads as put-entry-reads
+use Rattle.storing.proofs.put_held.Reads as put-held-reads
+
+-- src/lib.rt:157:9
+entry-of-requires : tie.Need-entry-of-requires
+entry-of-requires c κs = search needs
+
+-- src/lib.rt:158:9
+held-state-requires : tie.Need-held-state-requires
+held-state-requires c κs = search needs
+
+-- src/lib.rt:159:5
+put-entry-requires : tie.Need-put-entry-requires
+put-entry-requires c κs = search needs
+
+-- src/lib.rt:160:5
+put-held-requires : tie.Need-put-held-requires
+put-held-requires c κs = search needs
+
+-- src/lib.rt:151:1
+same-length : tie.Need-same-length
+same-length c = search needs
+
+-- src/lib.rt:151:1
+returns : tie.Need-returns
+returns c =
+    let a = c .before .before .before .before .before .before .before .before .before .before .before .before .before .args in
+    let e = c .before .before .before .before .before .before .before .before .before .entry-of .ensures in
+    let f = c .before .before .before .before .before .before .before .before .held-state .ensures in
+    (c .before .before .put-held .ensures .0 ∙ ap (λ x. layHeld x (a .k) (c .before .before .before .before .before .before .before .before .held-state .result)) (c .before .before .before .before .before .before .put-entry .ensures .0) ∙ rw (e, f), ap (λ x. length (entryStored x)) (sym e) ∙ c .before .before .before .before .before .before .put-entry .ensures .1, ap (λ x. length (heldStored x)) (sym f) ∙ c .before .before .put-held .ensures .1)
+
+pub keep-held-spec : {M : Type 1} → statement M
+keep-held-spec =
+    tie.close
+    (tie.spec
+    entry-of-requires
+    held-state-requires
+    put-entry-requires
+    put-held-requires
+    same-length
+    returns)

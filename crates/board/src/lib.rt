@@ -1,0 +1,395 @@
+// The board for C: both engines on a lent image, with the session in lent bytes. include/lleuadrys.h has the declarations.
+use coding::Coded;
+use directory::Entry;
+use directory::entry_of;
+use geometry::Geometry;
+use requests::Answer;
+use requests::Order;
+use requests::Request;
+use requests::number;
+use sessions::BufferedFile;
+use sessions::BufferedSession;
+use sessions::OpenFile;
+use sessions::Session;
+use sessions::Spot;
+use sessions::bare_files;
+use sessions::fresh;
+use sessions::idle;
+use sessions::slot_of;
+use storing::Form;
+use storing::put_entry;
+use storing::put_file;
+use storing::put_held;
+use storing::read_buffered;
+use storing::read_session;
+use storing::write_buffered;
+use storing::write_session;
+ghost use mathlib.Core.Path.{_≡_};
+ghost use Prim.Native.Nat.{_+_, _*_};
+ghost use lib.ListN.{length, getD};
+ghost use lib.Seq.{sets};
+ghost use Rattle.coding.specs.Decode as Decode;
+ghost use Rattle.coding.specs.Encode as Encode;
+ghost use Rattle.listing.specs.Listing.{listing};
+ghost use Rattle.geometry.specs.Places.{placeOf, byteOf};
+ghost use Rattle.geometry.specs.Sizes.{random};
+ghost use Rattle.geometry.specs.Sizes as Sizes;
+ghost use Rattle.directory.specs.Entries.{entryAt};
+ghost use Rattle.sessions.specs.Session.{idle, fresh};
+ghost use Rattle.storing.specs.Stored.{entryStored, heldStored, layEntry, layFile, layHeld};
+ghost use Rattle.board.specs.declared.Asked.the-variants.{For};
+ghost use Rattle.board.specs.Codes.{askedFor, unknownNumber, standing, recordAt, codeSize};
+ghost use Rattle.board.specs.Board.{plainEngine, bufferedEngine, left, requested, mountNumber, mountBytes, lookSize, lookPlace};
+
+// ---- numbers for C
+
+// What a code asks for.
+pub enum Asked {
+    For(Request),
+    Unknown,
+}
+
+// The request of that code; g is the granule's number.
+fn by_code(code: u16, g: u32) -> Asked
+    ensures { λ r. ⌜ r ≡ askedFor code g ⌝ }
+{
+    match code {
+        1 => Asked::For(Request::Open),
+        2 => Asked::For(Request::Read),
+        3 => Asked::For(Request::Write),
+        4 => Asked::For(Request::GranuleRead(g)),
+        5 => Asked::For(Request::GranuleWrite(g)),
+        6 => Asked::For(Request::GranuleLook(g)),
+        7 => Asked::For(Request::Position(Order::WriteMark)),
+        8 => Asked::For(Request::Position(Order::RewindOnline)),
+        9 => Asked::For(Request::Position(Order::RewindOffline)),
+        10 => Asked::For(Request::Position(Order::RecordForward)),
+        11 => Asked::For(Request::Position(Order::RecordBack)),
+        12 => Asked::For(Request::Position(Order::FileForward)),
+        13 => Asked::For(Request::Position(Order::FileBack)),
+        _ => Asked::Unknown,
+    }
+}
+
+// The number of a code that names no request, where a look gives that answer.
+fn unknown(look: Answer) -> u16
+    ensures { λ r. ⌜ r ≡ unknownNumber look ⌝ }
+{
+    let n = number(look);
+    if 8 <= n { n } else { 7 }
+}
+
+// Where a file stands: 0 not open, 1 open, 2 open and beyond the mark; its record goes into at.
+fn tell(spot: Spot, at: &mut u32) -> u16
+    ensures { λ r. ⌜ (r ≡ standing spot) × (now (at .exit) ≡ recordAt spot (now (at .entry))) ⌝ }
+{
+    match spot {
+        Spot::Closed => 0,
+        Spot::At { record, beyond } => {
+            *at = record;
+            if beyond { 2 } else { 1 }
+        }
+    }
+}
+
+// ---- the engine with no buffer
+
+// The state of number k; idle where there is none.
+fn state(files: [OpenFile; 4], k: usize) -> OpenFile
+    ensures { λ r. ⌜ r ≡ getD files k idle ⌝ }
+{
+    if k < 4 { files[k] } else { idle() }
+}
+
+// Lays entry i and state k of a session over its bytes.
+fn keep(b: &mut [u8], i: usize, k: usize, s: Session)
+    ensures { λ _. ⌜ (now (b .exit) ≡ layFile (layEntry (now (b .entry)) i (entryAt (s .table) i)) k (getD (s .files) k idle))
+        × (length (entryStored (entryAt (s .table) i)) ≡ 22) ⌝ }
+{
+    let t = s.table;
+    let files = s.files;
+    let e = entry_of(t, i);
+    let f = state(files, k);
+    put_entry(b, i, e);
+    put_file(b, k, f);
+}
+
+// A request. Answers 0 to 2 change at most the entry and the state of that number.
+fn serve(
+    image: &mut [u8],
+    b: &mut [u8],
+    i: usize,
+    q: Request,
+    given: &[u8],
+    buffer: &mut [u8],
+) -> u16
+    ensures { λ r. ⌜ left r (now (image .exit)) (now (b .exit)) (now (buffer .exit))
+        ≡ requested plainEngine (now (image .entry)) (now (b .entry)) i (For q) (now (given .entry)) (now (buffer .entry)) ⌝ }
+{
+    let s = read_session(b);
+    let r = plain::request(image, s, i, q, given, buffer);
+    let a = r.answer;
+    let n = number(a);
+    if n <= 2 {
+        let files = s.files;
+        let next = r.session;
+        keep(b, i, slot_of(files, i), next);
+    }
+    n
+}
+
+// ---- the engine with buffers
+
+// The state of number k with its buffer; idle where there is none.
+fn held_state(files: [BufferedFile; 4], k: usize) -> BufferedFile
+    ensures { λ r. ⌜ r ≡ getD files k (fresh idle) ⌝ }
+{
+    if k < 4 { files[k] } else { fresh(idle()) }
+}
+
+// Lays entry i and state k of a session over its bytes.
+fn keep_held(b: &mut [u8], i: usize, k: usize, s: BufferedSession)
+    ensures { λ _. ⌜ (now (b .exit) ≡ layHeld (layEntry (now (b .entry)) i (entryAt (s .table) i)) k (getD (s .files) k (fresh idle)))
+        × (length (entryStored (entryAt (s .table) i)) ≡ 22) × (length (heldStored (getD (s .files) k (fresh idle))) ≡ 396) ⌝ }
+{
+    let t = s.table;
+    let files = s.files;
+    let e = entry_of(t, i);
+    let f = held_state(files, k);
+    put_entry(b, i, e);
+    put_held(b, k, f);
+}
+
+// A request. Answers 0 to 2 change at most the entry and the state of that number.
+fn serve_held(
+    image: &mut [u8],
+    b: &mut [u8],
+    i: usize,
+    q: Request,
+    given: &[u8],
+    buffer: &mut [u8],
+) -> u16
+    ensures { λ r. ⌜ left r (now (image .exit)) (now (b .exit)) (now (buffer .exit))
+        ≡ requested bufferedEngine (now (image .entry)) (now (b .entry)) i (For q) (now (given .entry)) (now (buffer .entry)) ⌝ }
+{
+    let s = read_buffered(b);
+    let r = buffered::request(image, s, i, q, given, buffer);
+    let a = r.answer;
+    let n = number(a);
+    if n <= 2 {
+        let files = s.files;
+        let next = r.session;
+        keep_held(b, i, slot_of(bare_files(files), i), next);
+    }
+    n
+}
+
+// Where granule g of an entry begins in the image.
+fn granule_at(e: Entry, g: u32) -> usize
+    ensures { λ r. ⌜ r ≡ Sizes.sector * e .first + byteOf (placeOf random (e .length) g) ⌝ }
+{
+    let k = Geometry::sector_of_record(Geometry::RANDOM, e.length, g);
+    Geometry::SECTOR * ((e.first as usize) + k)
+}
+
+// ---- the calls from C, with no buffer
+
+// How many bytes a session takes.
+#[no_mangle]
+pub extern "C" fn board_session_size() -> usize
+    ensures { λ r. ⌜ r ≡ plainEngine .size ⌝ }
+{
+    Form::SESSION
+}
+
+// Mounts an image; its number.
+#[no_mangle]
+pub extern "C" fn board_mount(image: &[u8], session: &mut [u8]) -> u16
+    ensures { λ r. ⌜ (r ≡ mountNumber plainEngine (now (image .entry)) (now (session .entry)))
+        × (now (session .exit) ≡ mountBytes plainEngine (now (image .entry)) (now (session .entry))) ⌝ }
+{
+    if session.len() != Form::SESSION {
+        return 12;
+    }
+    let m = plain::mount(image);
+    let a = m.answer;
+    let n = number(a);
+    if n == 0 {
+        let s = m.session;
+        write_session(session, s);
+    }
+    n
+}
+
+// A request by its code on that entry; its number.
+#[no_mangle]
+pub extern "C" fn board_request(
+    image: &mut [u8],
+    session: &mut [u8],
+    entry: usize,
+    code: u16,
+    granule: u32,
+    given: &[u8],
+    buffer: &mut [u8],
+) -> u16
+    ensures { λ r. ⌜ left r (now (image .exit)) (now (session .exit)) (now (buffer .exit))
+        ≡ requested plainEngine (now (image .entry)) (now (session .entry)) entry (askedFor code granule) (now (given .entry)) (now (buffer .entry)) ⌝ }
+{
+    match by_code(code, granule) {
+        Asked::For(q) => serve(image, session, entry, q, given, buffer),
+        Asked::Unknown => {
+            let s = read_session(session);
+            unknown(plain::look_number(image, s, entry, 0))
+        }
+    }
+}
+
+// Looks at a granule in place: the number of its bytes, 0 where the look is refused; where they begin goes into at.
+#[no_mangle]
+pub extern "C" fn board_look(
+    image: &[u8],
+    session: &[u8],
+    entry: usize,
+    granule: u32,
+    at: &mut usize,
+) -> usize
+    ensures { λ r. ⌜ (r ≡ lookSize plainEngine (now (image .entry)) (now (session .entry)) entry granule)
+        × (now (at .exit) ≡ lookPlace plainEngine (now (image .entry)) (now (session .entry)) entry granule (now (at .entry))) ⌝ }
+{
+    let s = read_session(session);
+    let a = plain::look_number(image, s, entry, granule);
+    if number(a) == 0 {
+        let t = s.table;
+        let e = entry_of(t, entry);
+        *at = granule_at(e, granule);
+        e.length as usize
+    } else {
+        0
+    }
+}
+
+// Where an entry's file stands: 0 not open, 1 open, 2 open and beyond the mark; its record goes into at.
+#[no_mangle]
+pub extern "C" fn board_position(session: &[u8], entry: usize, at: &mut u32) -> u16
+    ensures { λ r. ⌜ (r ≡ standing (plainEngine .spot (plainEngine .read (now (session .entry))) entry))
+        × (now (at .exit) ≡ recordAt (plainEngine .spot (plainEngine .read (now (session .entry))) entry) (now (at .entry))) ⌝ }
+{
+    let s = read_session(session);
+    tell(plain::position(s, entry), at)
+}
+
+// ---- the calls from C, with buffers
+
+// How many bytes a session takes.
+#[no_mangle]
+pub extern "C" fn board_buffered_session_size() -> usize
+    ensures { λ r. ⌜ r ≡ bufferedEngine .size ⌝ }
+{
+    Form::BUFFERED
+}
+
+// Mounts an image; its number.
+#[no_mangle]
+pub extern "C" fn board_buffered_mount(image: &[u8], session: &mut [u8]) -> u16
+    ensures { λ r. ⌜ (r ≡ mountNumber bufferedEngine (now (image .entry)) (now (session .entry)))
+        × (now (session .exit) ≡ mountBytes bufferedEngine (now (image .entry)) (now (session .entry))) ⌝ }
+{
+    if session.len() != Form::BUFFERED {
+        return 12;
+    }
+    let m = buffered::mount(image);
+    let a = m.answer;
+    let n = number(a);
+    if n == 0 {
+        let s = m.session;
+        write_buffered(session, s);
+    }
+    n
+}
+
+// A request by its code on that entry; its number.
+#[no_mangle]
+pub extern "C" fn board_buffered_request(
+    image: &mut [u8],
+    session: &mut [u8],
+    entry: usize,
+    code: u16,
+    granule: u32,
+    given: &[u8],
+    buffer: &mut [u8],
+) -> u16
+    ensures { λ r. ⌜ left r (now (image .exit)) (now (session .exit)) (now (buffer .exit))
+        ≡ requested bufferedEngine (now (image .entry)) (now (session .entry)) entry (askedFor code granule) (now (given .entry)) (now (buffer .entry)) ⌝ }
+{
+    match by_code(code, granule) {
+        Asked::For(q) => serve_held(image, session, entry, q, given, buffer),
+        Asked::Unknown => {
+            let s = read_buffered(session);
+            unknown(buffered::look_number(image, s, entry, 0))
+        }
+    }
+}
+
+// Looks at a granule in place: the number of its bytes, 0 where the look is refused; where they begin goes into at.
+#[no_mangle]
+pub extern "C" fn board_buffered_look(
+    image: &[u8],
+    session: &[u8],
+    entry: usize,
+    granule: u32,
+    at: &mut usize,
+) -> usize
+    ensures { λ r. ⌜ (r ≡ lookSize bufferedEngine (now (image .entry)) (now (session .entry)) entry granule)
+        × (now (at .exit) ≡ lookPlace bufferedEngine (now (image .entry)) (now (session .entry)) entry granule (now (at .entry))) ⌝ }
+{
+    let s = read_buffered(session);
+    let a = buffered::look_number(image, s, entry, granule);
+    if number(a) == 0 {
+        let t = s.table;
+        let e = entry_of(t, entry);
+        *at = granule_at(e, granule);
+        e.length as usize
+    } else {
+        0
+    }
+}
+
+// Where an entry's file stands: 0 not open, 1 open, 2 open and beyond the mark; its record goes into at.
+#[no_mangle]
+pub extern "C" fn board_buffered_position(session: &[u8], entry: usize, at: &mut u32) -> u16
+    ensures { λ r. ⌜ (r ≡ standing (bufferedEngine .spot (bufferedEngine .read (now (session .entry))) entry))
+        × (now (at .exit) ≡ recordAt (bufferedEngine .spot (bufferedEngine .read (now (session .entry))) entry) (now (at .entry))) ⌝ }
+{
+    let s = read_buffered(session);
+    tell(buffered::position(s, entry), at)
+}
+
+// ---- the calls that need no session
+
+// Lists the directory of an image, as far as there is room; the listing's length.
+#[no_mangle]
+pub extern "C" fn board_list(image: &[u8], out: &mut [u8]) -> usize
+    ensures { λ r. ⌜ (r ≡ length (listing (now (image .entry)))) × (now (out .exit) ≡ sets (now (out .entry)) 0 (listing (now (image .entry)))) ⌝ }
+{
+    listing::write_listing(image, out)
+}
+
+// Decodes the record that a code begins with; the number of the code's bytes, 0 where it is bad.
+#[no_mangle]
+pub extern "C" fn board_decode(code: &[u8], text: &mut [u8]) -> usize
+    ensures { λ r. ⌜ (r ≡ codeSize (Decode.decode (length (now (text .entry))) (now (code .entry))))
+        × (now (text .exit) ≡ Decode.given (Decode.decode (length (now (text .entry))) (now (code .entry))) (now (text .entry))) ⌝ }
+{
+    match coding::decode(code, text) {
+        Coded::Good(n) => n,
+        Coded::Bad(_) => 0,
+    }
+}
+
+// Codes a record, as far as there is room; the number of the code's bytes.
+#[no_mangle]
+pub extern "C" fn board_encode(text: &[u8], code: &mut [u8]) -> usize
+    ensures { λ r. ⌜ (r ≡ length (Encode.encode (now (text .entry)))) × (now (code .exit) ≡ sets (now (code .entry)) 0 (Encode.encode (now (text .entry)))) ⌝ }
+{
+    coding::encode(text, code)
+}
