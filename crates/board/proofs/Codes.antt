@@ -1,5 +1,5 @@
 -- Codes and numbers for C: a code that is none of 1 to 13 stands at the end of the table of requests or behind it.
-use mathlib.Core.Path.{_≡_, refl, ap, _∙_}
+use mathlib.Core.Path.{_≡_, refl}
 use mathlib.Core.Logic.{_≢_}
 use Prim.Native.Nat.{ℕ, suc, _≤_, _<_}
 use native.Mathlib.Omega.{arith}

@@ -1,14 +1,13 @@
 -- Both engines are steady: a step sets one entry and one state, refuses with nothing changed, and gives 12 where the session is not legal.
 use mathlib.Core.Path.{_≡_, refl, sym, ap, _∙_, subst}
-use mathlib.Core.Bool.{Bool, true, false}
+use mathlib.Core.Bool.{true, false}
 use mathlib.Core.List.{List, map}
-use Prim.Native.Nat.{ℕ, _≤_, _<_}
+use Prim.Native.Nat.{ℕ, _<_}
 use native.Mathlib.Omega.{arith}
 use native.Mathlib.Decide.{decLt}
-use lib.ListN.{length, getD, set, length-set}
+use lib.ListN.{length, getD, set}
 use lib.Seq.{getD-set-same, set-out, set-getD}
 use Rattle.directory.specs.Entries.{entryAt, freeEntry}
-use Rattle.directory.specs.declared.Entry.{Entry}
 use Rattle.requests.specs.Numbers.{numberOf}
 use Rattle.requests.proofs.First.{not-legal}
 use Rattle.requests.specs.declared.Answer.{Answer}

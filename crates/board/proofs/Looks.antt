@@ -1,14 +1,11 @@
 -- Where a granule lies, and what a look leaves: a granule's sector is at most 183 times its number, and the part told is the part shown.
-use mathlib.Core.Path.{_≡_, refl, sym, ap, _∙_}
-use mathlib.Core.Bool.{true, false}
+use mathlib.Core.Path.{_≡_, sym, ap, _∙_}
 use mathlib.Core.Logic.{_≢_}
-use mathlib.Core.List.{List, []}
+use mathlib.Core.List.{List}
 use Prim.Native.Nat.{ℕ, _+_, _*_, _≤_, _<_}
 use native.Mathlib.Nat.{mul-le-mul-right}
 use native.Mathlib.Omega.{arith}
-use lib.Dec.{eqb}
 use borrow.Author.Tests.{eq-eqb, ne-eqb}
-use Rattle.geometry.specs.Bytes.{part}
 use Rattle.geometry.specs.Places.{sectorsFor, placeOf, byteOf}
 use Rattle.geometry.specs.Sizes.{sector, random}
 use Rattle.geometry.proofs.Places.{place-whole}

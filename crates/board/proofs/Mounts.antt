@@ -8,6 +8,9 @@ use lib.ListN.{length}
 use borrow.Author.Tests.{eq-eqb, ne-eqb}
 use Rattle.requests.specs.Numbers.{numberOf}
 use Rattle.requests.specs.declared.Answer.{Answer}
+use Rattle.sessions.specs.declared.BufferedSession.{BufferedSession}
+use Rattle.sessions.specs.declared.Session.{Session}
+use Rattle.storing.specs.Stored.{sessionSize, bufferedSize, stored, bufferedStored, laySession, layBuffered}
 use Rattle.board.specs.Board.{Engine, mountNumber, mountBytes}
 
 module _ {S : Type 0} (E : Engine S) (image b : List ℕ) where
@@ -46,3 +49,12 @@ module _ {S : Type 0} (E : Engine S) (image b : List ℕ) where
 
     pub mount-refused : n ≢ 0 → Leaves n b
     mount-refused z = (number-is, sym (refused (λ (y : mountNumber E image b ≡ 0). z (number-is ∙ y))))
+
+-- a whole session laid over as many bytes as it takes is what it is stored as
+pub session-whole : (s : Session) (b : List ℕ) → length b ≡ sessionSize → laySession b s ≡ stored s
+unfolding laySession
+session-whole s b l = rw (eq-eqb (length b) sessionSize l, laySession)
+
+pub buffered-whole : (s : BufferedSession) (b : List ℕ) → length b ≡ bufferedSize → layBuffered b s ≡ bufferedStored s
+unfolding layBuffered
+buffered-whole s b l = rw (eq-eqb (length b) bufferedSize l, layBuffered)

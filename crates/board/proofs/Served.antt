@@ -1,7 +1,7 @@
 -- A request by way of lent bytes: answers 3 to 12 leave the session, so its bytes stay; 0 to 2 change at most one entry and one state, and
 -- laying these over the bytes is storing the whole session. Bytes that are no session are not legal and give 12. One argument for both engines.
-use mathlib.Core.Path.{_≡_, refl, sym, ap, _∙_}
-use mathlib.Core.Bool.{Bool, true, false}
+use mathlib.Core.Path.{_≡_, sym, ap, _∙_}
+use mathlib.Core.Bool.{true, false}
 use mathlib.Core.List.{List}
 use Prim.Native.Nat.{ℕ, _≤_, _<_}
 use native.Mathlib.Omega.{arith}
@@ -10,7 +10,9 @@ use Rattle.requests.specs.Numbers.{numberOf}
 use Rattle.requests.specs.declared.Answer.{Answer}
 use Rattle.requests.specs.declared.Request.{Request}
 use Rattle.steps.specs.Step.{After}
-use Rattle.board.specs.Board.{Engine, Left, left, kept, requested}
+use Rattle.judging.specs.Lent.{afterIn, lentAfter}
+use Rattle.plain.specs.Plain.{served}
+use Rattle.board.specs.Board.{Engine, plainEngine, left, kept, requested}
 use Rattle.board.specs.Codes.{unknownNumber}
 use Rattle.board.specs.declared.Asked.{Asked}
 use Rattle.board.specs.declared.Asked.the-variants.{For, Unknown}
@@ -76,3 +78,9 @@ pub answers-unknown : {S : Type 0} (E : Engine S) (image b : List ℕ) (i : ℕ)
     → x ≡ Unknown → s ≡ E .read b → a ≡ E .look image s i 0 → n ≡ unknownNumber a → left n image b buffer ≡ requested E image b i x given buffer
 unfolding requested
 answers-unknown {S} E image b i x given buffer s a n u e f p = rw (u, p, f, e)
+
+-- the engine with no buffer does a request on the lent bytes themselves
+pub answers-lent : (image b : List ℕ) (i : ℕ) (q : Request) (given buffer : List ℕ) (a : Answer) (to lent moved : List ℕ) (n : ℕ)
+    → afterIn a to lent moved ≡ served image b i q given buffer → n ≡ numberOf a → left n to lent moved ≡ requested plainEngine image b i (For q) given buffer
+unfolding served lentAfter requested kept
+answers-lent image b i q given buffer a to lent moved n h p = rw p (ap (λ (w : After (List ℕ)). left (numberOf (w .answer)) (w .image) (w .session) (w .buffer)) h)

@@ -9,8 +9,6 @@ use requests::Request;
 use requests::number;
 use sessions::BufferedFile;
 use sessions::BufferedSession;
-use sessions::OpenFile;
-use sessions::Session;
 use sessions::Spot;
 use sessions::bare_files;
 use sessions::fresh;
@@ -18,14 +16,13 @@ use sessions::idle;
 use sessions::slot_of;
 use storing::Form;
 use storing::put_entry;
-use storing::put_file;
 use storing::put_held;
 use storing::read_buffered;
 use storing::read_session;
 use storing::write_buffered;
 use storing::write_session;
 ghost use mathlib.Core.Path.{_≡_};
-ghost use Prim.Native.Nat.{_+_, _*_};
+ghost use Prim.Native.Nat.{_+_, _*_, min};
 ghost use lib.ListN.{length, getD};
 ghost use lib.Seq.{sets};
 ghost use Rattle.coding.specs.Decode as Decode;
@@ -36,7 +33,7 @@ ghost use Rattle.geometry.specs.Sizes.{random};
 ghost use Rattle.geometry.specs.Sizes as Sizes;
 ghost use Rattle.directory.specs.Entries.{entryAt};
 ghost use Rattle.sessions.specs.Session.{idle, fresh};
-ghost use Rattle.storing.specs.Stored.{entryStored, heldStored, layEntry, layFile, layHeld};
+ghost use Rattle.storing.specs.Stored.{entryStored, heldStored, layEntry, layHeld};
 ghost use Rattle.board.specs.declared.Asked.the-variants.{For};
 ghost use Rattle.board.specs.Codes.{askedFor, unknownNumber, standing, recordAt, codeSize};
 ghost use Rattle.board.specs.Board.{plainEngine, bufferedEngine, left, requested, mountNumber, mountBytes, lookSize, lookPlace};
@@ -94,27 +91,7 @@ fn tell(spot: Spot, at: &mut u32) -> u16
 
 // ---- the engine with no buffer
 
-// The state of number k; idle where there is none.
-fn state(files: [OpenFile; 4], k: usize) -> OpenFile
-    ensures { λ r. ⌜ r ≡ getD files k idle ⌝ }
-{
-    if k < 4 { files[k] } else { idle() }
-}
-
-// Lays entry i and state k of a session over its bytes.
-fn keep(b: &mut [u8], i: usize, k: usize, s: Session)
-    ensures { λ _. ⌜ (now (b .exit) ≡ layFile (layEntry (now (b .entry)) i (entryAt (s .table) i)) k (getD (s .files) k idle))
-        × (length (entryStored (entryAt (s .table) i)) ≡ 22) ⌝ }
-{
-    let t = s.table;
-    let files = s.files;
-    let e = entry_of(t, i);
-    let f = state(files, k);
-    put_entry(b, i, e);
-    put_file(b, k, f);
-}
-
-// A request. Answers 0 to 2 change at most the entry and the state of that number.
+// A request, done on the lent bytes themselves.
 fn serve(
     image: &mut [u8],
     b: &mut [u8],
@@ -126,16 +103,7 @@ fn serve(
     ensures { λ r. ⌜ left r (now (image .exit)) (now (b .exit)) (now (buffer .exit))
         ≡ requested plainEngine (now (image .entry)) (now (b .entry)) i (For q) (now (given .entry)) (now (buffer .entry)) ⌝ }
 {
-    let s = read_session(b);
-    let r = plain::request(image, s, i, q, given, buffer);
-    let a = r.answer;
-    let n = number(a);
-    if n <= 2 {
-        let files = s.files;
-        let next = r.session;
-        keep(b, i, slot_of(files, i), next);
-    }
-    n
+    number(plain::serve(image, b, i, q, given, buffer))
 }
 
 // ---- the engine with buffers
@@ -366,10 +334,10 @@ pub extern "C" fn board_buffered_position(session: &[u8], entry: usize, at: &mut
 
 // ---- the calls that need no session
 
-// Lists the directory of an image, as far as there is room; the listing's length.
+// Lists the directory of an image, as far as there is room; the number of bytes put there. A listing has at most 1,596.
 #[no_mangle]
 pub extern "C" fn board_list(image: &[u8], out: &mut [u8]) -> usize
-    ensures { λ r. ⌜ (r ≡ length (listing (now (image .entry)))) × (now (out .exit) ≡ sets (now (out .entry)) 0 (listing (now (image .entry)))) ⌝ }
+    ensures { λ r. ⌜ (r ≡ min (length (listing (now (image .entry)))) (length (now (out .entry)))) × (now (out .exit) ≡ sets (now (out .entry)) 0 (listing (now (image .entry)))) ⌝ }
 {
     listing::write_listing(image, out)
 }

@@ -175,11 +175,3 @@ session-other s b l = rw (ne-eqb (length b) sessionSize l, laySession)
 pub buffered-other : (s : BufferedSession) (b : List ℕ) → length b ≢ bufferedSize → layBuffered b s ≡ b
 unfolding layBuffered
 buffered-other s b l = rw (ne-eqb (length b) bufferedSize l, layBuffered)
-
-pub session-whole : (s : Session) (b : List ℕ) → length b ≡ sessionSize → laySession b s ≡ stored s
-unfolding laySession
-session-whole s b l = rw (eq-eqb (length b) sessionSize l, laySession)
-
-pub buffered-whole : (s : BufferedSession) (b : List ℕ) → length b ≡ bufferedSize → layBuffered b s ≡ bufferedStored s
-unfolding layBuffered
-buffered-whole s b l = rw (eq-eqb (length b) bufferedSize l, layBuffered)

@@ -3,46 +3,31 @@ use Rattle.board.proofs.Looks.{look-shown, look-refused}
 use borrow.Author.Needs.{needs}
 use Rattle.board.proofs.board_buffered_look.Statement.{statement}
 use Rattle.board.proofs.board_buffered_look.Tie as tie
-use Rattle.board.proofs.board_buffered_look.Reads as reads
-use Rattle.board.proofs.board_buffered_look.Lts as lts
-use Rattle.board.proofs.granule_at.Reads as granule-at-reads
-use Rattle.directory.proofs.entry_of.Reads as entry-of-reads
-use Rattle.buffered.proofs.look_number.Reads as look-number-reads
-use Rattle.requests.proofs.number.Reads as number-reads
-use Rattle.storing.proofs.read_buffered.Reads as read-buffered-reads
 
--- src/lib.rt:214:9
 read-buffered-requires : tie.Need-read-buffered-requires
 read-buffered-requires c κs = search needs
 
--- src/lib.rt:215:9
 look-number-requires : tie.Need-look-number-requires
 look-number-requires c κs = search needs
 
--- src/lib.rt:216:8
 number-requires : tie.Need-number-requires
 number-requires c κs = search needs
 
--- src/lib.rt:218:13
 entry-of-requires : tie.Need-entry-of-requires
 entry-of-requires c κs = search needs
 
--- src/lib.rt:219:15
 granule-at-requires : tie.Need-granule-at-requires
 granule-at-requires c κs = search needs
 
--- src/lib.rt:220:9
 cast-result : tie.Need-cast-result
 cast-result c = search needs
 
--- src/lib.rt:203:1
 returns : tie.Need-returns
 returns c =
     let a = c .before .before .before .before .before .before .before .before .before .before .args in
     let s = c .before .before .before .before .before .before .before .read-buffered in
     look-shown bufferedEngine (a .image .now) (a .session .now) (a .entry) (a .granule) (s .result) (s .ensures) (c .before .before .before .before .before .before .look-number .result) (c .before .before .before .before .before .before .look-number .ensures) (c .before .before .before .before .before .number .result) (c .before .before .before .before .before .number .ensures) (a .at .now) (c .before .before .before .before .if1 .taken) (c .before .before .entry-of .result) (c .before .before .entry-of .ensures) (c .before .granule-at .result) (c .before .granule-at .ensures)
 
--- src/lib.rt:203:1
 returns-2 : tie.Need-returns-2
 returns-2 c =
     let a = c .before .before .before .before .before .before .args in

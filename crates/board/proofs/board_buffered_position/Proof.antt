@@ -6,25 +6,16 @@ use Rattle.board.specs.Codes.{standing, recordAt}
 use borrow.Author.Needs.{needs}
 use Rattle.board.proofs.board_buffered_position.Statement.{statement}
 use Rattle.board.proofs.board_buffered_position.Tie as tie
-use Rattle.board.proofs.board_buffered_position.Reads as reads
-use Rattle.board.proofs.board_buffered_position.Lts as lts
-use Rattle.board.proofs.tell.Reads as tell-reads
-use Rattle.buffered.proofs.position.Reads as position-reads
-use Rattle.storing.proofs.read_buffered.Reads as read-buffered-reads
 
--- src/lib.rt:232:9
 read-buffered-requires : tie.Need-read-buffered-requires
 read-buffered-requires c κs = search needs
 
--- src/lib.rt:233:10
 position-requires : tie.Need-position-requires
 position-requires c κs = search needs
 
--- src/lib.rt:233:5
 tell-requires : tie.Need-tell-requires
 tell-requires c κs = search needs
 
--- src/lib.rt:227:1
 returns : tie.Need-returns
 returns c =
     let s = c .before .before .position .ensures ∙ ap (λ (x : BufferedSession). spotOf (bare x) (c .before .before .before .before .before .args .entry)) (c .before .before .before .read-buffered .ensures) in

@@ -4,38 +4,28 @@ use Rattle.board.proofs.Codes.{good-size, bad-size}
 use borrow.Author.Needs.{needs}
 use Rattle.board.proofs.board_decode.Statement.{statement}
 use Rattle.board.proofs.board_decode.Tie as tie
-use Rattle.board.proofs.board_decode.Reads as reads
-use Rattle.board.proofs.board_decode.Lts as lts
-use Rattle.coding.proofs.decode.Reads as decode-reads
 
--- src/lib.rt:251:11
 decode-requires : tie.Need-decode-requires
 decode-requires c κs = search needs
 
--- src/lib.rt:252:21
 enum-known-n : tie.Need-enum-known-n
 enum-known-n c = search needs
 
--- src/lib.rt:253:26
 enum-told : tie.Need-enum-told
 enum-told c = search needs
 
--- src/lib.rt:246:1
 same-length : tie.Need-same-length
 same-length c = search needs
 
--- src/lib.rt:246:1
 returns : tie.Need-returns
 returns c =
     let a = c .before .before .before .before .before .before .before .before .before .args in
     let d = c .before .before .before .before .before .decode .ensures in
     (good-size (decode (length (a .text .now)) (a .code .now)) _ _ (d .0) (c .before .n .given .1), d .1)
 
--- src/lib.rt:246:1
 same-length-2 : tie.Need-same-length-2
 same-length-2 c = search needs
 
--- src/lib.rt:246:1
 returns-2 : tie.Need-returns-2
 returns-2 c =
     let a = c .before .before .before .before .before .before .before .before .args in

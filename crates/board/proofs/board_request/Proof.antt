@@ -5,69 +5,48 @@ use Rattle.board.proofs.Served.{answers-unknown}
 use borrow.Author.Needs.{needs}
 use Rattle.board.proofs.board_request.Statement.{statement}
 use Rattle.board.proofs.board_request.Tie as tie
-use Rattle.board.proofs.board_request.Reads as reads
-use Rattle.board.proofs.board_request.Lts as lts
-use Rattle.board.proofs.by_code.Reads as by-code-reads
-use Rattle.board.proofs.serve.Reads as serve-reads
-use Rattle.board.proofs.unknown.Reads as unknown-reads
-use Rattle.plain.proofs.look_number.Reads as look-number-reads
-use Rattle.storing.proofs.read_session.Reads as read-session-reads
 
--- src/lib.rt:193:11
 by-code-requires : tie.Need-by-code-requires
 by-code-requires c κs = search needs
 
--- src/lib.rt:194:20
 enum-known-q : tie.Need-enum-known-q
 enum-known-q c = search needs
 
--- src/lib.rt:194:26
 serve-requires : tie.Need-serve-requires
 serve-requires c κs = search needs
 
--- src/lib.rt:196:34
 enum-told : tie.Need-enum-told
 enum-told c = search needs
 
--- src/lib.rt:196:17
 read-session-requires : tie.Need-read-session-requires
 read-session-requires c κs = search needs
 
--- src/lib.rt:197:21
 look-number-requires : tie.Need-look-number-requires
 look-number-requires c κs = search needs
 
--- src/lib.rt:197:13
 unknown-requires : tie.Need-unknown-requires
 unknown-requires c κs = search needs
 
--- src/lib.rt:180:1
 same-length : tie.Need-same-length
 same-length c = search needs
 
--- src/lib.rt:180:1
 same-length-2 : tie.Need-same-length-2
 same-length-2 c = search needs
 
--- src/lib.rt:180:1
 same-length-3 : tie.Need-same-length-3
 same-length-3 c = search needs
 
--- src/lib.rt:180:1
 returns : tie.Need-returns
 returns c =
     let a = c .before .before .before .before .before .before .before .before .before .before .before .before .before .before .before .before .before .before .args in
     c .before .before .before .before .before .before .serve .ensures ∙ ap (λ (x : Asked). requested plainEngine (a .image .now) (a .session .now) (a .entry) x (a .given .now) (a .buffer .now)) (sym (c .before .before .before .before .before .before .before .before .before .before .before .q .given .1) ∙ c .before .before .before .before .before .before .before .before .before .before .before .before .before .by-code .ensures)
 
--- src/lib.rt:180:1
 same-length-4 : tie.Need-same-length-4
 same-length-4 c = search needs
 
--- src/lib.rt:180:1
 same-length-5 : tie.Need-same-length-5
 same-length-5 c = search needs
 
--- src/lib.rt:180:1
 returns-2 : tie.Need-returns-2
 returns-2 c =
     let a = c .before .before .before .before .before .before .before .before .before .before .before .before .args in

@@ -4,75 +4,59 @@ use Rattle.board.specs.Codes.{codes, askedFor}
 use Rattle.board.proofs.Codes.{none-asked}
 use Rattle.board.proofs.by_code.Statement.{statement}
 use Rattle.board.proofs.by_code.Tie as tie
-use Rattle.board.proofs.by_code.Reads as reads
-use Rattle.board.proofs.by_code.Lts as lts
 
--- src/lib.rt:43:1
 returns : tie.Need-returns
 unfolding askedFor codes
 returns c = sym (ap (λ (k : ℕ). askedFor k (c .before .args .g)) (c .match .keys1))
 
--- src/lib.rt:43:1
 returns-2 : tie.Need-returns-2
 unfolding askedFor codes
 returns-2 c = sym (ap (λ (k : ℕ). askedFor k (c .before .args .g)) (c .match .keys2))
 
--- src/lib.rt:43:1
 returns-3 : tie.Need-returns-3
 unfolding askedFor codes
 returns-3 c = sym (ap (λ (k : ℕ). askedFor k (c .before .args .g)) (c .match .keys3))
 
--- src/lib.rt:43:1
 returns-4 : tie.Need-returns-4
 unfolding askedFor codes
 returns-4 c = sym (ap (λ (k : ℕ). askedFor k (c .before .args .g)) (c .match .keys4))
 
--- src/lib.rt:43:1
 returns-5 : tie.Need-returns-5
 unfolding askedFor codes
 returns-5 c = sym (ap (λ (k : ℕ). askedFor k (c .before .args .g)) (c .match .keys5))
 
--- src/lib.rt:43:1
 returns-6 : tie.Need-returns-6
 unfolding askedFor codes
 returns-6 c = sym (ap (λ (k : ℕ). askedFor k (c .before .args .g)) (c .match .keys6))
 
--- src/lib.rt:43:1
 returns-7 : tie.Need-returns-7
 unfolding askedFor codes
 returns-7 c = sym (ap (λ (k : ℕ). askedFor k (c .before .args .g)) (c .match .keys7))
 
--- src/lib.rt:43:1
 returns-8 : tie.Need-returns-8
 unfolding askedFor codes
 returns-8 c = sym (ap (λ (k : ℕ). askedFor k (c .before .args .g)) (c .match .keys8))
 
--- src/lib.rt:43:1
 returns-9 : tie.Need-returns-9
 unfolding askedFor codes
 returns-9 c = sym (ap (λ (k : ℕ). askedFor k (c .before .args .g)) (c .match .keys9))
 
--- src/lib.rt:43:1
 returns-10 : tie.Need-returns-10
 unfolding askedFor codes
 returns-10 c = sym (ap (λ (k : ℕ). askedFor k (c .before .args .g)) (c .match .keys10))
 
--- src/lib.rt:43:1
 returns-11 : tie.Need-returns-11
 unfolding askedFor codes
 returns-11 c = sym (ap (λ (k : ℕ). askedFor k (c .before .args .g)) (c .match .keys11))
 
--- src/lib.rt:43:1
 returns-12 : tie.Need-returns-12
 unfolding askedFor codes
 returns-12 c = sym (ap (λ (k : ℕ). askedFor k (c .before .args .g)) (c .match .keys12))
 
--- src/lib.rt:43:1
 returns-13 : tie.Need-returns-13
 unfolding askedFor codes
 returns-13 c = sym (ap (λ (k : ℕ). askedFor k (c .before .args .g)) (c .match .keys13))
 
--- src/lib.rt:43:1
 returns-14 : tie.Need-returns-14
 returns-14 c =
     let r = c .match .rest in

@@ -6,35 +6,25 @@ use Rattle.directory.proofs.Table.{getD-any}
 use borrow.Author.Needs.{needs}
 use Rattle.board.proofs.held_state.Statement.{statement}
 use Rattle.board.proofs.held_state.Tie as tie
-use Rattle.board.proofs.held_state.Reads as reads
-use Rattle.board.proofs.held_state.Lts as lts
-use Rattle.sessions.proofs.fresh.Reads as fresh-reads
-use Rattle.sessions.proofs.idle.Reads as idle-reads
 
--- src/lib.rt:147:16
 mul-result : tie.Need-mul-result
 mul-result c = search needs
 
--- src/lib.rt:147:16
 array-copy-out-result : tie.Need-array-copy-out-result
 array-copy-out-result c = search needs
 
--- src/lib.rt:147:40
 idle-requires : tie.Need-idle-requires
 idle-requires c κs = search needs
 
--- src/lib.rt:147:34
 fresh-requires : tie.Need-fresh-requires
 fresh-requires c κs = search needs
 
--- src/lib.rt:144:1
 returns : tie.Need-returns
 returns c =
     let a = c .before .before .args in
     let n : length (a .t1) ≡ 4 = search needs in
     getD-any (a .t1) (a .k) _ (fresh idle) (omega arith)
 
--- src/lib.rt:144:1
 returns-2 : tie.Need-returns-2
 returns-2 c =
     let a = c .before .before .before .args in

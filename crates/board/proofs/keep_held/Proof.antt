@@ -4,34 +4,22 @@ use Rattle.storing.specs.Stored.{entryStored, heldStored, layHeld}
 use borrow.Author.Needs.{needs}
 use Rattle.board.proofs.keep_held.Statement.{statement}
 use Rattle.board.proofs.keep_held.Tie as tie
-use Rattle.board.proofs.keep_held.Reads as reads
-use Rattle.board.proofs.keep_held.Lts as lts
-use Rattle.board.proofs.held_state.Reads as held-state-reads
-use Rattle.directory.proofs.entry_of.Reads as entry-of-reads
-use Rattle.storing.proofs.put_entry.Reads as put-entry-reads
-use Rattle.storing.proofs.put_held.Reads as put-held-reads
 
--- src/lib.rt:157:9
 entry-of-requires : tie.Need-entry-of-requires
 entry-of-requires c κs = search needs
 
--- src/lib.rt:158:9
 held-state-requires : tie.Need-held-state-requires
 held-state-requires c κs = search needs
 
--- src/lib.rt:159:5
 put-entry-requires : tie.Need-put-entry-requires
 put-entry-requires c κs = search needs
 
--- src/lib.rt:160:5
 put-held-requires : tie.Need-put-held-requires
 put-held-requires c κs = search needs
 
--- src/lib.rt:151:1
 same-length : tie.Need-same-length
 same-length c = search needs
 
--- src/lib.rt:151:1
 returns : tie.Need-returns
 returns c =
     let a = c .before .before .before .before .before .before .before .before .before .before .before .before .before .args in

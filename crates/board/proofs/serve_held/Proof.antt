@@ -6,60 +6,41 @@ use Rattle.sessions.specs.Session.{idle, fresh, bare, slotOf}
 use Rattle.sessions.specs.declared.BufferedSession.{BufferedSession}
 use Rattle.steps.specs.Step.{bufferedStep}
 use Rattle.buffered.specs.Buffered.{after}
-use Rattle.storing.specs.Stored.{layEntry, layHeld}
+use Rattle.storing.specs.Stored.{layEntry, layHeld, bufferedIn}
 use Rattle.board.specs.Board.{bufferedEngine}
 use Rattle.board.proofs.Served.{answers-low, answers-high}
 use Rattle.board.proofs.Engines.{bare-files, buffered-steady}
-use Rattle.storing.specs.Stored.{bufferedIn}
 use borrow.Author.Needs.{needs}
 use Rattle.board.proofs.serve_held.Statement.{statement}
 use Rattle.board.proofs.serve_held.Tie as tie
-use Rattle.board.proofs.serve_held.Reads as reads
-use Rattle.board.proofs.serve_held.Lts as lts
-use Rattle.board.proofs.keep_held.Reads as keep-held-reads
-use Rattle.buffered.proofs.request.Reads as request-reads
-use Rattle.requests.proofs.number.Reads as number-reads
-use Rattle.sessions.proofs.bare_files.Reads as bare-files-reads
-use Rattle.sessions.proofs.slot_of.Reads as slot-of-reads
-use Rattle.storing.proofs.read_buffered.Reads as read-buffered-reads
 
--- src/lib.rt:175:9
 read-buffered-requires : tie.Need-read-buffered-requires
 read-buffered-requires c κs = search needs
 
--- src/lib.rt:176:9
 request-requires : tie.Need-request-requires
 request-requires c κs = search needs
 
--- src/lib.rt:178:9
 number-requires : tie.Need-number-requires
 number-requires c κs = search needs
 
--- src/lib.rt:182:33
 bare-files-requires : tie.Need-bare-files-requires
 bare-files-requires c κs = search needs
 
--- src/lib.rt:182:25
 slot-of-requires : tie.Need-slot-of-requires
 slot-of-requires c κs = search needs
 
--- src/lib.rt:182:9
 keep-held-requires : tie.Need-keep-held-requires
 keep-held-requires c κs = search needs
 
--- src/lib.rt:164:1
 same-length : tie.Need-same-length
 same-length c = search needs
 
--- src/lib.rt:164:1
 same-length-2 : tie.Need-same-length-2
 same-length-2 c = search needs
 
--- src/lib.rt:164:1
 same-length-3 : tie.Need-same-length-3
 same-length-3 c = search needs
 
--- src/lib.rt:164:1
 returns : tie.Need-returns
 returns c =
     let a = c .before .before .before .before .before .before .before .before .before .before .before .before .before .before .before .before .before .before .before .before .before .before .before .args in
@@ -69,19 +50,15 @@ returns c =
     let p : c .before .before .before .slot-of .result ≡ slotOf (bare (bufferedIn (a .b .now)) .files) (a .i) = c .before .before .before .slot-of .ensures ∙ ap (λ x. slotOf x (a .i)) (c .before .before .before .before .bare-files .ensures ∙ bare-files (c .before .before .before .before .before .before .before .before .before .before .before .before .before .before .before .before .before .read-buffered .result) ∙ ap (λ (x : BufferedSession). bare x .files) s) in
     answers-low bufferedEngine buffered-steady (a .image .now) (a .b .now) (a .i) (a .q) (a .given .now) (a .buffer .now) (after (r .result) (r .last .0) (r .last .1 .1 .1 .1 .1 .0)) (r .ensures ∙ ap (λ (x : BufferedSession). bufferedStep (a .image .now) x (a .i) (a .q) (a .given .now) (a .buffer .now)) s) (c .before .before .before .before .before .before .before .before .before .number .result) (c .before .before .keep-held .last .0) (c .before .before .before .before .before .before .before .before .before .number .ensures) (search needs) (k .1, rw (← p) (k .2)) (k .0 ∙ ap (λ (n : ℕ). layHeld (layEntry (a .b .now) (a .i) (entryAt (r .result .session .table) (a .i))) n (getD (r .result .session .files) n (fresh idle))) p)
 
--- src/lib.rt:164:1
 same-length-4 : tie.Need-same-length-4
 same-length-4 c = search needs
 
--- src/lib.rt:164:1
 same-length-5 : tie.Need-same-length-5
 same-length-5 c = search needs
 
--- src/lib.rt:164:1
 same-length-6 : tie.Need-same-length-6
 same-length-6 c = search needs
 
--- src/lib.rt:164:1
 returns-2 : tie.Need-returns-2
 returns-2 c =
     let a = c .before .before .before .before .before .before .before .before .before .before .before .before .before .before .before .args in

@@ -4,21 +4,15 @@ use Rattle.board.proofs.Codes.{first-tests, wrong-kind}
 use borrow.Author.Needs.{needs}
 use Rattle.board.proofs.unknown.Statement.{statement}
 use Rattle.board.proofs.unknown.Tie as tie
-use Rattle.board.proofs.unknown.Reads as reads
-use Rattle.board.proofs.unknown.Lts as lts
-use Rattle.requests.proofs.number.Reads as number-reads
 
--- src/lib.rt:68:9
 number-requires : tie.Need-number-requires
 number-requires c κs = search needs
 
--- src/lib.rt:65:1
 returns : tie.Need-returns
 returns c =
     let a = c .before .before .args .look in
     c .before .number .ensures ∙ sym (first-tests a (omega (arith, c .before .number .ensures)))
 
--- src/lib.rt:65:1
 returns-2 : tie.Need-returns-2
 returns-2 c = sym (wrong-kind (c .before .before .args .look) (omega (arith, c .before .number .ensures)))
 
