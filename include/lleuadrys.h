@@ -116,7 +116,7 @@ uint16_t board_buffered_position(const uint8_t *session, size_t session_size, si
 
 /* ---- no session */
 
-/* Lists the directory as text, as far as there is room: the text's length, at most 1,200. */
+/* Lists the directory as text, as far as there is room: the number of bytes put there. A listing has at most 1,596. */
 size_t board_list(const uint8_t *image, size_t image_size, uint8_t *out, size_t out_size);
 
 /* Decodes the compressed record that code begins with into text, whose length is the record's: the bytes of the code;
