@@ -1,3 +1,4 @@
+-- By the answer of the decoding.
 use lib.ListN.{length}
 use Rattle.coding.specs.Decode.{decode}
 use Rattle.board.proofs.Codes.{good-size, bad-size}

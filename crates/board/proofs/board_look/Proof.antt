@@ -1,3 +1,4 @@
+-- By the number of the look.
 use Rattle.board.specs.Board.{plainEngine}
 use Rattle.board.proofs.Looks.{look-shown, look-refused}
 use borrow.Author.Needs.{needs}

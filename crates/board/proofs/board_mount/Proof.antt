@@ -1,3 +1,4 @@
+-- By the size of the lent bytes, then by the number of the mounting.
 use mathlib.Core.Path.{_≡_, _∙_}
 use lib.ListN.{length}
 use Rattle.board.specs.Board.{plainEngine}

@@ -1,3 +1,4 @@
+-- The session's spot, told in numbers.
 use mathlib.Core.Path.{ap, _∙_}
 use Rattle.sessions.specs.Session.{spotOf}
 use Rattle.sessions.specs.declared.Session.{Session}

@@ -1,3 +1,4 @@
+-- By the code: a request that there is, or none.
 use mathlib.Core.Path.{sym, ap, _∙_}
 use Rattle.board.specs.Board.{plainEngine, requested}
 use Rattle.board.specs.declared.Asked.{Asked}

@@ -1,3 +1,4 @@
+-- Code by code.
 use mathlib.Core.Path.{sym, ap}
 use Prim.Native.Nat.{ℕ}
 use Rattle.board.specs.Codes.{codes, askedFor}

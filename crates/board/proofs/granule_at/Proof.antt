@@ -1,3 +1,4 @@
+-- The granule's sector, counted from the image's start.
 use native.Mathlib.Omega.{arith}
 use Rattle.board.proofs.Looks.{granule-place, granule-bound}
 use borrow.Author.Needs.{needs}

@@ -1,3 +1,4 @@
+-- The entry is laid, then the state.
 use mathlib.Core.Path.{sym, ap, _∙_}
 use lib.ListN.{length}
 use Rattle.storing.specs.Stored.{entryStored, heldStored, layHeld}

@@ -1,3 +1,4 @@
+-- Answers up to 2 lay the entry and the state; any other leaves the bytes.
 use mathlib.Core.Path.{_≡_, ap, _∙_}
 use Prim.Native.Nat.{ℕ}
 use lib.ListN.{getD}

@@ -1,3 +1,4 @@
+-- By the cases of a spot.
 use mathlib.Core.Path.{refl}
 use Rattle.board.specs.Codes.{standing, recordAt}
 use borrow.Author.Needs.{needs}

@@ -1,3 +1,4 @@
+-- By whether a look gives 8 or more.
 use mathlib.Core.Path.{sym, _∙_}
 use native.Mathlib.Omega.{arith}
 use Rattle.board.proofs.Codes.{first-tests, wrong-kind}

@@ -1,66 +1,48 @@
+-- Each field is read at its place.
 use Rattle.storing.specs.Stored.{entryIn}
 use borrow.Author.Needs.{needs}
 use Rattle.storing.proofs.entry_at.Statement.{statement}
 use Rattle.storing.proofs.entry_at.Tie as tie
-use Rattle.storing.proofs.entry_at.Reads as reads
-use Rattle.storing.proofs.entry_at.Lts as lts
-use Rattle.storing.proofs.long_at.Reads as long-at-reads
-use Rattle.storing.proofs.name_at.Reads as name-at-reads
-use Rattle.storing.proofs.word_at.Reads as word-at-reads
 
--- src/lib.rt:122:9
 name-at-requires : tie.Need-name-at-requires
 name-at-requires c κs = search needs
 
--- src/lib.rt:125:26
 add-word-at : tie.Need-add-word-at
 add-word-at c = search needs
 
--- src/lib.rt:125:15
 word-at-requires : tie.Need-word-at-requires
 word-at-requires c κs = search needs
 
--- src/lib.rt:126:28
 add-word-at-2 : tie.Need-add-word-at-2
 add-word-at-2 c = search needs
 
--- src/lib.rt:126:17
 word-at-requires-2 : tie.Need-word-at-requires-2
 word-at-requires-2 c κs = search needs
 
--- src/lib.rt:127:27
 add-word-at-3 : tie.Need-add-word-at-3
 add-word-at-3 c = search needs
 
--- src/lib.rt:127:16
 word-at-requires-3 : tie.Need-word-at-requires-3
 word-at-requires-3 c κs = search needs
 
--- src/lib.rt:128:29
 add-word-at-4 : tie.Need-add-word-at-4
 add-word-at-4 c = search needs
 
--- src/lib.rt:128:18
 word-at-requires-4 : tie.Need-word-at-requires-4
 word-at-requires-4 c κs = search needs
 
--- src/lib.rt:129:27
 add-long-at : tie.Need-add-long-at
 add-long-at c = search needs
 
--- src/lib.rt:129:16
 long-at-requires : tie.Need-long-at-requires
 long-at-requires c κs = search needs
 
--- src/lib.rt:130:27
 add-word-at-5 : tie.Need-add-word-at-5
 add-word-at-5 c = search needs
 
--- src/lib.rt:130:16
 word-at-requires-5 : tie.Need-word-at-requires-5
 word-at-requires-5 c κs = search needs
 
--- src/lib.rt:118:1
 returns : tie.Need-returns
 unfolding entryIn
 returns c =

@@ -1,59 +1,42 @@
+-- Each field is read at its place.
 use Rattle.storing.specs.Stored.{fileIn}
 use borrow.Author.Needs.{needs}
 use Rattle.storing.proofs.file_at.Statement.{statement}
 use Rattle.storing.proofs.file_at.Tie as tie
-use Rattle.storing.proofs.file_at.Reads as reads
-use Rattle.storing.proofs.file_at.Lts as lts
-use Rattle.storing.proofs.is_set.Reads as is-set-reads
-use Rattle.storing.proofs.long_at.Reads as long-at-reads
-use Rattle.storing.proofs.place_at.Reads as place-at-reads
-use Rattle.storing.proofs.wide_at.Reads as wide-at-reads
 
--- src/lib.rt:166:15
 is-set-requires : tie.Need-is-set-requires
 is-set-requires c κs = search needs
 
--- src/lib.rt:167:27
 add-wide-at : tie.Need-add-wide-at
 add-wide-at c = search needs
 
--- src/lib.rt:167:16
 wide-at-requires : tie.Need-wide-at-requires
 wide-at-requires c κs = search needs
 
--- src/lib.rt:168:30
 add-long-at : tie.Need-add-long-at
 add-long-at c = search needs
 
--- src/lib.rt:168:19
 long-at-requires : tie.Need-long-at-requires
 long-at-requires c κs = search needs
 
--- src/lib.rt:169:27
 add-is-set : tie.Need-add-is-set
 add-is-set c = search needs
 
--- src/lib.rt:169:17
 is-set-requires-2 : tie.Need-is-set-requires-2
 is-set-requires-2 c κs = search needs
 
--- src/lib.rt:170:27
 add-place-at : tie.Need-add-place-at
 add-place-at c = search needs
 
--- src/lib.rt:170:15
 place-at-requires : tie.Need-place-at-requires
 place-at-requires c κs = search needs
 
--- src/lib.rt:171:26
 add-place-at-2 : tie.Need-add-place-at-2
 add-place-at-2 c = search needs
 
--- src/lib.rt:171:14
 place-at-requires-2 : tie.Need-place-at-requires-2
 place-at-requires-2 c κs = search needs
 
--- src/lib.rt:161:1
 returns : tie.Need-returns
 unfolding fileIn
 returns c =

@@ -1,28 +1,21 @@
+-- Each state is read at its place.
 use Rattle.storing.specs.Rows.{rowIn}
 use borrow.Author.Needs.{needs}
 use Rattle.storing.proofs.files_in.Statement.{statement}
 use Rattle.storing.proofs.files_in.Tie as tie
-use Rattle.storing.proofs.files_in.Reads as reads
-use Rattle.storing.proofs.files_in.Lts as lts
-use Rattle.storing.proofs.file_at.Reads as file-at-reads
 
--- src/lib.rt:200:9
 file-at-requires : tie.Need-file-at-requires
 file-at-requires c κs = search needs
 
--- src/lib.rt:201:9
 file-at-requires-2 : tie.Need-file-at-requires-2
 file-at-requires-2 c κs = search needs
 
--- src/lib.rt:202:9
 file-at-requires-3 : tie.Need-file-at-requires-3
 file-at-requires-3 c κs = search needs
 
--- src/lib.rt:203:9
 file-at-requires-4 : tie.Need-file-at-requires-4
 file-at-requires-4 c κs = search needs
 
--- src/lib.rt:196:1
 returns : tie.Need-returns
 unfolding rowIn
 returns c = rw (c .before .before .before .file-at .ensures, c .before .before .file-at2 .ensures, c .before .file-at3 .ensures, c .file-at4 .ensures)

@@ -1,3 +1,4 @@
+-- The bytes of the held sector, copied.
 use mathlib.Core.Path.{_≡_, ap, _∙_}
 use Prim.Native.Nat.{ℕ, _+_, _-_}
 use native.Mathlib.Omega.{arith}
@@ -8,31 +9,22 @@ use Rattle.storing.proofs.Laid.{lay-all}
 use borrow.Author.Needs.{needs}
 use Rattle.storing.proofs.fill_buffer.Statement.{statement}
 use Rattle.storing.proofs.fill_buffer.Tie as tie
-use Rattle.storing.proofs.fill_buffer.Reads as reads
-use Rattle.storing.proofs.fill_buffer.Lts as lts
-use Rattle.geometry.proofs.lay.Reads as lay-reads
 
--- src/lib.rt:201:27
 add-lay : tie.Need-add-lay
 add-lay c = search needs
 
--- src/lib.rt:201:20
 sub-lay : tie.Need-sub-lay
 sub-lay c = search needs
 
--- src/lib.rt:201:20
 part-lay-start : tie.Need-part-lay-start
 part-lay-start c = search needs
 
--- src/lib.rt:201:20
 part-lay-end : tie.Need-part-lay-end
 part-lay-end c = search needs
 
--- src/lib.rt:201:5
 lay-requires : tie.Need-lay-requires
 lay-requires c κs = search needs
 
--- src/lib.rt:197:1
 returns : tie.Need-returns
 unfolding part
 returns c =

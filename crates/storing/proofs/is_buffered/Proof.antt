@@ -1,3 +1,4 @@
+-- The length is right, and each truth value is 0 or 1.
 use mathlib.Core.Path.{_≡_, sym, _∙_}
 use lib.ListN.{length}
 use Rattle.storing.specs.Stored.{heldFlags}
@@ -5,34 +6,25 @@ use Rattle.storing.proofs.Read.{asked, other-size}
 use borrow.Author.Needs.{needs}
 use Rattle.storing.proofs.is_buffered.Statement.{statement}
 use Rattle.storing.proofs.is_buffered.Tie as tie
-use Rattle.storing.proofs.is_buffered.Reads as reads
-use Rattle.storing.proofs.is_buffered.Lts as lts
-use Rattle.storing.proofs.held_flags.Reads as held-flags-reads
 
--- src/lib.rt:295:9
 held-flags-requires : tie.Need-held-flags-requires
 held-flags-requires c κs = search needs
 
--- src/lib.rt:295:31
 held-flags-requires-2 : tie.Need-held-flags-requires-2
 held-flags-requires-2 c κs = search needs
 
--- src/lib.rt:295:53
 held-flags-requires-3 : tie.Need-held-flags-requires-3
 held-flags-requires-3 c κs = search needs
 
--- src/lib.rt:295:75
 held-flags-requires-4 : tie.Need-held-flags-requires-4
 held-flags-requires-4 c κs = search needs
 
--- src/lib.rt:291:1
 returns : tie.Need-returns
 returns c =
     let b = c .before .before .before .before .before .before .args .b .now in
     let l : length b ≡ 1980 = c .before .before .before .before .if1 .taken in
     sym (asked heldFlags 396 1980 b (c .held-flags4 .ensures .1) l ∙ rw (c .before .before .before .held-flags .ensures .0, c .before .before .held-flags2 .ensures .0, c .before .held-flags3 .ensures .0, c .held-flags4 .ensures .0))
 
--- src/lib.rt:291:1
 returns-2 : tie.Need-returns-2
 returns-2 c = sym (other-size heldFlags 396 1980 (c .before .before .args .b .now) (c .if1 .left))
 

@@ -1,3 +1,4 @@
+-- A truth value is 0 or 1, and what is lent are bytes.
 use Prim.Native.Nat.{ℕ}
 use native.Mathlib.Omega.{arith}
 use mathlib.Core.Path.{refl}
@@ -5,14 +6,10 @@ use Rattle.storing.proofs.Read.{bytes}
 use borrow.Author.Needs.{needs}
 use Rattle.storing.proofs.is_flag.Statement.{statement}
 use Rattle.storing.proofs.is_flag.Tie as tie
-use Rattle.storing.proofs.is_flag.Reads as reads
-use Rattle.storing.proofs.is_flag.Lts as lts
 
--- src/lib.rt:108:5
 shared-slice-read-result : tie.Need-shared-slice-read-result
 shared-slice-read-result c = search needs
 
--- src/lib.rt:104:1
 returns : tie.Need-returns
 returns c = (refl, bytes (c .before .args .b .now) (λ (k : ℕ). omega (arith, c .shared-slice-known .given k)))
 

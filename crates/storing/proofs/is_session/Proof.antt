@@ -1,3 +1,4 @@
+-- The length is right, and each truth value is 0 or 1.
 use Rattle.storing.specs.Stored.{fileFlags}
 use mathlib.Core.Path.{_≡_, sym, _∙_}
 use lib.ListN.{length}
@@ -5,34 +6,25 @@ use Rattle.storing.proofs.Read.{asked, other-size}
 use borrow.Author.Needs.{needs}
 use Rattle.storing.proofs.is_session.Statement.{statement}
 use Rattle.storing.proofs.is_session.Tie as tie
-use Rattle.storing.proofs.is_session.Reads as reads
-use Rattle.storing.proofs.is_session.Lts as lts
-use Rattle.storing.proofs.file_flags.Reads as file-flags-reads
 
--- src/lib.rt:190:9
 file-flags-requires : tie.Need-file-flags-requires
 file-flags-requires c κs = search needs
 
--- src/lib.rt:190:31
 file-flags-requires-2 : tie.Need-file-flags-requires-2
 file-flags-requires-2 c κs = search needs
 
--- src/lib.rt:190:53
 file-flags-requires-3 : tie.Need-file-flags-requires-3
 file-flags-requires-3 c κs = search needs
 
--- src/lib.rt:190:74
 file-flags-requires-4 : tie.Need-file-flags-requires-4
 file-flags-requires-4 c κs = search needs
 
--- src/lib.rt:186:1
 returns : tie.Need-returns
 returns c =
     let b = c .before .before .before .before .before .before .args .b .now in
     let l : length b ≡ 516 = c .before .before .before .before .if1 .taken in
     sym (asked fileFlags 30 516 b (c .file-flags4 .ensures .1) l ∙ rw (c .before .before .before .file-flags .ensures .0, c .before .before .file-flags2 .ensures .0, c .before .file-flags3 .ensures .0, c .file-flags4 .ensures .0))
 
--- src/lib.rt:186:1
 returns-2 : tie.Need-returns-2
 returns-2 c = sym (other-size fileFlags 30 516 (c .before .before .args .b .now) (c .if1 .left))
 

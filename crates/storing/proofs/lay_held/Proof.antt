@@ -1,65 +1,48 @@
+-- The state, what it holds, and its buffer, laid one behind another.
 use Prim.Native.Nat.{_+_, _≤_}
-use Rattle.storing.proofs.Laid.{held-laid}
-use mathlib.Core.Path.{_≡_, sym, _∙_}
+use Rattle.storing.proofs.Laid.{held-laid, length-held}
+use mathlib.Core.Path.{_≡_, sym}
 use native.Mathlib.Omega.{arith}
 use lib.ListN.{length}
 use Rattle.geometry.proofs.Bytes.{lay-short}
 use Rattle.storing.specs.Stored.{heldStored}
-use Rattle.storing.proofs.Laid.{length-held}
 use borrow.Author.Needs.{needs}
 use Rattle.storing.proofs.lay_held.Statement.{statement}
 use Rattle.storing.proofs.lay_held.Tie as tie
-use Rattle.storing.proofs.lay_held.Reads as reads
-use Rattle.storing.proofs.lay_held.Lts as lts
-use Rattle.geometry.proofs.lay.Reads as lay-reads
-use Rattle.storing.proofs.file_bytes.Reads as file-bytes-reads
-use Rattle.storing.proofs.hold_bytes.Reads as hold-bytes-reads
 
--- src/lib.rt:467:13
 file-bytes-requires : tie.Need-file-bytes-requires
 file-bytes-requires c κs = search needs
 
--- src/lib.rt:468:13
 hold-bytes-requires : tie.Need-hold-bytes-requires
 hold-bytes-requires c κs = search needs
 
--- src/lib.rt:469:8
 add-if1 : tie.Need-add-if1
 add-if1 c = search needs
 
--- src/lib.rt:470:20
 slice-aggregate-lay : tie.Need-slice-aggregate-lay
 slice-aggregate-lay c = search needs
 
--- src/lib.rt:470:9
 lay-requires : tie.Need-lay-requires
 lay-requires c κs = search needs
 
--- src/lib.rt:471:16
 add-lay : tie.Need-add-lay
 add-lay c = search needs
 
--- src/lib.rt:471:25
 slice-aggregate-lay-2 : tie.Need-slice-aggregate-lay-2
 slice-aggregate-lay-2 c = search needs
 
--- src/lib.rt:471:9
 lay-requires-2 : tie.Need-lay-requires-2
 lay-requires-2 c κs = search needs
 
--- src/lib.rt:472:16
 add-lay-2 : tie.Need-add-lay-2
 add-lay-2 c = search needs
 
--- src/lib.rt:472:25
 slice-aggregate-lay-3 : tie.Need-slice-aggregate-lay-3
 slice-aggregate-lay-3 c = search needs
 
--- src/lib.rt:472:9
 lay-requires-3 : tie.Need-lay-requires-3
 lay-requires-3 c κs = search needs
 
--- src/lib.rt:461:1
 same-length : tie.Need-same-length
 same-length c = search needs
 
@@ -69,7 +52,6 @@ buffer-size c = search needs
 room : (c : tie.Then1) → c .before .before .before .before .before .before .args .at + 396 ≤ length (c .before .before .before .before .before .before .args .b .now)
 room c = search needs
 
--- src/lib.rt:461:1
 returns : tie.Need-returns
 returns c =
     let k = c .before .before .before .before .before .before .before .before .before .before .before .before .before .before .before .before in
@@ -78,7 +60,6 @@ returns c =
     let h : a .at + 396 ≤ length (a .b .now) = room (c .before .before .before .before .before .before .before .before .before .before .before .before .before .before .before) in
     (held-laid (a .f) (a .b .now) (k .before .file-bytes .result) (k .hold-bytes .result) (c .before .before .before .before .before .before .before .before .before .before .before .before .lay .last .0) (c .before .before .before .before .before .before .before .lay2 .last .0) (c .before .before .lay3 .last .0) (a .at) h n (k .before .file-bytes .ensures) (k .hold-bytes .ensures) (c .before .before .before .before .before .before .before .before .before .before .before .before .lay .ensures) (c .before .before .before .before .before .before .before .lay2 .ensures) (c .before .before .lay3 .ensures), length-held (a .f) n)
 
--- src/lib.rt:461:1
 returns-2 : tie.Need-returns-2
 returns-2 c =
     let a = c .before .before .before .before .before .before .args in

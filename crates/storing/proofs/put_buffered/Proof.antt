@@ -1,7 +1,8 @@
-use mathlib.Core.Path.{_≡_, refl, sym, ap, _∙_}
-use Prim.Native.Nat.{ℕ, _+_, _*_, _-_, _≤_, _<_}
+-- Each state is laid behind those before it.
+use mathlib.Core.Path.{_≡_, refl, ap, _∙_}
+use Prim.Native.Nat.{_+_, _*_, _-_, _≤_}
 use native.Mathlib.Omega.{arith}
-use lib.ListN.{length, take, getD}
+use lib.ListN.{length, take}
 use lib.Seq.{take-all}
 use Rattle.geometry.specs.Bytes.{lay}
 use Rattle.geometry.proofs.Bytes.{length-lay}
@@ -12,9 +13,6 @@ use Rattle.storing.proofs.Laid.{part-there}
 use borrow.Author.Needs.{needs}
 use Rattle.storing.proofs.put_buffered.Statement.{statement}
 use Rattle.storing.proofs.put_buffered.Tie as tie
-use Rattle.storing.proofs.put_buffered.Reads as reads
-use Rattle.storing.proofs.put_buffered.Lts as lts
-use Rattle.storing.proofs.put_held.Reads as put-held-reads
 
 abbrev Inv-loop : tie.InvT-loop
 Inv-loop b₀ files k₀ b k = (b ≡ lay b₀ 396 (rowOf heldStored (take k files))) × (length (rowOf heldStored (take k files)) ≡ 396 * k) × (k ≤ 4) × (length b ≡ length b₀)
@@ -22,33 +20,26 @@ Inv-loop b₀ files k₀ b k = (b ≡ lay b₀ 396 (rowOf heldStored (take k fil
 abbrev μ-loop : tie.MeasureT-loop
 μ-loop b₀ files k₀ b k = 4 - k
 
--- src/lib.rt:516:5
 loop-holds : tie.Need-loop-holds Inv-loop μ-loop
 loop-holds c =
     let a = c .before .args in
     (laid-none heldStored (a .b .now) 396 (a .t2), size-none heldStored (a .t2), omega arith, refl)
 
--- src/lib.rt:517:17
 mul-f : tie.Need-mul-f Inv-loop μ-loop
 mul-f c = search needs
 
--- src/lib.rt:517:17
 array-copy-out-f : tie.Need-array-copy-out-f Inv-loop μ-loop
 array-copy-out-f c = search needs
 
--- src/lib.rt:518:9
 put-held-requires : tie.Need-put-held-requires Inv-loop μ-loop
 put-held-requires c κs = search needs
 
--- src/lib.rt:519:9
 add-k : tie.Need-add-k Inv-loop μ-loop
 add-k c = search needs
 
--- src/lib.rt:516:5
 loop-less : tie.Need-loop-less Inv-loop μ-loop
 loop-less c = search needs
 
--- src/lib.rt:516:5
 loop-again : tie.Need-loop-again Inv-loop μ-loop
 loop-again c =
     let l = c .before .before .before .before .before .before .loop in
@@ -57,11 +48,9 @@ loop-again c =
     let r = turn heldStored (a .b .now) (l .b) (c .before .before .put-held .last .0) (a .t2) (l .k) 396 (396 * l .k) 396 (396 + 396 * l .k) _ (omega arith) (omega arith) (l .inv .0) (l .inv .1) (c .before .before .put-held .ensures .0 ∙ part-there 4 396 396 (l .b) (l .k) _ (396 + 396 * l .k) refl (omega arith)) (c .before .before .put-held .ensures .1) (omega arith) in
     (r .0, omega (arith, r .1), omega arith, ap length (r .0) ∙ length-lay (a .b .now) 396 _)
 
--- src/lib.rt:511:1
 same-length : tie.Need-same-length Inv-loop μ-loop
 same-length c = c .before .loop .inv .3
 
--- src/lib.rt:511:1
 returns : tie.Need-returns Inv-loop μ-loop
 returns c =
     let l = c .before .loop in

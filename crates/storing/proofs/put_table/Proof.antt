@@ -1,7 +1,8 @@
-use mathlib.Core.Path.{_≡_, refl, sym, ap, _∙_}
-use Prim.Native.Nat.{ℕ, _+_, _*_, _-_, _≤_, _<_}
+-- Each entry is laid behind those before it.
+use mathlib.Core.Path.{_≡_, refl, ap, _∙_}
+use Prim.Native.Nat.{_*_, _-_, _≤_}
 use native.Mathlib.Omega.{arith}
-use lib.ListN.{length, take, getD}
+use lib.ListN.{length, take}
 use lib.Seq.{take-all}
 use Rattle.geometry.specs.Bytes.{lay}
 use Rattle.geometry.proofs.Bytes.{length-lay}
@@ -12,9 +13,6 @@ use Rattle.storing.proofs.Laid.{part-there}
 use borrow.Author.Needs.{needs}
 use Rattle.storing.proofs.put_table.Statement.{statement}
 use Rattle.storing.proofs.put_table.Tie as tie
-use Rattle.storing.proofs.put_table.Reads as reads
-use Rattle.storing.proofs.put_table.Lts as lts
-use Rattle.storing.proofs.put_entry.Reads as put-entry-reads
 
 abbrev Inv-loop : tie.InvT-loop
 Inv-loop b₀ t i₀ b i = (b ≡ lay b₀ 0 (rowOf entryStored (take i t))) × (length (rowOf entryStored (take i t)) ≡ 22 * i) × (i ≤ 18) × (length b ≡ length b₀)
@@ -22,33 +20,26 @@ Inv-loop b₀ t i₀ b i = (b ≡ lay b₀ 0 (rowOf entryStored (take i t))) × 
 abbrev μ-loop : tie.MeasureT-loop
 μ-loop b₀ t i₀ b i = 18 - i
 
--- src/lib.rt:492:5
 loop-holds : tie.Need-loop-holds Inv-loop μ-loop
 loop-holds c =
     let a = c .before .args in
     (laid-none entryStored (a .b .now) 0 (a .t2), size-none entryStored (a .t2), omega arith, refl)
 
--- src/lib.rt:493:17
 mul-e : tie.Need-mul-e Inv-loop μ-loop
 mul-e c = search needs
 
--- src/lib.rt:493:17
 array-copy-out-e : tie.Need-array-copy-out-e Inv-loop μ-loop
 array-copy-out-e c = search needs
 
--- src/lib.rt:494:9
 put-entry-requires : tie.Need-put-entry-requires Inv-loop μ-loop
 put-entry-requires c κs = search needs
 
--- src/lib.rt:495:9
 add-i : tie.Need-add-i Inv-loop μ-loop
 add-i c = search needs
 
--- src/lib.rt:492:5
 loop-less : tie.Need-loop-less Inv-loop μ-loop
 loop-less c = search needs
 
--- src/lib.rt:492:5
 loop-again : tie.Need-loop-again Inv-loop μ-loop
 loop-again c =
     let l = c .before .before .before .before .before .before .loop in
@@ -57,11 +48,9 @@ loop-again c =
     let r = turn entryStored (a .b .now) (l .b) (c .before .before .put-entry .last .0) (a .t2) (l .i) 0 (22 * l .i) 22 (22 * l .i) _ (omega arith) (omega arith) (l .inv .0) (l .inv .1) (c .before .before .put-entry .ensures .0 ∙ part-there 18 0 22 (l .b) (l .i) _ (22 * l .i) (omega arith) (omega arith)) (c .before .before .put-entry .ensures .1) (omega arith) in
     (r .0, omega (arith, r .1), omega arith, ap length (r .0) ∙ length-lay (a .b .now) 0 _)
 
--- src/lib.rt:487:1
 same-length : tie.Need-same-length Inv-loop μ-loop
 same-length c = c .before .loop .inv .3
 
--- src/lib.rt:487:1
 returns : tie.Need-returns Inv-loop μ-loop
 returns c =
     let l = c .before .loop in

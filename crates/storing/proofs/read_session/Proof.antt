@@ -1,3 +1,4 @@
+-- The table and the states, where the bytes are a session.
 use mathlib.Core.Path.{_≡_, sym, _∙_}
 use mathlib.Core.Bool.{true}
 use native.Mathlib.Omega.{arith}
@@ -6,39 +7,27 @@ use Rattle.storing.proofs.Read.{formed-size, session-is, session-none}
 use borrow.Author.Needs.{needs}
 use Rattle.storing.proofs.read_session.Statement.{statement}
 use Rattle.storing.proofs.read_session.Tie as tie
-use Rattle.storing.proofs.read_session.Reads as reads
-use Rattle.storing.proofs.read_session.Lts as lts
-use Rattle.storing.proofs.files_in.Reads as files-in-reads
-use Rattle.storing.proofs.is_session.Reads as is-session-reads
-use Rattle.storing.proofs.table_in.Reads as table-in-reads
-use Rattle.storing.proofs.unlawful.Reads as unlawful-reads
 
--- src/lib.rt:231:8
 is-session-requires : tie.Need-is-session-requires
 is-session-requires c κs = search needs
 
 stands : (c : tie.Then1) → isStored (c .before .before .before .args .b .now) ≡ true
 stands c = sym (c .before .is-session .ensures) ∙ c .if1 .taken
 
--- src/lib.rt:232:13
 table-in-requires : tie.Need-table-in-requires
 table-in-requires c κs = omega (arith, formed-size fileFlags 30 516 (c .before .before .before .args .b .now) (stands c))
 
--- src/lib.rt:233:13
 files-in-requires : tie.Need-files-in-requires
 files-in-requires c κs = omega (arith, formed-size fileFlags 30 516 (c .before .before .before .before .args .b .now) (stands (c .before)))
 
--- src/lib.rt:239:9
 unlawful-requires : tie.Need-unlawful-requires
 unlawful-requires c κs = search needs
 
--- src/lib.rt:228:1
 returns : tie.Need-returns
 returns c =
     let b = c .before .before .before .before .before .args .b .now in
     rw (c .before .table-in .ensures, c .files-in .ensures) (sym (session-is b (stands (c .before .before))))
 
--- src/lib.rt:228:1
 returns-2 : tie.Need-returns-2
 returns-2 c =
     let b = c .before .before .before .before .args .b .now in

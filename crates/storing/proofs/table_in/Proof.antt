@@ -1,3 +1,4 @@
+-- Each entry is read at its place.
 use mathlib.Core.Path.{_≡_, _∙_}
 use mathlib.Core.List.{_++_, append-nil}
 use Prim.Native.Nat.{_≤_, _-_}
@@ -10,10 +11,6 @@ use Rattle.storing.proofs.Read.{length-table, table-more}
 use borrow.Author.Needs.{needs}
 use Rattle.storing.proofs.table_in.Statement.{statement}
 use Rattle.storing.proofs.table_in.Tie as tie
-use Rattle.storing.proofs.table_in.Reads as reads
-use Rattle.storing.proofs.table_in.Lts as lts
-use Rattle.directory.proofs.empty_table.Reads as empty-table-reads
-use Rattle.storing.proofs.entry_at.Reads as entry-at-reads
 
 abbrev Inv-loop : tie.InvT-loop
 Inv-loop b t₀ i₀ t i = (t ≡ take i (tableIn b) ++ drop i (replicate 18 freeEntry)) × (i ≤ 18)
@@ -21,45 +18,35 @@ Inv-loop b t₀ i₀ t i = (t ≡ take i (tableIn b) ++ drop i (replicate 18 fre
 abbrev μ-loop : tie.MeasureT-loop
 μ-loop b t₀ i₀ t i = 18 - i
 
--- src/lib.rt:139:17
 empty-table-requires : tie.Need-empty-table-requires Inv-loop μ-loop
 empty-table-requires c κs = search needs
 
--- src/lib.rt:141:5
 loop-holds : tie.Need-loop-holds Inv-loop μ-loop
 loop-holds c = (c .empty-table .ensures, omega arith)
 
--- src/lib.rt:142:29
 mul-entry-at : tie.Need-mul-entry-at Inv-loop μ-loop
 mul-entry-at c = search needs
 
--- src/lib.rt:142:13
 entry-at-requires : tie.Need-entry-at-requires Inv-loop μ-loop
 entry-at-requires c κs = search needs
 
--- src/lib.rt:143:9
 mul-t : tie.Need-mul-t Inv-loop μ-loop
 mul-t c = search needs
 
--- src/lib.rt:143:9
 array-set-from-t : tie.Need-array-set-from-t Inv-loop μ-loop
 array-set-from-t c = search needs
 
--- src/lib.rt:144:9
 add-i : tie.Need-add-i Inv-loop μ-loop
 add-i c = search needs
 
--- src/lib.rt:141:5
 loop-less : tie.Need-loop-less Inv-loop μ-loop
 loop-less c = search needs
 
--- src/lib.rt:141:5
 loop-again : tie.Need-loop-again Inv-loop μ-loop
 loop-again c =
     let l = c .before .before .loop in
     (rw (l .inv .0) (table-more (c .before .before .before .before .before .args .b .now) (l .i) (c .entry-at .result) (omega arith) (c .entry-at .ensures)), omega arith)
 
--- src/lib.rt:135:1
 returns : tie.Need-returns Inv-loop μ-loop
 returns c =
     let b = c .before .before .before .before .args .b .now in

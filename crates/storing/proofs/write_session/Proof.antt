@@ -1,38 +1,29 @@
-use mathlib.Core.Path.{_≡_}
+-- The table is laid, then the states.
+use mathlib.Core.Path.{_≡_, sym}
 use lib.ListN.{length}
-use mathlib.Core.Path.{sym}
 use Rattle.storing.proofs.Laid.{session-laid, session-other}
 use borrow.Author.Needs.{needs}
 use Rattle.storing.proofs.write_session.Statement.{statement}
 use Rattle.storing.proofs.write_session.Tie as tie
-use Rattle.storing.proofs.write_session.Reads as reads
-use Rattle.storing.proofs.write_session.Lts as lts
-use Rattle.storing.proofs.put_files.Reads as put-files-reads
-use Rattle.storing.proofs.put_table.Reads as put-table-reads
 
--- src/lib.rt:530:9
 put-table-requires : tie.Need-put-table-requires
 put-table-requires c κs = search needs
 
--- src/lib.rt:531:9
 put-files-requires : tie.Need-put-files-requires
 put-files-requires c κs = search needs
 
--- src/lib.rt:524:1
 same-length : tie.Need-same-length
 same-length c = search needs
 
 size : (c : tie.Then1) → length (c .before .before .args .b .now) ≡ 516
 size c = search needs
 
--- src/lib.rt:524:1
 returns : tie.Need-returns
 returns c =
     let k = c .before .before .before .before .before .before .put-table in
     let a = c .before .before .before .before .before .before .before .before .before .before .before .before .args in
     session-laid (a .s) (a .b .now) (k .last .0) (c .before .before .put-files .last .0) (size (c .before .before .before .before .before .before .before .before .before .before)) (k .ensures .1) (c .before .before .put-files .ensures .1) (k .ensures .0) (c .before .before .put-files .ensures .0)
 
--- src/lib.rt:524:1
 returns-2 : tie.Need-returns-2
 returns-2 c = sym (session-other (c .before .before .args .s) (c .before .before .args .b .now) (c .if1 .left))
 
