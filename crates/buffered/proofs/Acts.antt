@@ -30,7 +30,7 @@ use Rattle.requests.specs.declared.Order.the-variants.{WriteMark, RewindOnline,
 use Rattle.requests.specs.declared.Request.{Request}
 use Rattle.requests.specs.declared.Request.the-variants.{Open, Read, Write, GranuleRead, GranuleWrite, GranuleLook, Position}
 use Rattle.directory.specs.declared.Entry.{Entry}
-use Rattle.held.specs.declared.Holding.{Holding}
+use Rattle.sessions.specs.declared.Holding.{Holding}
 use Rattle.sessions.specs.declared.OpenFile.{OpenFile}
 
 goes-elsewhere : (bytes : List ℕ) (p : Place) → not (eqb (p .sector) (startOf bytes p .sector)) ≡ goesOn bytes p

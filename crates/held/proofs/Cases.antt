@@ -26,7 +26,7 @@ use Rattle.requests.specs.declared.Order.{Order}
 use Rattle.requests.specs.declared.Order.the-variants.{WriteMark, RewindOnline, RewindOffline, RecordForward, RecordBack, FileForward, FileBack}
 use Rattle.requests.specs.declared.Request.the-variants.{Position}
 use Rattle.sessions.specs.declared.OpenFile.{OpenFile}
-use Rattle.held.specs.declared.Holding.{Holding}
+use Rattle.sessions.specs.declared.Holding.{Holding}
 use Rattle.held.specs.Held.{bench, lent, scene, isThere, isWhole, canDo, heldDo, heldAll, readWith, writeWith}
 
 -- bytes laid over all that there is

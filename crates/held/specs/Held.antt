@@ -15,7 +15,7 @@ use Rattle.straight.specs.Straight.{writing}
 use Rattle.directory.specs.declared.Entry.{Entry}
 use Rattle.sessions.specs.declared.BufferedFile.{BufferedFile}
 use Rattle.sessions.specs.declared.OpenFile.{OpenFile}
-use Rattle.held.specs.declared.Holding.{Holding}
+use Rattle.sessions.specs.declared.Holding.{Holding}
 
 abbrev pub bench : List ℕ → BufferedFile → Bench
 bench image b = record { image = image; file = b }

@@ -9,6 +9,7 @@ use geometry::lay_padded;
 use geometry::part;
 use packing::fits_here;
 use requests::Order;
+use sessions::Holding;
 use sessions::OpenFile;
 use straight::room_behind;
 use straight::sector_at;
@@ -25,13 +26,6 @@ ghost use Rattle.steps.specs.Effects.{effects, sectorAt, taking};
 ghost use Rattle.steps.specs.Effects as Effects;
 ghost use Rattle.straight.specs.Straight.{writing};
 ghost use Rattle.held.specs.Held.{lent, scene, isThere, heldDo, heldAll, readWith, writeWith};
-
-// What a file holds: a sector of its extent, if it holds one, and whether that is changed. Its bytes are in a lent buffer.
-pub struct Holding {
-    pub holds: bool,
-    pub held: u32,
-    pub changed: bool,
-}
 
 // ---- the buffer
 

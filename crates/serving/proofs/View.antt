@@ -11,7 +11,7 @@ use Rattle.geometry.specs.Sizes.{entries, random}
 use Rattle.geometry.proofs.Tests.{either, both-ways}
 use Rattle.geometry.proofs.Numbered.{length-numbered, getD-numbered, many-map, many-alike}
 use Rattle.directory.specs.Entries.{entryAt, freeEntry, isFree, isKind, isMarked}
-use Rattle.sessions.specs.Session.{idle, fileOf, slotOf, openFiles, spotOf, extent, legal}
+use Rattle.sessions.specs.Session.{idle, fileOf, slotOf, openFiles, stand, spotOf, extent, legal}
 use Rattle.sessions.proofs.Files.{Finds, opened, closed, finds}
 use Rattle.sessions.proofs.Legal.{entry-inside, entry-used}
 use Rattle.sessions.proofs.Distinct.{distinct}
@@ -102,5 +102,5 @@ module _ (image : List ℕ) (s : Session) where
         ∙ sym (many-map isOpenModel (showsAt image s) (numbersFrom 0 entries))
 
     pub spot-view : (i : ℕ) → (isFree (entryAt (s .table) i) ≡ false → Lawful (entryAt (s .table) i) (fileOf (s .files) i)) → spotOf s i ≡ modelSpot (showsAt image s i)
-    unfolding spotOf showsAt
+    unfolding spotOf stand showsAt
     spot-view i w = spot-shows (entryAt (s .table) i) (fileOf (s .files) i) _ (free-shut i) w

@@ -54,11 +54,13 @@ slotOf files i =
 unfoldable pub openFiles : List OpenFile → ℕ
 openFiles files = howMany (λ f. f .used) files
 
+-- where a file stands, if it is open
+unfoldable pub stand : OpenFile → Spot
+stand f = elim (f .used) [ true ↦ At (f .position) (f .beyond) | false ↦ Closed ]
+
 -- where entry i's file stands
 unfoldable pub spotOf : Session → ℕ → Spot
-spotOf s i =
-    let f : OpenFile = fileOf (s .files) i in
-    elim (f .used) [ true ↦ At (f .position) (f .beyond) | false ↦ Closed ]
+spotOf s i = stand (fileOf (s .files) i)
 
 -- ---- a file's bytes
 

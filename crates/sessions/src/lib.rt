@@ -11,7 +11,7 @@ ghost use mathlib.Core.Bool.{_&&_, not};
 ghost use mathlib.Core.List.{map};
 ghost use Rattle.geometry.specs.Lists.{every, firstWith};
 ghost use Rattle.directory.specs.Entries.{entryAt};
-ghost use Rattle.sessions.specs.Session.{idle, fresh, bare, unheld, isOf, ofOther, fileOf, slotOf, openFiles, spotOf, placeGood, heldGood, legal, bufferedLegal};
+ghost use Rattle.sessions.specs.Session.{idle, fresh, bare, unheld, isOf, ofOther, fileOf, slotOf, openFiles, stand, spotOf, placeGood, heldGood, legal, bufferedLegal};
 ghost use Rattle.sessions.specs.Grouped.{filesGood, openGood, holdGood};
 
 // An open file: its entry, its position, and for a compressed file the current place and the end place.
@@ -31,6 +31,13 @@ pub struct BufferedFile {
     pub held: u32,
     pub changed: bool,
     pub buffer: [u8; 360],
+}
+
+// What an open file holds, without the bytes: a sector of its extent, if it holds one, and whether that is changed.
+pub struct Holding {
+    pub holds: bool,
+    pub held: u32,
+    pub changed: bool,
 }
 
 // A session of the engine with no buffer.
@@ -204,12 +211,10 @@ pub fn open_files(files: [OpenFile; 4]) -> u32
     n
 }
 
-// Where entry i's file stands.
-pub fn spot_of(s: Session, i: usize) -> Spot
-    ensures { λ r. ⌜ r ≡ spotOf s i ⌝ }
+// Where a file stands, if it is open.
+pub fn stand(f: OpenFile) -> Spot
+    ensures { λ r. ⌜ r ≡ stand f ⌝ }
 {
-    let files = s.files;
-    let f = file_of(files, i);
     if f.used {
         Spot::At {
             record: f.position,
@@ -218,6 +223,15 @@ pub fn spot_of(s: Session, i: usize) -> Spot
     } else {
         Spot::Closed
     }
+}
+
+// Where entry i's file stands.
+pub fn spot_of(s: Session, i: usize) -> Spot
+    ensures { λ r. ⌜ r ≡ spotOf s i ⌝ }
+{
+    let files = s.files;
+    let f = file_of(files, i);
+    stand(f)
 }
 
 // ---- the rules of a session

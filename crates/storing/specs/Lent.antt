@@ -1,14 +1,18 @@
 -- What a request asks of a session in lent bytes. Definitions only.
-use mathlib.Core.List.{List}
+use mathlib.Core.Bool.{Bool, true, false}
+use mathlib.Core.List.{List, []}
 use Prim.Native.Nat.{ℕ, _+_, _*_, _≤_}
-use lib.ListN.{length}
+use lib.ListN.{length, getD}
 use Rattle.geometry.specs.Sizes.{mostOpen}
 use Rattle.directory.specs.Entries.{entryAt}
-use Rattle.sessions.specs.Session.{fileOf, slotOf, openFiles}
+use Rattle.sessions.specs.Session.{idle, fresh, bare, fileOf, slotOf, openFiles, legal, bufferedLegal}
+use Rattle.sessions.specs.declared.BufferedFile.{BufferedFile}
+use Rattle.sessions.specs.declared.BufferedSession.{BufferedSession}
+use Rattle.sessions.specs.declared.Holding.{Holding}
 use Rattle.sessions.specs.declared.OpenFile.{OpenFile}
 use Rattle.sessions.specs.declared.Session.{Session}
 use Rattle.storing.specs.Rows.{rowIn}
-use Rattle.storing.specs.Stored.{fileWidth, heldWidth, filesAt, fileIn, tableIn}
+use Rattle.storing.specs.Stored.{fileWidth, heldWidth, filesAt, fileIn, tableIn, sessionIn, bufferedIn}
 use Rattle.storing.specs.declared.lawful.Seen.{Seen}
 
 -- four open-file states of w bytes each stand in the bytes, with or without a buffer
@@ -23,6 +27,39 @@ filesIn w b = rowIn fileIn w mostOpen b filesAt
 abbrev pub bareIn : ℕ → List ℕ → Session
 bareIn w b = record { table = tableIn b; files = filesIn w b }
 
--- how many files are open, which state is the entry's or is to be, the entry, and its file
-unfoldable pub seenOf : Session → ℕ → Seen
-seenOf s i = record { opened = openFiles (s .files); slot = slotOf (s .files) i; entry = entryAt (s .table) i; file = fileOf (s .files) i }
+-- the state of number k with its buffer; a fresh one where that is not in use
+unfoldable pub stateAt : List BufferedFile → ℕ → BufferedFile
+stateAt files k = elim (getD files k (fresh idle) .file .used) [ true ↦ getD files k (fresh idle) | false ↦ fresh idle ]
+
+-- what a state holds, without the bytes
+abbrev pub holdOf : BufferedFile → Holding
+holdOf b = record { holds = b .holds; held = b .held; changed = b .changed }
+
+-- nothing
+abbrev pub noHold : Holding
+noHold = record { holds = false; held = 0; changed = false }
+
+-- the held sector, if there is one
+unfoldable pub lentBy : BufferedFile → List ℕ
+lentBy b = elim (b .holds) [ true ↦ b .buffer | false ↦ [] ]
+
+-- whether the session is legal, how many files are open, which state is the entry's or is to be, the entry, its file, and what that holds
+unfoldable pub seenOf : Bool → Session → ℕ → Holding → Seen
+seenOf lawful s i hold = record {
+  lawful = lawful;
+  opened = openFiles (s .files);
+  slot = slotOf (s .files) i;
+  entry = entryAt (s .table) i;
+  file = fileOf (s .files) i;
+  hold = hold;
+}
+
+unfoldable pub seenIn : List ℕ → List ℕ → ℕ → Seen
+seenIn image b i = seenOf (legal image (sessionIn b)) (sessionIn b) i noHold
+
+-- entry i's state with its buffer
+abbrev pub ownState : BufferedSession → ℕ → BufferedFile
+ownState s i = stateAt (s .files) (slotOf (bare s .files) i)
+
+unfoldable pub seenBufferedIn : List ℕ → List ℕ → ℕ → Seen
+seenBufferedIn image b i = seenOf (bufferedLegal image (bufferedIn b)) (bare (bufferedIn b)) i (holdOf (ownState (bufferedIn b) i))

@@ -7,23 +7,21 @@ use crate::is_buffered;
 use crate::is_session;
 use crate::is_set;
 use crate::long_at;
-use crate::unlawful;
+use crate::unlawful_entry;
 use crate::wide_at;
 use crate::word_at;
 use directory::Entry;
 use directory::entry_good;
-use directory::entry_of;
 use directory::free_entry;
 use directory::two_good;
 use geometry::Geometry;
+use sessions::Holding;
 use sessions::OpenFile;
-use sessions::Session;
+use sessions::Spot;
 use sessions::file_good;
-use sessions::file_of;
 use sessions::hold_good;
 use sessions::idle;
-use sessions::open_files;
-use sessions::slot_of;
+use sessions::stand;
 ghost use mathlib.Core.Path.{_≡_};
 ghost use mathlib.Core.Bool.{not};
 ghost use Prim.Native.Nat.{_+_, _*_, _≤_, _<_};
@@ -34,18 +32,21 @@ ghost use Rattle.geometry.specs.Lists.{every, firstWith};
 ghost use Rattle.directory.specs.Entries.{entryAt};
 ghost use Rattle.directory.specs.Rules.{tableGood};
 ghost use Rattle.directory.specs.Grouped.{twoGood};
-ghost use Rattle.sessions.specs.Session.{bare, isOf, openFiles, heldGood, legal, bufferedLegal};
+ghost use Rattle.sessions.specs.Session.{bare, isOf, fileOf, slotOf, openFiles, spotOf, heldGood, legal};
 ghost use Rattle.sessions.specs.Grouped.{filesGood};
 ghost use Rattle.storing.specs.Rows.{rowIn};
-ghost use Rattle.storing.specs.Stored.{fileIn, heldIn, tableIn, sessionIn, bufferedIn};
-ghost use Rattle.storing.specs.Lent.{Spaced, filesIn, bareIn, seenOf};
+ghost use Rattle.storing.specs.Stored.{fileIn, heldIn, tableIn, unlawful, sessionIn, bufferedIn};
+ghost use Rattle.storing.specs.Lent.{Spaced, filesIn, bareIn, stateAt, holdOf, noHold, seenOf, seenIn, seenBufferedIn};
 
-// What a request asks of a session: how many files are open, which state is the entry's or is to be, the entry, and its file.
+// What a request asks of a session: whether it is legal for the image, how many files are open, which state is the entry's or is to be,
+// the entry, its file, and what that holds.
 pub struct Seen {
+    pub lawful: bool,
     pub opened: u32,
     pub slot: usize,
     pub entry: Entry,
     pub file: OpenFile,
+    pub hold: Holding,
 }
 
 // ---- the table
@@ -204,28 +205,6 @@ fn is_lawful(image: &[u8], b: &[u8], w: usize) -> bool
     }
 }
 
-// Whether the session that bytes are is legal for an image.
-pub fn is_legal_in(image: &[u8], b: &[u8]) -> bool
-    ensures { λ r. ⌜ r ≡ legal (now (image .entry)) (sessionIn (now (b .entry))) ⌝ }
-{
-    if is_session(b) {
-        is_lawful(image, b, Form::FILE)
-    } else {
-        false
-    }
-}
-
-// Whether the session with buffers that bytes are is legal for an image.
-pub fn is_legal_buffered_in(image: &[u8], b: &[u8]) -> bool
-    ensures { λ r. ⌜ r ≡ bufferedLegal (now (image .entry)) (bufferedIn (now (b .entry))) ⌝ }
-{
-    if is_buffered(b) {
-        is_lawful(image, b, Form::HELD) & holds_good(b)
-    } else {
-        false
-    }
-}
-
 // ---- finding a file
 
 // The number of the first state that is entry i's; 4 where there is none.
@@ -277,68 +256,140 @@ fn opened_in(b: &[u8], w: usize) -> u32
     n
 }
 
-// What a session in bytes has of entry i.
-fn seen_in(b: &[u8], w: usize, i: usize) -> Seen
-    requires { ⌜ Spaced w (now b) ⌝ }
-    ensures { λ r. ⌜ r ≡ seenOf (bareIn w (now (b .entry))) i ⌝ }
+// A buffer that holds nothing.
+fn no_hold() -> Holding
+    ensures { λ r. ⌜ r ≡ noHold ⌝ }
 {
-    let n = opened_in(b, w);
-    let e = entry_in(b, i);
-    let k = first_of(b, w, i);
-    if k < 4 {
-        let at = state_place(w, k);
-        let f = file_at(b, at);
-        Seen {
-            opened: n,
-            slot: k,
-            entry: e,
-            file: f,
-        }
-    } else {
-        let f = idle();
-        Seen {
-            opened: n,
-            slot: first_idle(b, w),
-            entry: e,
-            file: f,
-        }
+    Holding {
+        holds: false,
+        held: 0,
+        changed: false,
     }
 }
 
-// What a session has of entry i.
-fn seen_of(s: Session, i: usize) -> Seen
-    ensures { λ r. ⌜ r ≡ seenOf s i ⌝ }
+// What state k holds; nothing where it is not in use.
+fn hold_in(b: &[u8], k: usize) -> Holding
+    requires { ⌜ 1980 ≤ length (now b) ⌝ }
+    ensures { λ r. ⌜ r ≡ holdOf (stateAt (rowIn heldIn 396 4 (now (b .entry)) 396) k) ⌝ }
 {
-    let table = s.table;
-    let files = s.files;
-    let e = entry_of(table, i);
-    let f = file_of(files, i);
+    if k < 4 {
+        let at = state_place(Form::HELD, k);
+        if is_set(b, at) {
+            return Holding {
+                holds: is_set(b, at + 30),
+                held: long_at(b, at + 31),
+                changed: is_set(b, at + 35),
+            };
+        }
+    }
+    no_hold()
+}
+
+// Entry i's file; idle if it is not open.
+fn file_in(b: &[u8], w: usize, i: usize) -> OpenFile
+    requires { ⌜ Spaced w (now b) ⌝ }
+    ensures { λ r. ⌜ r ≡ fileOf (filesIn w (now (b .entry))) i ⌝ }
+{
+    let k = first_of(b, w, i);
+    if k < 4 {
+        file_at(b, state_place(w, k))
+    } else {
+        idle()
+    }
+}
+
+// Which state is entry i's: the one it has, else the first that is not in use.
+fn slot_in(b: &[u8], w: usize, i: usize) -> usize
+    requires { ⌜ Spaced w (now b) ⌝ }
+    ensures { λ r. ⌜ r ≡ slotOf (filesIn w (now (b .entry))) i ⌝ }
+{
+    let k = first_of(b, w, i);
+    if k < 4 { k } else { first_idle(b, w) }
+}
+
+// What a session in bytes has of entry i.
+fn seen_in(lawful: bool, b: &[u8], w: usize, i: usize, hold: Holding) -> Seen
+    requires { ⌜ Spaced w (now b) ⌝ }
+    ensures { λ r. ⌜ r ≡ seenOf lawful (bareIn w (now (b .entry))) i hold ⌝ }
+{
+    let e = entry_in(b, i);
+    let f = file_in(b, w, i);
     Seen {
-        opened: open_files(files),
-        slot: slot_of(files, i),
+        lawful: lawful,
+        opened: opened_in(b, w),
+        slot: slot_in(b, w, i),
         entry: e,
         file: f,
+        hold: hold,
+    }
+}
+
+// What is seen of bytes that are no session.
+fn unseen(i: usize) -> Seen
+    ensures { λ r. ⌜ r ≡ seenOf false unlawful i noHold ⌝ }
+{
+    let e = if i < Geometry::ENTRIES {
+        unlawful_entry()
+    } else {
+        free_entry()
+    };
+    let f = idle();
+    let h = no_hold();
+    Seen {
+        lawful: false,
+        opened: 0,
+        slot: 0,
+        entry: e,
+        file: f,
+        hold: h,
     }
 }
 
 // What the session that bytes are has of entry i.
-pub fn find_in(b: &[u8], i: usize) -> Seen
-    ensures { λ r. ⌜ r ≡ seenOf (sessionIn (now (b .entry))) i ⌝ }
+pub fn find_in(image: &[u8], b: &[u8], i: usize) -> Seen
+    ensures { λ r. ⌜ r ≡ seenIn (now (image .entry)) (now (b .entry)) i ⌝ }
 {
     if is_session(b) {
-        seen_in(b, Form::FILE, i)
+        let lawful = is_lawful(image, b, Form::FILE);
+        seen_in(lawful, b, Form::FILE, i, no_hold())
     } else {
-        seen_of(unlawful(), i)
+        unseen(i)
     }
 }
 
 // What the session with buffers that bytes are has of entry i.
-pub fn find_buffered_in(b: &[u8], i: usize) -> Seen
-    ensures { λ r. ⌜ r ≡ seenOf (bare (bufferedIn (now (b .entry)))) i ⌝ }
+pub fn find_buffered_in(image: &[u8], b: &[u8], i: usize) -> Seen
+    ensures { λ r. ⌜ r ≡ seenBufferedIn (now (image .entry)) (now (b .entry)) i ⌝ }
 {
     if is_buffered(b) {
-        seen_in(b, Form::HELD, i)
+        let lawful = is_lawful(image, b, Form::HELD) & holds_good(b);
+        let hold = hold_in(b, slot_in(b, Form::HELD, i));
+        seen_in(lawful, b, Form::HELD, i, hold)
     } else {
-        seen_of(unlawful(), i)
+        unseen(i)
+    }
+}
+
+// ---- where a file stands
+
+// Where entry i's file stands in the session that bytes are.
+pub fn spot_in(b: &[u8], i: usize) -> Spot
+    ensures { λ r. ⌜ r ≡ spotOf (sessionIn (now (b .entry))) i ⌝ }
+{
+    if is_session(b) {
+        stand(file_in(b, Form::FILE, i))
+    } else {
+        Spot::Closed
+    }
+}
+
+// Where entry i's file stands in the session with buffers that bytes are.
+pub fn spot_buffered_in(b: &[u8], i: usize) -> Spot
+    ensures { λ r. ⌜ r ≡ spotOf (bare (bufferedIn (now (b .entry)))) i ⌝ }
+{
+    if is_buffered(b) {
+        stand(file_in(b, Form::HELD, i))
+    } else {
+        Spot::Closed
     }
 }

@@ -8,8 +8,8 @@ use geometry::lay;
 pub use lawful::Seen;
 pub use lawful::find_buffered_in;
 pub use lawful::find_in;
-pub use lawful::is_legal_buffered_in;
-pub use lawful::is_legal_in;
+pub use lawful::spot_buffered_in;
+pub use lawful::spot_in;
 use sessions::BufferedFile;
 use sessions::BufferedSession;
 use sessions::OpenFile;
@@ -27,7 +27,7 @@ ghost use Rattle.geometry.specs.Bytes as Bytes;
 ghost use Rattle.geometry.specs.Lists.{all, every};
 ghost use Rattle.storing.specs.Numbers.{bytesOf, numberIn, flagOf, isSet, isFlag, isByte};
 ghost use Rattle.storing.specs.Rows.{rowOf, rowIn};
-ghost use Rattle.storing.specs.Stored.{entryStored, entryIn, placeStored, placeIn, fileStored, fileIn, fileFlags, holdStored, heldStored, heldIn, heldFlags, isStored, isBufferedStored, tableIn, unlawful, sessionIn, bufferedIn, layEntry, layFile, layHeld, laySession, layBuffered};
+ghost use Rattle.storing.specs.Stored.{entryStored, entryIn, placeStored, placeIn, fileStored, fileIn, fileFlags, holdStored, heldStored, heldIn, heldFlags, isStored, isBufferedStored, tableIn, unlawfulEntry, unlawful, sessionIn, bufferedIn, layEntry, layFile, layHeld, laySession, layBuffered};
 
 // The places and sizes of a session's parts.
 pub struct Form {}
@@ -263,11 +263,11 @@ fn files_in(b: &[u8]) -> [OpenFile; 4]
     [f, g, h, k]
 }
 
-// A session that is legal for no image.
-fn unlawful() -> Session
-    ensures { λ r. ⌜ r ≡ unlawful ⌝ }
+// An entry of no kind, which no table may have.
+fn unlawful_entry() -> Entry
+    ensures { λ r. ⌜ r ≡ unlawfulEntry ⌝ }
 {
-    let e = Entry {
+    Entry {
         name: [0; 8],
         kind: 5,
         length: 0,
@@ -275,7 +275,14 @@ fn unlawful() -> Session
         sectors: 0,
         count: 0,
         flags: 0,
-    };
+    }
+}
+
+// A session that is legal for no image.
+fn unlawful() -> Session
+    ensures { λ r. ⌜ r ≡ unlawful ⌝ }
+{
+    let e = unlawful_entry();
     let f = idle();
     Session {
         table: [e; 18],
