@@ -24,7 +24,7 @@ use sessions::idle;
 use sessions::stand;
 ghost use mathlib.Core.Path.{_≡_};
 ghost use mathlib.Core.Bool.{not};
-ghost use Prim.Native.Nat.{_+_, _*_, _≤_, _<_};
+ghost use Prim.Native.Nat.{_+_, _*_, _/_, _%_, _≤_, _<_};
 ghost use lib.Dec.{eqb};
 ghost use lib.ListN.{length, take};
 ghost use Rattle.geometry.specs.Bytes.{part};
@@ -59,18 +59,18 @@ fn is_zero_at(b: &[u8], at: usize) -> bool
     (wide_at(b, at) == 0) & ((wide_at(b, at + 8) == 0) & (wide_at(b, at + 14) == 0))
 }
 
-// Whether each entry before number i keeps the rules of two with e.
-fn apart_before(b: &[u8], i: usize, e: Entry) -> bool
-    requires { ⌜ (i ≤ 18) × (396 ≤ length (now b)) ⌝ }
-    ensures { λ r. ⌜ r ≡ every (λ f. twoGood f e) (take i (tableIn (now (b .entry)))) ⌝ }
+// Whether each entry before the one at byte `end` keeps the rules of two with e.
+fn apart_before(b: &[u8], end: usize, e: Entry) -> bool
+    requires { ⌜ (end % 22 ≡ 0) × ((end ≤ 396) × (396 ≤ length (now b))) ⌝ }
+    ensures { λ r. ⌜ r ≡ every (λ f. twoGood f e) (take (end / 22) (tableIn (now (b .entry)))) ⌝ }
 {
-    let mut j: usize = 0;
-    while j < i {
-        let f = entry_at(b, Form::ENTRY * j);
+    let mut at: usize = 0;
+    while at < end {
+        let f = entry_at(b, at);
         if !two_good(f, e) {
             return false;
         }
-        j += 1;
+        at += Form::ENTRY;
     }
     true
 }
@@ -80,9 +80,8 @@ fn table_good(b: &[u8], n: u32) -> bool
     requires { ⌜ 396 ≤ length (now b) ⌝ }
     ensures { λ r. ⌜ r ≡ tableGood n (tableIn (now (b .entry))) ⌝ }
 {
-    let mut i: usize = 0;
     let mut at: usize = 0;
-    while i < Geometry::ENTRIES {
+    while at < Form::FILES {
         if word_at(b, at + 8) == Geometry::FREE {
             if !is_zero_at(b, at) {
                 return false;
@@ -92,11 +91,10 @@ fn table_good(b: &[u8], n: u32) -> bool
             if !entry_good(e, n) {
                 return false;
             }
-            if !apart_before(b, i, e) {
+            if !apart_before(b, at, e) {
                 return false;
             }
         }
-        i += 1;
         at += Form::ENTRY;
     }
     true

@@ -1,5 +1,5 @@
 -- `storing::lawful::apart_before` meets its contract: what is left of the entries before it decides.
-use Prim.Native.Nat.{_≤_, _-_}
+use Prim.Native.Nat.{_+_, _/_, _%_, _≤_, _-_}
 use mathlib.Core.Path.{_≡_, refl, sym, _∙_}
 use native.Mathlib.Omega.{arith}
 use lib.ListN.{length, take, drop}
@@ -15,16 +15,14 @@ use Rattle.storing.proofs.lawful.apart_before.Statement.{statement}
 use Rattle.storing.proofs.lawful.apart_before.Tie as tie
 
 abbrev Inv-loop : tie.InvT-loop
-Inv-loop b i e j₀ j = (every (λ f. twoGood f e) (take i (tableIn b)) ≡ every (λ f. twoGood f e) (drop j (take i (tableIn b)))) × (j ≤ i)
+Inv-loop b end e at₀ at =
+    (every (λ f. twoGood f e) (take (end / 22) (tableIn b)) ≡ every (λ f. twoGood f e) (drop (at / 22) (take (end / 22) (tableIn b)))) × ((at % 22 ≡ 0) × (at ≤ end))
 
 abbrev μ-loop : tie.MeasureT-loop
-μ-loop b i e j₀ j = i - j
+μ-loop b end e at₀ at = end - at
 
 loop-holds : tie.Need-loop-holds Inv-loop μ-loop
-loop-holds c = (refl, omega arith)
-
-mul-entry-at : tie.Need-mul-entry-at Inv-loop μ-loop
-mul-entry-at c = search needs
+loop-holds c = (refl, (refl, omega arith))
 
 entry-at-requires : tie.Need-entry-at-requires Inv-loop μ-loop
 entry-at-requires c κs = search needs
@@ -36,13 +34,13 @@ returns : tie.Need-returns Inv-loop μ-loop
 returns c =
     let l = c .before .before .before .before in
     let a = l .before .before .args in
-    let j = l .loop .j in
+    let j = l .loop .at / 22 in
     let n : length (tableIn (a .b .now)) ≡ 18 = length-table (a .b .now) in
-    let bad = two-told (a .b .now) j _ (omega arith) refl _ _ _ (c .before .before .entry-at .ensures) (c .before .two-good .ensures) ∙ not-true _ (c .if1 .taken) in
-    sym (l .loop .inv .0 ∙ before-off _ (tableIn (a .b .now)) (a .i) j (omega arith) freeEntry (omega arith) bad)
+    let bad = two-told (a .b .now) j _ (omega arith) (omega arith) _ _ _ (c .before .before .entry-at .ensures) (c .before .two-good .ensures) ∙ not-true _ (c .if1 .taken) in
+    sym (l .loop .inv .0 ∙ before-off _ (tableIn (a .b .now)) (a .end / 22) j (omega arith) freeEntry (omega arith) bad)
 
-add-j : tie.Need-add-j Inv-loop μ-loop
-add-j c = search needs
+add-at : tie.Need-add-at Inv-loop μ-loop
+add-at c = search needs
 
 loop-less : tie.Need-loop-less Inv-loop μ-loop
 loop-less c = search needs
@@ -51,17 +49,18 @@ loop-again : tie.Need-loop-again Inv-loop μ-loop
 loop-again c =
     let l = c .before .before .before .before in
     let a = l .before .before .args in
-    let j = l .loop .j in
+    let j = l .loop .at / 22 in
     let n : length (tableIn (a .b .now)) ≡ 18 = length-table (a .b .now) in
-    let ok = two-told (a .b .now) j _ (omega arith) refl _ _ _ (c .before .before .entry-at .ensures) (c .before .two-good .ensures) ∙ not-false _ (c .if1 .left) in
-    (l .loop .inv .0 ∙ before-on _ (tableIn (a .b .now)) (a .i) j (omega arith) freeEntry (omega arith) ok, omega arith)
+    let ok = two-told (a .b .now) j _ (omega arith) (omega arith) _ _ _ (c .before .before .entry-at .ensures) (c .before .two-good .ensures) ∙ not-false _ (c .if1 .left) in
+    let next : l .loop .at / 22 + 1 ≡ (l .loop .at + 22) / 22 = omega arith in
+    (rw next at (l .loop .inv .0 ∙ before-on _ (tableIn (a .b .now)) (a .end / 22) j (omega arith) freeEntry (omega arith) ok), (omega arith, omega arith))
 
 returns-2 : tie.Need-returns-2 Inv-loop μ-loop
 returns-2 c =
     let l = c .before in
     let a = l .before .before .args in
     let n : length (tableIn (a .b .now)) ≡ 18 = length-table (a .b .now) in
-    sym (l .loop .inv .0 ∙ before-end _ (tableIn (a .b .now)) (a .i) (l .loop .j) (omega arith) (omega arith))
+    sym (l .loop .inv .0 ∙ before-end _ (tableIn (a .b .now)) (a .end / 22) (l .loop .at / 22) (omega arith) (omega arith))
 
 pub apart-before-spec : {M : Type 1} → statement M
 apart-before-spec =
@@ -70,11 +69,10 @@ apart-before-spec =
     Inv-loop
     μ-loop
     loop-holds
-    mul-entry-at
     entry-at-requires
     two-good-requires
     returns
-    add-j
+    add-at
     loop-less
     loop-again
     returns-2)

@@ -1,5 +1,5 @@
 -- `storing::lawful::table_good` meets its contract: what is done of the table keeps both rules.
-use Prim.Native.Nat.{_*_, _≤_, _-_, _<_}
+use Prim.Native.Nat.{_+_, _*_, _/_, _%_, _≤_, _-_, _<_}
 use mathlib.Core.Path.{_≡_, refl, sym, _∙_}
 use mathlib.Core.Bool.{true}
 use mathlib.Core.Logic.{⊎-elim}
@@ -18,13 +18,13 @@ use Rattle.storing.proofs.lawful.table_good.Statement.{statement}
 use Rattle.storing.proofs.lawful.table_good.Tie as tie
 
 abbrev Inv-loop : tie.InvT-loop
-Inv-loop b n i₀ at₀ i at = (Front (entryGood n) twoGood (tableIn b) i ≡ true) × ((at ≡ 22 * i) × (i ≤ 18))
+Inv-loop b n at₀ at = (Front (entryGood n) twoGood (tableIn b) (at / 22) ≡ true) × ((at % 22 ≡ 0) × (at ≤ 396))
 
 abbrev μ-loop : tie.MeasureT-loop
-μ-loop b n i₀ at₀ i at = 18 - i
+μ-loop b n at₀ at = 396 - at
 
 loop-holds : tie.Need-loop-holds Inv-loop μ-loop
-loop-holds c = (front-none (entryGood (c .before .args .n)) twoGood (tableIn (c .before .args .b .now)), (omega arith, omega arith))
+loop-holds c = (front-none (entryGood (c .before .args .n)) twoGood (tableIn (c .before .args .b .now)), (refl, omega arith))
 
 add-word-at : tie.Need-add-word-at Inv-loop μ-loop
 add-word-at c = search needs
@@ -40,9 +40,9 @@ returns c =
     let d = c .before .before .before in
     let l = d .before .before in
     let a = l .before .before .args in
-    let i = l .loop .i in
+    let i = l .loop .at / 22 in
     let n : length (tableIn (a .b .now)) ≡ 18 = length-table (a .b .now) in
-    let bad = free-told (a .b .now) i (l .loop .at) (omega arith) (l .loop .inv .1 .0) (a .n) _ _ (d .word-at .ensures) (c .before .before .if1 .taken) (c .before .is-zero-at .ensures) ∙ not-true _ (c .if2 .taken) in
+    let bad = free-told (a .b .now) i (l .loop .at) (omega arith) (omega arith) (a .n) _ _ (d .word-at .ensures) (c .before .before .if1 .taken) (c .before .is-zero-at .ensures) ∙ not-true _ (c .if2 .taken) in
     sym (grouped (a .n) (tableIn (a .b .now)) ∙ front-one (entryGood (a .n)) twoGood (tableIn (a .b .now)) i freeEntry (omega arith) bad)
 
 entry-at-requires : tie.Need-entry-at-requires Inv-loop μ-loop
@@ -55,9 +55,9 @@ returns-2 : tie.Need-returns-2 Inv-loop μ-loop
 returns-2 c =
     let l = c .before .before .before .before .before .before in
     let a = l .before .before .args in
-    let i = l .loop .i in
+    let i = l .loop .at / 22 in
     let n : length (tableIn (a .b .now)) ≡ 18 = length-table (a .b .now) in
-    let bad = one-told (a .b .now) i (l .loop .at) (omega arith) (l .loop .inv .1 .0) (a .n) _ _ (c .before .before .entry-at .ensures) (c .before .entry-good .ensures) ∙ not-true _ (c .if3 .taken) in
+    let bad = one-told (a .b .now) i (l .loop .at) (omega arith) (omega arith) (a .n) _ _ (c .before .before .entry-at .ensures) (c .before .entry-good .ensures) ∙ not-true _ (c .if3 .taken) in
     sym (grouped (a .n) (tableIn (a .b .now)) ∙ front-one (entryGood (a .n)) twoGood (tableIn (a .b .now)) i freeEntry (omega arith) bad)
 
 apart-before-requires : tie.Need-apart-before-requires Inv-loop μ-loop
@@ -68,13 +68,10 @@ returns-3 c =
     let e = c .before .before .before .before in
     let l = e .before .before .before .before in
     let a = l .before .before .args in
-    let i = l .loop .i in
+    let i = l .loop .at / 22 in
     let n : length (tableIn (a .b .now)) ≡ 18 = length-table (a .b .now) in
-    let bad = all-told (a .b .now) i (l .loop .at) (omega arith) (l .loop .inv .1 .0) _ _ (e .entry-at .ensures) (c .before .apart-before .ensures) ∙ not-true _ (c .if4 .taken) in
+    let bad = all-told (a .b .now) i (l .loop .at) (omega arith) (omega arith) _ _ (e .entry-at .ensures) (c .before .apart-before .ensures) ∙ not-true _ (c .if4 .taken) in
     sym (grouped (a .n) (tableIn (a .b .now)) ∙ front-some (entryGood (a .n)) twoGood (tableIn (a .b .now)) i freeEntry (omega arith) bad)
-
-add-i : tie.Need-add-i Inv-loop μ-loop
-add-i c = search needs
 
 add-at : tie.Need-add-at Inv-loop μ-loop
 add-at c = search needs
@@ -88,16 +85,17 @@ loop-again c =
     let l = d .before .before in
     let a = l .before .before .args in
     let b = a .b .now in
-    let i = l .loop .i in
+    let i = l .loop .at / 22 in
     let n : length (tableIn (a .b .now)) ≡ 18 = length-table (a .b .now) in
-    let h : l .loop .i < length (tableIn (a .b .now)) = omega arith in
-    let m : l .loop .i < 18 = omega arith in
-    let q = l .loop .inv .1 .0 in
+    let h : l .loop .at / 22 < length (tableIn (a .b .now)) = omega arith in
+    let m : l .loop .at / 22 < 18 = omega arith in
+    let q : l .loop .at ≡ 22 * (l .loop .at / 22) = omega arith in
+    let next : l .loop .at / 22 + 1 ≡ (l .loop .at + 22) / 22 = omega arith in
     let on = front-on (entryGood (a .n)) twoGood (tableIn b) i freeEntry h i refl (l .loop .inv .0) in (
-      ⊎-elim
+      rw next at (⊎-elim
           (λ w. on (free-told b i (l .loop .at) m q (a .n) _ _ (d .word-at .ensures) (w .0 .taken) (w .1 .ensures) ∙ not-false _ (w .2 .left)) (free-apart _ (free-kind b i (l .loop .at) m q _ (d .word-at .ensures) (w .0 .taken)) (take i (tableIn b))))
           (λ w. on (one-told b i (l .loop .at) m q (a .n) _ _ (w .1 .ensures) (w .2 .ensures) ∙ not-false _ (w .3 .left)) (all-told b i (l .loop .at) m q _ _ (w .1 .ensures) (w .4 .ensures) ∙ not-false _ (w .5 .left)))
-          (c .if1 .came),
+          (c .if1 .came)),
       (omega arith, omega arith),
     )
 
@@ -106,7 +104,7 @@ returns-4 c =
     let l = c .before in
     let a = l .before .before .args in
     let n : length (tableIn (a .b .now)) ≡ 18 = length-table (a .b .now) in
-    sym (grouped (a .n) (tableIn (a .b .now)) ∙ front-whole (entryGood (a .n)) twoGood (tableIn (a .b .now)) (l .loop .i) (omega arith) (l .loop .inv .0))
+    sym (grouped (a .n) (tableIn (a .b .now)) ∙ front-whole (entryGood (a .n)) twoGood (tableIn (a .b .now)) (l .loop .at / 22) (omega arith) (l .loop .inv .0))
 
 pub table-good-spec : {M : Type 1} → statement M
 table-good-spec =
@@ -124,7 +122,6 @@ table-good-spec =
     returns-2
     apart-before-requires
     returns-3
-    add-i
     add-at
     loop-less
     loop-again
