@@ -5,11 +5,11 @@ use mathlib.Core.List.{List, [], _∷_, map}
 use Prim.Native.Nat.{ℕ, zero, suc, _+_, _-_, _*_, _≤_, _<_}
 use native.Mathlib.Omega.{arith}
 use lib.Dec.{eqb}
-use lib.ListN.{length, take, drop, getD}
+use lib.ListN.{length, take, drop, getD, List·getD-eq-default}
 use lib.Seq.{length-take-le, getD-take}
 use borrow.Author.Tests.{eq-eqb, eqb-true}
 use Rattle.geometry.specs.Bytes.{part}
-use Rattle.geometry.specs.Lists.{every, pairwise}
+use Rattle.geometry.specs.Lists.{every, pairwise, firstWith, howMany}
 use Rattle.geometry.specs.Sizes.{entries, mostOpen}
 use Rattle.geometry.proofs.Bytes.{part-split}
 use Rattle.geometry.proofs.Left.{every-on, every-off, every-end}
@@ -17,21 +17,24 @@ use Rattle.geometry.proofs.Tests.{alike, denied, and-left, and-right, and-both,
 use Rattle.directory.specs.Entries.{entryBytes, freeEntry, entryAt}
 use Rattle.directory.specs.Grouped.{entryGood, twoGood}
 use Rattle.directory.proofs.Free.{every-append, zero-entry, free-good}
-use Rattle.sessions.specs.Session.{idle, bare, isOf, ofOther, fileOf, slotOf, openFiles, heldGood, legal, bufferedLegal}
+use Rattle.sessions.specs.Session.{idle, fresh, bare, unheld, isOf, ofOther, stand, fileOf, slotOf, openFiles, spotOf, heldGood, legal, bufferedLegal}
 use Rattle.sessions.specs.Grouped.{fileGood, openGood, holdGood}
 use Rattle.sessions.proofs.Grouped.{file-told, held-unused, held-told}
 use Rattle.sessions.proofs.Unheld.{bare-unheld}
 use Rattle.directory.specs.declared.Entry.{Entry}
 use Rattle.sessions.specs.declared.BufferedFile.{BufferedFile}
 use Rattle.sessions.specs.declared.BufferedSession.{BufferedSession}
+use Rattle.sessions.specs.declared.Holding.{Holding}
 use Rattle.sessions.specs.declared.OpenFile.{OpenFile}
 use Rattle.sessions.specs.declared.Session.{Session}
+use Rattle.sessions.specs.declared.Spot.the-variants.{Closed}
 use Rattle.storing.specs.Numbers.{numberIn, isSet}
 use Rattle.storing.specs.Rows.{rowIn}
 use Rattle.storing.specs.Stored.{entryWidth, fileWidth, heldWidth, filesAt, entryIn, fileIn, heldIn, isStored, isBufferedStored, tableIn, unlawful, sessionIn, bufferedIn}
-use Rattle.storing.specs.Lent.{filesIn, bareIn, seenOf}
+use Rattle.storing.specs.Lent.{filesIn, bareIn, inUse, stateAt, holdOf, noHold, seenOf, seenIn, seenBufferedIn}
 use Rattle.storing.proofs.Rows.{length-row, getD-row}
-use Rattle.storing.proofs.Read.{session-is, buffered-is, buffered-none}
+use Rattle.storing.proofs.Read.{session-is, session-none, buffered-is, buffered-none}
+use Rattle.storing.proofs.Illegal.{none-legal, none-legal-buffered}
 
 -- ---- zero bytes
 
@@ -215,6 +218,32 @@ module _ (b : List ℕ) (k at : ℕ) (h : k < mostOpen) (q : at ≡ filesAt + he
   unfolding heldIn fileIn
   hold-none t = ap (heldGood (tableIn b)) held-is ∙ held-unused (tableIn b) (heldIn b at) (rw (pu, pv) at t)
 
+-- what a state holds: one that is used has it in its bytes, any other holds nothing
+module _ (b : List ℕ) (at : ℕ) (u : Bool) (pu : u ≡ isSet (getD b at 0)) where
+  pub hold-used : u ≡ true → (x z : Bool) (y : ℕ) → x ≡ isSet (getD b (at + 30) 0) → y ≡ numberIn (part b (at + 31) 4) → z ≡ isSet (getD b (at + 35) 0)
+      → record { holds = x; held = y; changed = z } ≡ holdOf (inUse (heldIn b at))
+  unfolding inUse heldIn fileIn
+  hold-used t x z y px py pz = rw (sym pu, t, px, py, pz)
+
+  pub hold-idle : u ≡ false → noHold ≡ holdOf (inUse (heldIn b at))
+  unfolding inUse heldIn fileIn
+  hold-idle t = rw (sym pu, t)
+
+module _ (b : List ℕ) (k : ℕ) where
+  abbrev row : List BufferedFile
+  row = rowIn heldIn heldWidth mostOpen b filesAt
+
+  pub hold-here : (at : ℕ) → k < mostOpen → at ≡ filesAt + heldWidth * k → holdOf (inUse (heldIn b at)) ≡ holdOf (stateAt row k)
+  unfolding stateAt
+  hold-here at h q = ap (λ (x : BufferedFile). holdOf (inUse x)) (sym (getD-row heldIn heldWidth mostOpen b filesAt k (fresh idle) h ∙ ap (heldIn b) (sym q)))
+
+  pub hold-past : mostOpen ≤ k → noHold ≡ holdOf (stateAt row k)
+  unfolding stateAt inUse
+  hold-past h =
+      let n : length row ≡ mostOpen = length-row heldIn heldWidth mostOpen b filesAt in
+      let l : length row ≤ k = omega arith in
+      ap (λ (x : BufferedFile). holdOf (inUse x)) (sym (List·getD-eq-default row (fresh idle) l))
+
 -- ---- sessions
 
 -- without their buffers
@@ -243,8 +272,47 @@ buffered-legal image b h =
 
 -- ---- what is seen of a session
 
-module _ (s : Session) (i n k : ℕ) (e : Entry) (f : OpenFile) where
+module _ (l : Bool) (s : Session) (i : ℕ) (h : Holding) (n k : ℕ) (e : Entry) (f : OpenFile) where
   pub seen-is : n ≡ openFiles (s .files) → k ≡ slotOf (s .files) i → e ≡ entryAt (s .table) i → f ≡ fileOf (s .files) i
-      → seenOf s i ≡ record { opened = n; slot = k; entry = e; file = f }
+      → seenOf l s i h ≡ record { lawful = l; opened = n; slot = k; entry = e; file = f; hold = h }
   unfolding seenOf
   seen-is pn pk pe pf = rw (pn, pk, pe, pf)
+
+-- of one with no file open
+none-held : (k : ℕ) → holdOf (stateAt (unheld unlawful .files) k) ≡ noHold
+unfolding stateAt inUse unlawful unheld
+none-held zero = refl
+none-held (suc zero) = refl
+none-held (suc (suc zero)) = refl
+none-held (suc (suc (suc zero))) = refl
+none-held (suc (suc (suc (suc k)))) = refl
+
+pub none-stands : (i : ℕ) → spotOf unlawful i ≡ Closed
+unfolding spotOf stand fileOf unlawful isOf firstWith
+none-stands i = refl
+
+pub none-seen : (i : ℕ) (e : Entry) → e ≡ entryAt (unlawful .table) i
+    → record { lawful = false; opened = 0; slot = 0; entry = e; file = idle; hold = noHold } ≡ seenOf false unlawful i noHold
+unfolding seenOf unlawful slotOf fileOf openFiles isOf firstWith howMany
+none-seen i e p = rw p
+
+-- in bytes that are a session of either form, and in bytes that are none
+module _ (image b : List ℕ) (i : ℕ) where
+  pub seen-plain : isStored b ≡ true → (l : Bool) → l ≡ legal image (bareIn fileWidth b) → seenOf l (bareIn fileWidth b) i noHold ≡ seenIn image b i
+  unfolding seenIn
+  seen-plain t l p = rw (p, plain-is b t)
+
+  pub seen-none : isStored b ≡ false → seenOf false unlawful i noHold ≡ seenIn image b i
+  unfolding seenIn
+  seen-none t = rw (none-legal image b t, session-none b t)
+
+  pub seen-buffered : isBufferedStored b ≡ true → (l : Bool) (h : Holding) (k : ℕ)
+      → l ≡ (legal image (bareIn heldWidth b) && every (heldGood (tableIn b)) (rowIn heldIn heldWidth mostOpen b filesAt))
+      → k ≡ slotOf (filesIn heldWidth b) i → h ≡ holdOf (stateAt (rowIn heldIn heldWidth mostOpen b filesAt) k)
+      → seenOf l (bareIn heldWidth b) i h ≡ seenBufferedIn image b i
+  unfolding seenBufferedIn
+  seen-buffered t l h k pl pk ph = rw (buffered-legal image b t, bare-is b t, buffered-is b t, pl, ph, pk)
+
+  pub seen-none-buffered : isBufferedStored b ≡ false → seenOf false unlawful i noHold ≡ seenBufferedIn image b i
+  unfolding seenBufferedIn
+  seen-none-buffered t = rw (none-legal-buffered image b t, bare-none b t, buffered-none b t) (ap (seenOf false unlawful i) (sym (none-held (slotOf (unlawful .files) i))))

@@ -27,9 +27,13 @@ filesIn w b = rowIn fileIn w mostOpen b filesAt
 abbrev pub bareIn : ℕ → List ℕ → Session
 bareIn w b = record { table = tableIn b; files = filesIn w b }
 
--- the state of number k with its buffer; a fresh one where that is not in use
+-- a state with its buffer; a fresh one where that is not in use
+unfoldable pub inUse : BufferedFile → BufferedFile
+inUse b = elim (b .file .used) [ true ↦ b | false ↦ fresh idle ]
+
+-- the one of number k
 unfoldable pub stateAt : List BufferedFile → ℕ → BufferedFile
-stateAt files k = elim (getD files k (fresh idle) .file .used) [ true ↦ getD files k (fresh idle) | false ↦ fresh idle ]
+stateAt files k = inUse (getD files k (fresh idle))
 
 -- what a state holds, without the bytes
 abbrev pub holdOf : BufferedFile → Holding

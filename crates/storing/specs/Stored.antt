@@ -137,7 +137,6 @@ tableIn b = rowIn entryIn entryWidth entries b 0
 abbrev pub unlawfulEntry : Entry
 unlawfulEntry = record { name = replicate 8 0; kind = 5; length = 0; first = 0; sectors = 0; count = 0; flags = 0 }
 
-
 -- "bytes that are no session are a session that is not legal": its entries are of no kind that there is
 unfoldable pub unlawful : Session
 unlawful = record {

@@ -23,7 +23,7 @@ use sessions::hold_good;
 use sessions::idle;
 use sessions::stand;
 ghost use mathlib.Core.Path.{_≡_};
-ghost use mathlib.Core.Bool.{not};
+ghost use mathlib.Core.Bool.{false, not};
 ghost use Prim.Native.Nat.{_+_, _*_, _/_, _%_, _≤_, _<_};
 ghost use lib.Dec.{eqb};
 ghost use lib.ListN.{length, take};
@@ -36,7 +36,7 @@ ghost use Rattle.sessions.specs.Session.{bare, isOf, fileOf, slotOf, openFiles,
 ghost use Rattle.sessions.specs.Grouped.{filesGood};
 ghost use Rattle.storing.specs.Rows.{rowIn};
 ghost use Rattle.storing.specs.Stored.{fileIn, heldIn, tableIn, unlawful, sessionIn, bufferedIn};
-ghost use Rattle.storing.specs.Lent.{Spaced, filesIn, bareIn, stateAt, holdOf, noHold, seenOf, seenIn, seenBufferedIn};
+ghost use Rattle.storing.specs.Lent.{Spaced, filesIn, bareIn, inUse, stateAt, holdOf, noHold, seenOf, seenIn, seenBufferedIn};
 
 // What a request asks of a session: whether it is legal for the image, how many files are open, which state is the entry's or is to be,
 // the entry, its file, and what that holds.
@@ -265,22 +265,32 @@ fn no_hold() -> Holding
     }
 }
 
-// What state k holds; nothing where it is not in use.
+// What the state at a place holds; nothing where it is not in use.
+fn hold_at(b: &[u8], at: usize) -> Holding
+    requires { ⌜ at + 396 ≤ length (now b) ⌝ }
+    ensures { λ r. ⌜ r ≡ holdOf (inUse (heldIn (now (b .entry)) at)) ⌝ }
+{
+    if is_set(b, at) {
+        Holding {
+            holds: is_set(b, at + 30),
+            held: long_at(b, at + 31),
+            changed: is_set(b, at + 35),
+        }
+    } else {
+        no_hold()
+    }
+}
+
+// What state k holds; nothing where there is none.
 fn hold_in(b: &[u8], k: usize) -> Holding
     requires { ⌜ 1980 ≤ length (now b) ⌝ }
     ensures { λ r. ⌜ r ≡ holdOf (stateAt (rowIn heldIn 396 4 (now (b .entry)) 396) k) ⌝ }
 {
     if k < 4 {
-        let at = state_place(Form::HELD, k);
-        if is_set(b, at) {
-            return Holding {
-                holds: is_set(b, at + 30),
-                held: long_at(b, at + 31),
-                changed: is_set(b, at + 35),
-            };
-        }
+        hold_at(b, state_place(Form::HELD, k))
+    } else {
+        no_hold()
     }
-    no_hold()
 }
 
 // Entry i's file; idle if it is not open.
@@ -322,15 +332,22 @@ fn seen_in(lawful: bool, b: &[u8], w: usize, i: usize, hold: Holding) -> Seen
     }
 }
 
+// Entry i of a session that is legal for no image.
+fn unlawful_at(i: usize) -> Entry
+    ensures { λ r. ⌜ r ≡ entryAt (unlawful .table) i ⌝ }
+{
+    if i < Geometry::ENTRIES {
+        unlawful_entry()
+    } else {
+        free_entry()
+    }
+}
+
 // What is seen of bytes that are no session.
 fn unseen(i: usize) -> Seen
     ensures { λ r. ⌜ r ≡ seenOf false unlawful i noHold ⌝ }
 {
-    let e = if i < Geometry::ENTRIES {
-        unlawful_entry()
-    } else {
-        free_entry()
-    };
+    let e = unlawful_at(i);
     let f = idle();
     let h = no_hold();
     Seen {

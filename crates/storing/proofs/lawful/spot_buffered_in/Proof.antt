@@ -1,31 +1,41 @@
+-- It stands where its file does; bytes that are no session have none open.
+use mathlib.Core.Path.{_≡_, sym, ap, _∙_}
+use mathlib.Core.Bool.{true}
+use native.Mathlib.Omega.{arith}
+use Rattle.sessions.specs.Session.{stand, spotOf, fileOf}
+use Rattle.sessions.specs.declared.Session.{Session}
+use Rattle.storing.specs.Stored.{heldFlags, isBufferedStored}
+use Rattle.storing.proofs.Read.{formed-size}
+use Rattle.storing.proofs.Lent.{bare-is, bare-none, none-stands}
 use borrow.Author.Needs.{needs}
 use Rattle.storing.proofs.lawful.spot_buffered_in.Statement.{statement}
 use Rattle.storing.proofs.lawful.spot_buffered_in.Tie as tie
-use Rattle.storing.proofs.lawful.spot_buffered_in.Reads as reads
-use Rattle.storing.proofs.lawful.spot_buffered_in.Lts as lts
-use Rattle.sessions.proofs.stand.Reads as stand-reads
-use Rattle.storing.proofs.is_buffered.Reads as is-buffered-reads
-use Rattle.storing.proofs.lawful.file_in.Reads as file-in-reads
 
--- src/lawful.rt:390:8
 is-buffered-requires : tie.Need-is-buffered-requires
 is-buffered-requires c κs = search needs
 
--- src/lawful.rt:391:15
-file-in-requires : tie.Need-file-in-requires
-file-in-requires c κs = ?
+there : (c : tie.Then1) → isBufferedStored (c .before .before .before .args .b .now) ≡ true
+there c = sym (c .before .is-buffered .ensures) ∙ c .if1 .taken
 
--- src/lawful.rt:391:9
+file-in-requires : tie.Need-file-in-requires
+file-in-requires c κs =
+    let s = formed-size heldFlags 396 1980 (c .before .before .before .args .b .now) (there c) in
+    (omega arith, omega arith, omega (arith, s))
+
 stand-requires : tie.Need-stand-requires
 stand-requires c κs = search needs
 
--- src/lawful.rt:387:1
 returns : tie.Need-returns
-returns c = ?
+unfolding spotOf
+returns c =
+    let d = c .before .before in
+    let a = d .before .before .before .args in
+    c .stand .ensures ∙ ap stand (c .before .file-in .ensures ∙ ap (λ (s : Session). fileOf (s .files) (a .i)) (sym (bare-is (a .b .now) (there d))))
 
--- src/lawful.rt:387:1
 returns-2 : tie.Need-returns-2
-returns-2 c = ?
+returns-2 c =
+    let a = c .before .before .before .args in
+    sym (ap (λ (s : Session). spotOf s (a .i)) (bare-none (a .b .now) (sym (c .before .is-buffered .ensures) ∙ c .if1 .left)) ∙ none-stands (a .i))
 
 pub spot-buffered-in-spec : {M : Type 1} → statement M
 spot-buffered-in-spec =

@@ -1,31 +1,41 @@
+-- It stands where its file does; bytes that are no session have none open.
+use mathlib.Core.Path.{_≡_, sym, ap, _∙_}
+use mathlib.Core.Bool.{true}
+use native.Mathlib.Omega.{arith}
+use Rattle.sessions.specs.Session.{stand, spotOf, fileOf}
+use Rattle.sessions.specs.declared.Session.{Session}
+use Rattle.storing.specs.Stored.{fileFlags, isStored}
+use Rattle.storing.proofs.Read.{formed-size, session-none}
+use Rattle.storing.proofs.Lent.{plain-is, none-stands}
 use borrow.Author.Needs.{needs}
 use Rattle.storing.proofs.lawful.spot_in.Statement.{statement}
 use Rattle.storing.proofs.lawful.spot_in.Tie as tie
-use Rattle.storing.proofs.lawful.spot_in.Reads as reads
-use Rattle.storing.proofs.lawful.spot_in.Lts as lts
-use Rattle.sessions.proofs.stand.Reads as stand-reads
-use Rattle.storing.proofs.is_session.Reads as is-session-reads
-use Rattle.storing.proofs.lawful.file_in.Reads as file-in-reads
 
--- src/lawful.rt:379:8
 is-session-requires : tie.Need-is-session-requires
 is-session-requires c κs = search needs
 
--- src/lawful.rt:380:15
-file-in-requires : tie.Need-file-in-requires
-file-in-requires c κs = ?
+there : (c : tie.Then1) → isStored (c .before .before .before .args .b .now) ≡ true
+there c = sym (c .before .is-session .ensures) ∙ c .if1 .taken
 
--- src/lawful.rt:380:9
+file-in-requires : tie.Need-file-in-requires
+file-in-requires c κs =
+    let s = formed-size fileFlags 30 516 (c .before .before .before .args .b .now) (there c) in
+    (omega arith, omega arith, omega (arith, s))
+
 stand-requires : tie.Need-stand-requires
 stand-requires c κs = search needs
 
--- src/lawful.rt:376:1
 returns : tie.Need-returns
-returns c = ?
+unfolding spotOf
+returns c =
+    let d = c .before .before in
+    let a = d .before .before .before .args in
+    c .stand .ensures ∙ ap stand (c .before .file-in .ensures ∙ ap (λ (s : Session). fileOf (s .files) (a .i)) (sym (plain-is (a .b .now) (there d))))
 
--- src/lawful.rt:376:1
 returns-2 : tie.Need-returns-2
-returns-2 c = ?
+returns-2 c =
+    let a = c .before .before .before .args in
+    sym (ap (λ (s : Session). spotOf s (a .i)) (session-none (a .b .now) (sym (c .before .is-session .ensures) ∙ c .if1 .left)) ∙ none-stands (a .i))
 
 pub spot-in-spec : {M : Type 1} → statement M
 spot-in-spec =
