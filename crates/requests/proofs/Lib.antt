@@ -3,3 +3,4 @@ pub mod Done
 pub mod Live
 pub mod InTurn
 pub mod First
+pub mod Behind
