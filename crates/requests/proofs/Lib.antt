@@ -4,3 +4,4 @@ pub mod Live
 pub mod InTurn
 pub mod First
 pub mod Behind
+pub mod Codes

@@ -4,6 +4,7 @@ use geometry::Place;
 ghost use mathlib.Core.Path.{_≡_};
 ghost use mathlib.Core.List.{[], _∷_};
 ghost use Rattle.requests.specs.Numbers.{numberOf};
+ghost use Rattle.requests.specs.Codes.{askedFor};
 ghost use Rattle.requests.specs.Judge.{whether, orElse, firstOf, judge, behindCode, isFull, notLegal, noEntry, notOpen, notSequential, notRandom, oddCount, badSize, badCode, meetsMark, atEnd, noGranule};
 ghost use Rattle.requests.specs.declared.Answer.the-variants.{Met, Refused};
 ghost use Rattle.requests.specs.declared.Request.the-variants.{Open, Read, Write, GranuleRead, GranuleWrite, GranuleLook, Position};
@@ -29,6 +30,12 @@ pub enum Request {
     GranuleWrite(u32),
     GranuleLook(u32),
     Position(Order),
+}
+
+// What a code asks for.
+pub enum Asked {
+    For(Request),
+    Unknown,
 }
 
 // What a request may meet: answers 1 and 2.
@@ -100,6 +107,28 @@ pub fn number(a: Answer) -> u16
             Refusal::BadImage => 11,
             Refusal::NotLegal => 12,
         },
+    }
+}
+
+// The request of that code; g is the granule's number.
+pub fn by_code(code: u16, g: u32) -> Asked
+    ensures { λ r. ⌜ r ≡ askedFor code g ⌝ }
+{
+    match code {
+        1 => Asked::For(Request::Open),
+        2 => Asked::For(Request::Read),
+        3 => Asked::For(Request::Write),
+        4 => Asked::For(Request::GranuleRead(g)),
+        5 => Asked::For(Request::GranuleWrite(g)),
+        6 => Asked::For(Request::GranuleLook(g)),
+        7 => Asked::For(Request::Position(Order::WriteMark)),
+        8 => Asked::For(Request::Position(Order::RewindOnline)),
+        9 => Asked::For(Request::Position(Order::RewindOffline)),
+        10 => Asked::For(Request::Position(Order::RecordForward)),
+        11 => Asked::For(Request::Position(Order::RecordBack)),
+        12 => Asked::For(Request::Position(Order::FileForward)),
+        13 => Asked::For(Request::Position(Order::FileBack)),
+        _ => Asked::Unknown,
     }
 }
 
