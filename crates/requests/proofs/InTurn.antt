@@ -1,5 +1,6 @@
 -- Decoding can wait for its turn. Judge first as if a bad code were met: an answer other than 11 comes from a test before that one, or from a
 -- request that decodes nothing, and so is the answer whatever the codes are; at 11 the request is one that decodes, and it passed the tests before.
+-- Where its code is good, the tests behind 11 answer.
 use mathlib.Core.Path.{_≡_, refl, sym, _∙_}
 use mathlib.Core.Bool.{Bool, true, false, not, false≢true}
 use mathlib.Core.List.{List, [], _∷_}
@@ -9,7 +10,7 @@ use borrow.Author.Tests.{le-ltb, lt-leb, ltb-false, leb-false, not-true, not-fal
 use Rattle.geometry.specs.Lists.{every}
 use Rattle.geometry.proofs.Tests.{and-left, and-right}
 use Rattle.geometry.specs.Sizes.{free, mostOpen}
-use Rattle.requests.specs.Judge.{whether, orElse, Test, tests, firstOf, judge, isFull, notLegal, noEntry, notOpen, notSequential, isBeyond, badCode}
+use Rattle.requests.specs.Judge.{whether, orElse, Test, tests, testsBehind, firstOf, judge, behindCode, isFull, notLegal, noEntry, notOpen, notSequential, isBeyond, shortBuffer, badCode, meetsMark, atEnd}
 use Rattle.requests.specs.Numbers.{numberOf}
 use Rattle.requests.proofs.Done.{Live, Running}
 use Rattle.requests.specs.declared.Facts.{Facts}
@@ -158,9 +159,28 @@ turn (Position RecordBack) f = none (tests (Position RecordBack)) (supposing tru
 turn (Position FileForward) f = none (tests (Position FileForward)) (supposing true f) refl
 turn (Position FileBack) f = none (tests (Position FileBack)) (supposing true f) refl
 
--- a read whose turn has come, of a record that is there and good, is done
-pub reads-on : (f : Facts) → ReadsThen f → f .position < f .count → judge Read (supposing false f) ≡ Done
-unfolding judge tests firstOf orElse whether
-reads-on f r h =
-    let l : Live f = r .advances .running .live in
-    rw (l .legal, l .used, l .opened, r .advances .running .sequential, r .advances .before, le-ltb (f .buffer) (f .length) (r .buffered), lt-leb (f .count) (f .position) h)
+-- ---- where the code is good, the tests behind it answer
+
+module _ (f : Facts) where
+  -- of a request that goes forward
+  advanced : (ts : List Test) → AdvancesThen f
+      → firstOf (notLegal ∷ noEntry ∷ notOpen ∷ notSequential ∷ isBeyond ∷ ts) (supposing false f) ≡ firstOf ts (supposing false f)
+  unfolding firstOf orElse whether
+  advanced ts a =
+      let l : Live f = a .running .live in
+      rw (l .legal, l .used, l .opened, a .running .sequential, a .before)
+
+  -- of each that decodes
+  good-code : (q : Request) → Then q f → judge q (supposing false f) ≡ behindCode q f
+  unfolding judge tests behindCode testsBehind firstOf orElse whether
+  good-code Open o = rw (o .legal, o .used, o .shut, lt-leb mostOpen (f .files) (o .few))
+  good-code Read r = advanced (shortBuffer ∷ badCode ∷ meetsMark ∷ atEnd ∷ []) (r .advances) ∙ rw (le-ltb (f .buffer) (f .length) (r .buffered))
+  good-code (Position RecordForward) a = advanced (badCode ∷ meetsMark ∷ atEnd ∷ []) a
+
+  -- a read whose turn has come, of a record that is there and good, is done
+  pub reads-on : ReadsThen f → f .position < f .count → judge Read (supposing false f) ≡ Done
+  unfolding behindCode testsBehind firstOf orElse whether
+  reads-on r h = good-code Read r ∙ rw (lt-leb (f .count) (f .position) h)
+
+pub behind : (q : Request) (f : Facts) → isBad (judge q (supposing true f)) ≡ true → judge q (supposing false f) ≡ behindCode q f
+behind q f e = good-code f q (turn q f e)

@@ -3,3 +3,5 @@ pub mod Done
 pub mod Live
 pub mod InTurn
 pub mod First
+pub mod Behind
+pub mod Codes

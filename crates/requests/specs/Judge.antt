@@ -140,6 +140,22 @@ tests (Position RecordBack) = notLegal ∷ noEntry ∷ notOpen ∷ notBackwards 
 tests (Position FileForward) = notLegal ∷ noEntry ∷ notOpen ∷ notSequential ∷ isBeyond ∷ notMarked ∷ []
 tests (Position FileBack) = notLegal ∷ noEntry ∷ notOpen ∷ notSequential ∷ backToStart ∷ []
 
+-- those of them that stand behind 11, "bad code met"
+unfoldable pub testsBehind : Request → List Test
+testsBehind Open = []
+testsBehind Read = meetsMark ∷ atEnd ∷ []
+testsBehind Write = []
+testsBehind (GranuleRead g) = []
+testsBehind (GranuleWrite g) = []
+testsBehind (GranuleLook g) = []
+testsBehind (Position WriteMark) = []
+testsBehind (Position RewindOnline) = []
+testsBehind (Position RewindOffline) = []
+testsBehind (Position RecordForward) = meetsMark ∷ atEnd ∷ []
+testsBehind (Position RecordBack) = []
+testsBehind (Position FileForward) = []
+testsBehind (Position FileBack) = []
+
 unfoldable pub whether : Bool → Answer → Answer → Answer
 whether true a later = a
 whether false a later = later
@@ -155,6 +171,10 @@ firstOf ts f = orElse ts f Done
 
 unfoldable pub judge : Request → Facts → Answer
 judge q f = firstOf (tests q) f
+
+-- the answer to a request that has passed 11: what the tests behind it say
+unfoldable pub behindCode : Request → Facts → Answer
+behindCode q f = firstOf (testsBehind q) f
 
 -- ---- the lists above are in order: each test's place in the line is not before that of the test before it
 

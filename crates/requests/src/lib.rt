@@ -4,7 +4,8 @@ use geometry::Place;
 ghost use mathlib.Core.Path.{_≡_};
 ghost use mathlib.Core.List.{[], _∷_};
 ghost use Rattle.requests.specs.Numbers.{numberOf};
-ghost use Rattle.requests.specs.Judge.{whether, orElse, firstOf, judge, isFull, notLegal, noEntry, notOpen, notSequential, notRandom, oddCount, badSize, badCode, meetsMark, atEnd, noGranule};
+ghost use Rattle.requests.specs.Codes.{askedFor};
+ghost use Rattle.requests.specs.Judge.{whether, orElse, firstOf, judge, behindCode, isFull, notLegal, noEntry, notOpen, notSequential, notRandom, oddCount, badSize, badCode, meetsMark, atEnd, noGranule};
 ghost use Rattle.requests.specs.declared.Answer.the-variants.{Met, Refused};
 ghost use Rattle.requests.specs.declared.Request.the-variants.{Open, Read, Write, GranuleRead, GranuleWrite, GranuleLook, Position};
 ghost use Rattle.requests.specs.declared.Order.the-variants.{WriteMark, RecordForward, RecordBack, FileForward, FileBack};
@@ -29,6 +30,12 @@ pub enum Request {
     GranuleWrite(u32),
     GranuleLook(u32),
     Position(Order),
+}
+
+// What a code asks for.
+pub enum Asked {
+    For(Request),
+    Unknown,
 }
 
 // What a request may meet: answers 1 and 2.
@@ -103,6 +110,28 @@ pub fn number(a: Answer) -> u16
     }
 }
 
+// The request of that code; g is the granule's number.
+pub fn by_code(code: u16, g: u32) -> Asked
+    ensures { λ r. ⌜ r ≡ askedFor code g ⌝ }
+{
+    match code {
+        1 => Asked::For(Request::Open),
+        2 => Asked::For(Request::Read),
+        3 => Asked::For(Request::Write),
+        4 => Asked::For(Request::GranuleRead(g)),
+        5 => Asked::For(Request::GranuleWrite(g)),
+        6 => Asked::For(Request::GranuleLook(g)),
+        7 => Asked::For(Request::Position(Order::WriteMark)),
+        8 => Asked::For(Request::Position(Order::RewindOnline)),
+        9 => Asked::For(Request::Position(Order::RewindOffline)),
+        10 => Asked::For(Request::Position(Order::RecordForward)),
+        11 => Asked::For(Request::Position(Order::RecordBack)),
+        12 => Asked::For(Request::Position(Order::FileForward)),
+        13 => Asked::For(Request::Position(Order::FileBack)),
+        _ => Asked::Unknown,
+    }
+}
+
 // A refusal where a test holds, and what the later tests say where it does not.
 fn refuse(hit: bool, x: Refusal, later: Answer) -> Answer
     ensures { λ r. ⌜ r ≡ whether hit (Refused x) later ⌝ }
@@ -158,14 +187,21 @@ fn measured(f: Facts, later: Answer) -> Answer
     refuse(f.given % 2 == 1, Refusal::OddCount, a)
 }
 
-// 11, 1 and 7 of a request that goes forward by a record: its code, the mark, the unmarked end.
-fn ahead(f: Facts) -> Answer
-    ensures { λ r. ⌜ r ≡ firstOf (badCode ∷ meetsMark ∷ atEnd ∷ []) f ⌝ }
+// 1 and 7 of a request that goes forward by a record: the mark, the unmarked end.
+fn at_end(f: Facts) -> Answer
+    ensures { λ r. ⌜ r ≡ firstOf (meetsMark ∷ atEnd ∷ []) f ⌝ }
 {
     let end = f.count <= f.position;
     let over = refuse(end, Refusal::WrongSequence, Answer::Done);
-    let marked = meet(end & f.marked, Edge::EndOfFile, over);
-    refuse(f.bad, Refusal::BadImage, marked)
+    meet(end & f.marked, Edge::EndOfFile, over)
+}
+
+// And 11 before them: its code.
+fn ahead(f: Facts) -> Answer
+    ensures { λ r. ⌜ r ≡ firstOf (badCode ∷ meetsMark ∷ atEnd ∷ []) f ⌝ }
+{
+    let end = at_end(f);
+    refuse(f.bad, Refusal::BadImage, end)
 }
 
 // 3 of a write: no room for one more record.
@@ -240,7 +276,8 @@ fn judge_granule_write(f: Facts, g: u32) -> Answer
     granular(f, protected)
 }
 
-fn judge_granule_look(f: Facts, g: u32) -> Answer
+// The answer to a look at granule g.
+pub fn judge_granule_look(f: Facts, g: u32) -> Answer
     ensures { λ r. ⌜ r ≡ judge (GranuleLook g) f ⌝ }
 {
     let room = within(f, g);
@@ -313,5 +350,19 @@ pub fn judge(q: Request, f: Facts) -> Answer
         Request::GranuleWrite(g) => judge_granule_write(f, g),
         Request::GranuleLook(g) => judge_granule_look(f, g),
         Request::Position(o) => judge_order(o, f),
+    }
+}
+
+// The answer to a request whose turn to decode has come, where the code is good: the first of the tests behind 11 that holds.
+pub fn past_code(q: Request, f: Facts) -> Answer
+    ensures { λ r. ⌜ r ≡ behindCode q f ⌝ }
+{
+    match q {
+        Request::Read => at_end(f),
+        Request::Position(o) => match o {
+            Order::RecordForward => at_end(f),
+            _ => Answer::Done,
+        },
+        _ => Answer::Done,
     }
 }

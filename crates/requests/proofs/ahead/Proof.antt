@@ -1,21 +1,18 @@
 -- The calls answer for the tests one after another, in the order of the list.
-use Rattle.requests.specs.Judge.{judge, tests, firstOf, orElse}
+use Rattle.requests.specs.Judge.{firstOf, orElse}
 use borrow.Author.Needs.{needs}
 use Rattle.requests.proofs.ahead.Statement.{statement}
 use Rattle.requests.proofs.ahead.Tie as tie
 
+at-end-requires : tie.Need-at-end-requires
+at-end-requires c κs = search needs
+
 refuse-requires : tie.Need-refuse-requires
 refuse-requires c κs = search needs
 
-meet-requires : tie.Need-meet-requires
-meet-requires c κs = search needs
-
-refuse-requires-2 : tie.Need-refuse-requires-2
-refuse-requires-2 c κs = search needs
-
 returns : tie.Need-returns
-unfolding judge tests firstOf orElse
-returns c = rw (c .refuse2 .ensures, c .before .meet .ensures, c .before .before .before .refuse .ensures)
+unfolding firstOf orElse
+returns c = rw (c .refuse .ensures, c .before .at-end .ensures)
 
 pub ahead-spec : {M : Type 1} → statement M
-ahead-spec = tie.close (tie.spec refuse-requires meet-requires refuse-requires-2 returns)
+ahead-spec = tie.close (tie.spec at-end-requires refuse-requires returns)
