@@ -1,19 +1,21 @@
 -- Sessions in lent bytes, read where they lie: an entry stands at 22·i, a state at w·k behind the first, and what is tested of those bytes is tested of the entry or state that they hold.
 use mathlib.Core.Path.{_≡_, refl, sym, ap, _∙_}
-use mathlib.Core.Bool.{Bool, true, false, _&&_, not, and-false}
+use mathlib.Core.Bool.{Bool, true, false, _&&_, not, and-false, false≢true}
 use mathlib.Core.List.{List, [], _∷_, map}
 use Prim.Native.Nat.{ℕ, zero, suc, _+_, _-_, _*_, _≤_, _<_}
+use mathlib.Core.Logic.{Dec, yes, no}
 use native.Mathlib.Omega.{arith}
+use native.Mathlib.Decide.{decLt}
 use lib.Dec.{eqb}
 use lib.ListN.{length, take, drop, getD, List·getD-eq-default}
 use lib.Seq.{length-take-le, getD-take}
-use borrow.Author.Tests.{eq-eqb, eqb-true}
+use borrow.Author.Tests.{eq-eqb, eqb-true, lt-ltb}
 use Rattle.geometry.specs.Bytes.{part}
 use Rattle.geometry.specs.Lists.{every, pairwise, firstWith, howMany}
-use Rattle.geometry.specs.Sizes.{entries, mostOpen}
+use Rattle.geometry.specs.Sizes.{sector, entries, mostOpen}
 use Rattle.geometry.proofs.Bytes.{part-split}
 use Rattle.geometry.proofs.Left.{every-on, every-off, every-end}
-use Rattle.geometry.proofs.Tests.{alike, denied, and-left, and-right, and-both, every-from, every-alike, pairwise-getD}
+use Rattle.geometry.proofs.Tests.{either, alike, denied, and-left, and-right, and-both, every-from, every-alike, pairwise-getD}
 use Rattle.directory.specs.Entries.{entryBytes, freeEntry, entryAt}
 use Rattle.directory.specs.Grouped.{entryGood, twoGood}
 use Rattle.directory.proofs.Free.{every-append, zero-entry, free-good}
@@ -31,7 +33,7 @@ use Rattle.sessions.specs.declared.Spot.the-variants.{Closed}
 use Rattle.storing.specs.Numbers.{numberIn, isSet}
 use Rattle.storing.specs.Rows.{rowIn}
 use Rattle.storing.specs.Stored.{entryWidth, fileWidth, heldWidth, filesAt, entryIn, fileIn, heldIn, isStored, isBufferedStored, tableIn, unlawful, sessionIn, bufferedIn}
-use Rattle.storing.specs.Lent.{filesIn, bareIn, inUse, stateAt, holdOf, noHold, seenOf, seenIn, seenBufferedIn}
+use Rattle.storing.specs.Lent.{filesIn, bareIn, inUse, stateAt, holdOf, noHold, lentBy, lentIn, ownState, seenOf, seenIn, seenBufferedIn}
 use Rattle.storing.proofs.Rows.{length-row, getD-row}
 use Rattle.storing.proofs.Read.{session-is, session-none, buffered-is, buffered-none}
 use Rattle.storing.proofs.Illegal.{none-legal, none-legal-buffered}
@@ -233,16 +235,41 @@ module _ (b : List ℕ) (k : ℕ) where
   abbrev row : List BufferedFile
   row = rowIn heldIn heldWidth mostOpen b filesAt
 
-  pub hold-here : (at : ℕ) → k < mostOpen → at ≡ filesAt + heldWidth * k → holdOf (inUse (heldIn b at)) ≡ holdOf (stateAt row k)
+  state-here : (at : ℕ) → k < mostOpen → at ≡ filesAt + heldWidth * k → inUse (heldIn b at) ≡ stateAt row k
   unfolding stateAt
-  hold-here at h q = ap (λ (x : BufferedFile). holdOf (inUse x)) (sym (getD-row heldIn heldWidth mostOpen b filesAt k (fresh idle) h ∙ ap (heldIn b) (sym q)))
+  state-here at h q = ap inUse (sym (getD-row heldIn heldWidth mostOpen b filesAt k (fresh idle) h ∙ ap (heldIn b) (sym q)))
 
-  pub hold-past : mostOpen ≤ k → noHold ≡ holdOf (stateAt row k)
+  state-past : mostOpen ≤ k → fresh idle ≡ stateAt row k
   unfolding stateAt inUse
-  hold-past h =
+  state-past h =
       let n : length row ≡ mostOpen = length-row heldIn heldWidth mostOpen b filesAt in
       let l : length row ≤ k = omega arith in
-      ap (λ (x : BufferedFile). holdOf (inUse x)) (sym (List·getD-eq-default row (fresh idle) l))
+      ap inUse (sym (List·getD-eq-default row (fresh idle) l))
+
+  pub hold-here : (at : ℕ) → k < mostOpen → at ≡ filesAt + heldWidth * k → holdOf (inUse (heldIn b at)) ≡ holdOf (stateAt row k)
+  hold-here at h q = ap holdOf (state-here at h q)
+
+  pub hold-past : mostOpen ≤ k → noHold ≡ holdOf (stateAt row k)
+  hold-past h = ap holdOf (state-past h)
+
+  -- one that holds a sector has it in the bytes of its buffer
+  abbrev Lends : BufferedFile → Type 0
+  Lends y = y .holds ≡ true → (k < mostOpen) × (y .buffer ≡ part b (filesAt + heldWidth * k + 36) sector)
+
+  lends : (y : BufferedFile) → Lends y → lentIn b k (y .holds) ≡ lentBy y
+  unfolding lentIn lentBy
+  lends y h = either (y .holds) (λ (t : y .holds ≡ true). rw (t, lt-ltb k mostOpen (h t .0), h t .1)) (λ (t : y .holds ≡ false). rw t)
+
+  used-lends : k < mostOpen → Lends (inUse (heldIn b (filesAt + heldWidth * k)))
+  unfolding inUse heldIn fileIn
+  used-lends h = either (isSet (getD b (filesAt + heldWidth * k) 0)) (λ u. rw u (λ t. (h, refl))) (λ u. rw u (λ (t : false ≡ true). absurd (false≢true t)))
+
+  state-lends : Lends (stateAt row k)
+  state-lends = go (decLt k mostOpen)
+    where
+      go : Dec (k < mostOpen) → Lends (stateAt row k)
+      go (yes h) = rw (state-here (filesAt + heldWidth * k) h refl) at (used-lends h)
+      go (no h) = rw (sym (state-past (omega arith))) (λ (t : false ≡ true). absurd (false≢true t))
 
 -- ---- sessions
 
@@ -287,6 +314,9 @@ none-held (suc (suc zero)) = refl
 none-held (suc (suc (suc zero))) = refl
 none-held (suc (suc (suc (suc k)))) = refl
 
+none-lends : (b : List ℕ) (k : ℕ) → Lends b k (stateAt (unheld unlawful .files) k)
+none-lends b k t = absurd (false≢true (sym (ap (λ (h : Holding). h .holds) (none-held k)) ∙ t))
+
 pub none-stands : (i : ℕ) → spotOf unlawful i ≡ Closed
 unfolding spotOf stand fileOf unlawful isOf firstWith
 none-stands i = refl
@@ -316,3 +346,11 @@ module _ (image b : List ℕ) (i : ℕ) where
   pub seen-none-buffered : isBufferedStored b ≡ false → seenOf false unlawful i noHold ≡ seenBufferedIn image b i
   unfolding seenBufferedIn
   seen-none-buffered t = rw (none-legal-buffered image b t, bare-none b t, buffered-none b t) (ap (seenOf false unlawful i) (sym (none-held (slotOf (unlawful .files) i))))
+
+  -- the held sector lies where the bytes have it
+  pub lent-own : lentIn b (slotOf (bare (bufferedIn b) .files) i) (ownState (bufferedIn b) i .holds) ≡ lentBy (ownState (bufferedIn b) i)
+  lent-own =
+      lends b (slotOf (bare (bufferedIn b) .files) i) (ownState (bufferedIn b) i)
+      (either (isBufferedStored b)
+      (λ (t : isBufferedStored b ≡ true). rw (buffered-is b t) (state-lends b _))
+      (λ (t : isBufferedStored b ≡ false). rw (buffered-none b t) (none-lends b _)))

@@ -1,9 +1,11 @@
 -- What a request asks of a session in lent bytes. Definitions only.
-use mathlib.Core.Bool.{Bool, true, false}
+use mathlib.Core.Bool.{Bool, true, false, _&&_}
 use mathlib.Core.List.{List, []}
 use Prim.Native.Nat.{ℕ, _+_, _*_, _≤_}
+use lib.Dec.{ltb}
 use lib.ListN.{length, getD}
-use Rattle.geometry.specs.Sizes.{mostOpen}
+use Rattle.geometry.specs.Bytes.{part}
+use Rattle.geometry.specs.Sizes.{sector, mostOpen}
 use Rattle.directory.specs.Entries.{entryAt}
 use Rattle.sessions.specs.Session.{idle, fresh, bare, fileOf, slotOf, openFiles, legal, bufferedLegal}
 use Rattle.sessions.specs.declared.BufferedFile.{BufferedFile}
@@ -46,6 +48,10 @@ noHold = record { holds = false; held = 0; changed = false }
 -- the held sector, if there is one
 unfoldable pub lentBy : BufferedFile → List ℕ
 lentBy b = elim (b .holds) [ true ↦ b .buffer | false ↦ [] ]
+
+-- where it lies in the bytes of a session, if state k holds one
+unfoldable pub lentIn : List ℕ → ℕ → Bool → List ℕ
+lentIn b k holds = elim (holds && ltb k mostOpen) [ true ↦ part b (filesAt + heldWidth * k + 36) sector | false ↦ [] ]
 
 -- whether the session is legal, how many files are open, which state is the entry's or is to be, the entry, its file, and what that holds
 unfoldable pub seenOf : Bool → Session → ℕ → Holding → Seen

@@ -15,6 +15,7 @@ use directory::entry_good;
 use directory::free_entry;
 use directory::two_good;
 use geometry::Geometry;
+use geometry::part;
 use sessions::Holding;
 use sessions::OpenFile;
 use sessions::Spot;
@@ -27,7 +28,7 @@ ghost use mathlib.Core.Bool.{false, not};
 ghost use Prim.Native.Nat.{_+_, _*_, _/_, _%_, _≤_, _<_};
 ghost use lib.Dec.{eqb};
 ghost use lib.ListN.{length, take};
-ghost use Rattle.geometry.specs.Bytes.{part};
+ghost use Rattle.geometry.specs.Bytes as Bytes;
 ghost use Rattle.geometry.specs.Lists.{every, firstWith};
 ghost use Rattle.directory.specs.Entries.{entryAt};
 ghost use Rattle.directory.specs.Rules.{tableGood};
@@ -36,7 +37,7 @@ ghost use Rattle.sessions.specs.Session.{bare, isOf, fileOf, slotOf, openFiles,
 ghost use Rattle.sessions.specs.Grouped.{filesGood};
 ghost use Rattle.storing.specs.Rows.{rowIn};
 ghost use Rattle.storing.specs.Stored.{fileIn, heldIn, tableIn, unlawful, sessionIn, bufferedIn};
-ghost use Rattle.storing.specs.Lent.{Spaced, filesIn, bareIn, inUse, stateAt, holdOf, noHold, seenOf, seenIn, seenBufferedIn};
+ghost use Rattle.storing.specs.Lent.{Spaced, filesIn, bareIn, inUse, stateAt, holdOf, noHold, lentIn, seenOf, seenIn, seenBufferedIn};
 
 // What a request asks of a session: whether it is legal for the image, how many files are open, which state is the entry's or is to be,
 // the entry, its file, and what that holds.
@@ -54,7 +55,7 @@ pub struct Seen {
 // Whether the 22 bytes of an entry are zero: three numbers of eight are, of which the last begins in the one before.
 fn is_zero_at(b: &[u8], at: usize) -> bool
     requires { ⌜ at + 22 ≤ length (now b) ⌝ }
-    ensures { λ r. ⌜ r ≡ every (λ x. eqb x 0) (part (now (b .entry)) at 22) ⌝ }
+    ensures { λ r. ⌜ r ≡ every (λ x. eqb x 0) (Bytes.part (now (b .entry)) at 22) ⌝ }
 {
     (wide_at(b, at) == 0) & ((wide_at(b, at + 8) == 0) & (wide_at(b, at + 14) == 0))
 }
@@ -382,6 +383,17 @@ pub fn find_buffered_in(image: &[u8], b: &[u8], i: usize) -> Seen
         seen_in(lawful, b, Form::HELD, i, hold)
     } else {
         unseen(i)
+    }
+}
+
+// The 360 bytes of state k's buffer in lent bytes, if it holds a sector; else none.
+pub fn lent_in(b: &[u8], k: usize, holds: bool) -> &[u8]
+    ensures { λ r. ⌜ now r ≡ lentIn (now (b .entry)) k holds ⌝ }
+{
+    if holds & (k < 4) {
+        part(b, state_place(Form::HELD, k) + 36, Geometry::SECTOR)
+    } else {
+        part(b, 0, 0)
     }
 }
 

@@ -8,6 +8,7 @@ use geometry::lay;
 pub use lawful::Seen;
 pub use lawful::find_buffered_in;
 pub use lawful::find_in;
+pub use lawful::lent_in;
 pub use lawful::spot_buffered_in;
 pub use lawful::spot_in;
 use sessions::BufferedFile;
