@@ -14,8 +14,8 @@ use Rattle.judging.specs.Lent.{afterIn, lentAfter}
 use Rattle.plain.specs.Plain.{served}
 use Rattle.board.specs.Board.{Engine, plainEngine, left, kept, requested}
 use Rattle.board.specs.Codes.{unknownNumber}
-use Rattle.board.specs.declared.Asked.{Asked}
-use Rattle.board.specs.declared.Asked.the-variants.{For, Unknown}
+use Rattle.requests.specs.declared.Asked.{Asked}
+use Rattle.requests.specs.declared.Asked.the-variants.{For, Unknown}
 
 -- what is asked of an engine: laid b i s is the bytes b with entry i of s, and the state that a request on entry i changes
 pub record Steady {S : Type 0} (E : Engine S) : Type 1 where

@@ -10,6 +10,8 @@ use Rattle.directory.specs.Entries.{entryAt}
 use Rattle.directory.specs.declared.Entry.{Entry}
 use Rattle.requests.specs.Numbers.{numberOf}
 use Rattle.requests.specs.declared.Answer.{Answer}
+use Rattle.requests.specs.declared.Asked.{Asked}
+use Rattle.requests.specs.declared.Asked.the-variants.{For, Unknown}
 use Rattle.requests.specs.declared.Request.{Request}
 use Rattle.sessions.specs.Session.{bare, spotOf}
 use Rattle.sessions.specs.declared.BufferedSession.{BufferedSession}
@@ -20,8 +22,6 @@ use Rattle.steps.specs.Look.{plainLookAnswer, bufferedLookAnswer}
 use Rattle.steps.specs.Step.{After, plainStep, bufferedStep}
 use Rattle.storing.specs.Stored.{sessionSize, bufferedSize, isStored, isBufferedStored, stored, bufferedStored, sessionIn, bufferedIn}
 use Rattle.board.specs.Codes.{unknownNumber}
-use Rattle.board.specs.declared.Asked.{Asked}
-use Rattle.board.specs.declared.Asked.the-variants.{For, Unknown}
 
 -- an engine, and how its sessions stand in bytes
 pub record Engine (S : Type 0) : Type 0 where

@@ -1,40 +1,12 @@
--- What C writes as numbers: requests by code, and where a file stands. Definitions only.
+-- What C reads as numbers: the answer to a code that names no request, where a file stands, and the size of a code. Definitions only.
 use mathlib.Core.Bool.{true, false}
-use mathlib.Core.List.{List, [], _∷_}
 use Prim.Native.Nat.{ℕ}
 use lib.Dec.{leb}
-use lib.ListN.{getD}
 use Rattle.coding.specs.Decode.{Decoded, good, bad}
 use Rattle.requests.specs.Numbers.{numberOf}
 use Rattle.requests.specs.declared.Answer.{Answer}
-use Rattle.requests.specs.declared.Order.the-variants.{WriteMark, RewindOnline, RewindOffline, RecordForward, RecordBack, FileForward, FileBack}
-use Rattle.requests.specs.declared.Request.the-variants.{Open, Read, Write, GranuleRead, GranuleWrite, GranuleLook, Position}
 use Rattle.sessions.specs.declared.Spot.{Spot}
 use Rattle.sessions.specs.declared.Spot.the-variants.{Closed, At}
-use Rattle.board.specs.declared.Asked.{Asked}
-use Rattle.board.specs.declared.Asked.the-variants.{For, Unknown}
-
--- the requests by code, from 1 on; g is the granule's number
-unfoldable pub codes : ℕ → List Asked
-codes g =
-    Unknown
-    ∷ For Open
-    ∷ For Read
-    ∷ For Write
-    ∷ For (GranuleRead g)
-    ∷ For (GranuleWrite g)
-    ∷ For (GranuleLook g)
-    ∷ For (Position WriteMark)
-    ∷ For (Position RewindOnline)
-    ∷ For (Position RewindOffline)
-    ∷ For (Position RecordForward)
-    ∷ For (Position RecordBack)
-    ∷ For (Position FileForward)
-    ∷ For (Position FileBack)
-    ∷ []
-
-unfoldable pub askedFor : ℕ → ℕ → Asked
-askedFor code g = getD (codes g) code Unknown
 
 -- a code that names no request: 12 and 8 where a look gives them, and then 7, since it is wrong for every kind of file
 unfoldable pub unknownNumber : Answer → ℕ

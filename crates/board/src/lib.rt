@@ -4,8 +4,9 @@ use directory::Entry;
 use directory::entry_of;
 use geometry::Geometry;
 use requests::Answer;
-use requests::Order;
+use requests::Asked;
 use requests::Request;
+use requests::by_code;
 use requests::number;
 use sessions::BufferedFile;
 use sessions::BufferedSession;
@@ -34,39 +35,12 @@ ghost use Rattle.geometry.specs.Sizes as Sizes;
 ghost use Rattle.directory.specs.Entries.{entryAt};
 ghost use Rattle.sessions.specs.Session.{idle, fresh};
 ghost use Rattle.storing.specs.Stored.{entryStored, heldStored, layEntry, layHeld};
-ghost use Rattle.board.specs.declared.Asked.the-variants.{For};
-ghost use Rattle.board.specs.Codes.{askedFor, unknownNumber, standing, recordAt, codeSize};
+ghost use Rattle.requests.specs.Codes.{askedFor};
+ghost use Rattle.requests.specs.declared.Asked.the-variants.{For};
+ghost use Rattle.board.specs.Codes.{unknownNumber, standing, recordAt, codeSize};
 ghost use Rattle.board.specs.Board.{plainEngine, bufferedEngine, left, requested, mountNumber, mountBytes, lookSize, lookPlace};
 
 // ---- numbers for C
-
-// What a code asks for.
-pub enum Asked {
-    For(Request),
-    Unknown,
-}
-
-// The request of that code; g is the granule's number.
-fn by_code(code: u16, g: u32) -> Asked
-    ensures { λ r. ⌜ r ≡ askedFor code g ⌝ }
-{
-    match code {
-        1 => Asked::For(Request::Open),
-        2 => Asked::For(Request::Read),
-        3 => Asked::For(Request::Write),
-        4 => Asked::For(Request::GranuleRead(g)),
-        5 => Asked::For(Request::GranuleWrite(g)),
-        6 => Asked::For(Request::GranuleLook(g)),
-        7 => Asked::For(Request::Position(Order::WriteMark)),
-        8 => Asked::For(Request::Position(Order::RewindOnline)),
-        9 => Asked::For(Request::Position(Order::RewindOffline)),
-        10 => Asked::For(Request::Position(Order::RecordForward)),
-        11 => Asked::For(Request::Position(Order::RecordBack)),
-        12 => Asked::For(Request::Position(Order::FileForward)),
-        13 => Asked::For(Request::Position(Order::FileBack)),
-        _ => Asked::Unknown,
-    }
-}
 
 // The number of a code that names no request, where a look gives that answer.
 fn unknown(look: Answer) -> u16

@@ -3,19 +3,17 @@ use directory::entry_of;
 use geometry::part;
 use geometry::word_at;
 use requests::Answer;
-use requests::Order;
+use requests::Asked;
 use requests::Request;
+use requests::by_code;
 use sessions::BufferedSession;
 use sessions::Session;
 use sessions::Spot;
 use texts::put_all;
 use texts::put_number;
 ghost use mathlib.Core.Path.{_≡_};
-ghost use Prim.Native.Nat.{_≤_, _-_};
-ghost use lib.ListN.{getD};
-ghost use Rattle.requests.specs.declared.Request.the-variants.{Open};
 ghost use Rattle.texts.specs.Texts.{spaced, Wrote};
-ghost use Rattle.playing.specs.Script.{requestsOf, usedBy, rowOf};
+ghost use Rattle.playing.specs.Script.{usedBy, rowOf};
 ghost use Rattle.playing.specs.Sums.{wordsOf, sumOf, sumsOf};
 ghost use Rattle.playing.specs.Said.{bit, mountLine, spotWords, rowLine, imageLine, faultWords, faultLine};
 ghost use Rattle.playing.specs.Played.{mountAt, stepAt, after, lookAnswerAt, lookAt, spotAt, lengthAt, moved, with, lookPlayed, requestPlayed, played};
@@ -45,31 +43,6 @@ pub enum Found {
     Wrong(Fault),
 }
 
-// The request of a code, 1 to 13, on granule g where it is one of a granule.
-fn request_of(code: u16, g: u16) -> Request
-    requires { ⌜ (1 ≤ code) × (code ≤ 13) ⌝ }
-    ensures { λ r. ⌜ r ≡ getD (requestsOf g) (code - 1) Open ⌝ }
-{
-    let n = g as u32;
-    let all = [
-        Request::Open,
-        Request::Read,
-        Request::Write,
-        Request::GranuleRead(n),
-        Request::GranuleWrite(n),
-        Request::GranuleLook(n),
-        Request::Position(Order::WriteMark),
-        Request::Position(Order::RewindOnline),
-        Request::Position(Order::RewindOffline),
-        Request::Position(Order::RecordForward),
-        Request::Position(Order::RecordBack),
-        Request::Position(Order::FileForward),
-        Request::Position(Order::FileBack),
-    ];
-    let k = (code - 1) as usize;
-    all[k]
-}
-
 // How many of the bytes given a row of that code and length uses up.
 fn used_by(code: u16, length: u16) -> u16
     ensures { λ r. ⌜ r ≡ usedBy code length ⌝ }
@@ -88,16 +61,16 @@ pub fn row_of(bytes: &[u8]) -> Found
         return Found::Wrong(Fault::Shape);
     }
     let code = word_at(bytes, 0);
-    if (code < 1) | (13 < code) {
-        return Found::Wrong(Fault::Code(code));
-    }
     let length = word_at(bytes, 4);
-    Found::InOrder(Row {
-        request: request_of(code, word_at(bytes, 6)),
-        entry: word_at(bytes, 2),
-        length: length,
-        uses: used_by(code, length),
-    })
+    match by_code(code, word_at(bytes, 6) as u32) {
+        Asked::For(q) => Found::InOrder(Row {
+            request: q,
+            entry: word_at(bytes, 2),
+            length: length,
+            uses: used_by(code, length),
+        }),
+        Asked::Unknown => Found::Wrong(Fault::Code(code)),
+    }
 }
 
 // ---- sums

@@ -1,7 +1,7 @@
 -- By the code: a request that there is, or none.
 use mathlib.Core.Path.{sym, ap, _∙_}
 use Rattle.board.specs.Board.{plainEngine, requested}
-use Rattle.board.specs.declared.Asked.{Asked}
+use Rattle.requests.specs.declared.Asked.{Asked}
 use Rattle.board.proofs.Served.{answers-unknown}
 use borrow.Author.Needs.{needs}
 use Rattle.board.proofs.board_request.Statement.{statement}
