@@ -23,7 +23,10 @@ use Rattle.steps.specs.Next.{Scene, factsOf}
 use Rattle.steps.specs.Step.{plainScene, plainAnswer, bufferedScene, bufferedAnswer}
 use Rattle.steps.specs.Look.{shown, plainLookAnswer, bufferedLookAnswer}
 use Rattle.steps.proofs.Inside.{lawful}
-use Rattle.judging.specs.Looks.{lookNumber, lookPart}
+use Rattle.storing.specs.Stored.{sessionIn, bufferedIn}
+use Rattle.storing.specs.Lent.{seenOf, seenIn, seenBufferedIn}
+use Rattle.judging.specs.Looks.{lookNumber, lookPart, lookedBy}
+use Rattle.judging.specs.declared.Looked.{Looked}
 use Rattle.judging.specs.Turns.{factsBut, Fixed}
 use Rattle.judging.proofs.Fixed.{ends-in}
 use Rattle.judging.proofs.Here.{fixed-from}
@@ -62,6 +65,23 @@ pub look-is : (image : List ℕ) (s : Session) (sound : Bool) (i g : ℕ) (e : E
     → judge (GranuleLook g) (factsBut false (l && sound) n e f 0 0 0) ≡ lookNumber image s sound i g
 unfolding lookNumber plainScene
 look-is image s sound i g e f n l ee ef en el = rw (ee, ef, en, el) (look-seen (legal image s && sound) (openFiles (s .files)) g (plainScene image s i []))
+
+-- in lent bytes
+module _ (image b : List ℕ) (i g : ℕ) (x : Looked) where
+  pub looked-plain : x ≡ lookedBy (seenIn image b i) g → (x .answer ≡ plainLookAnswer image (sessionIn b) i g) × (x .entry ≡ entryAt (sessionIn b .table) i)
+  unfolding lookedBy seenIn seenOf plainLookAnswer plainAnswer plainScene
+  looked-plain h = (
+    ap (λ (y : Looked). y .answer) h ∙ look-seen (legal image (sessionIn b)) (openFiles (sessionIn b .files)) g (plainScene image (sessionIn b) i []),
+    ap (λ (y : Looked). y .entry) h,
+  )
+
+  pub looked-buffered : x ≡ lookedBy (seenBufferedIn image b i) g
+      → (x .answer ≡ bufferedLookAnswer image (bufferedIn b) i g) × (x .entry ≡ entryAt (bufferedIn b .table) i)
+  unfolding lookedBy seenBufferedIn seenOf bufferedLookAnswer bufferedAnswer bufferedScene bare
+  looked-buffered h = (
+    ap (λ (y : Looked). y .answer) h ∙ look-seen (bufferedLegal image (bufferedIn b)) (openFiles (bare (bufferedIn b) .files)) g (bufferedScene image (bufferedIn b) i []),
+    ap (λ (y : Looked). y .entry) h,
+  )
 
 module _ (image : List ℕ) (s : Session) (sound : Bool) (i g n : ℕ) (a : Answer) (h : a ≡ lookNumber image s sound i g) (m : n ≡ numberOf a) where
   abbrev e : Entry

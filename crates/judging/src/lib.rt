@@ -21,6 +21,7 @@ use requests::Order;
 use requests::Refusal;
 use requests::Request;
 use requests::judge;
+use requests::judge_granule_look;
 use requests::number;
 use sessions::OpenFile;
 use sessions::Session;
@@ -29,10 +30,9 @@ use sessions::idle;
 use sessions::is_legal;
 use sessions::open_files;
 use steps::Verdict;
+use storing::Seen;
 use storing::find_buffered_in;
 use storing::find_in;
-use storing::is_legal_buffered_in;
-use storing::is_legal_in;
 ghost use mathlib.Core.Path.{_≡_};
 ghost use mathlib.Core.Bool.{true, false, _&&_};
 ghost use mathlib.Core.List.{[]};
@@ -43,12 +43,12 @@ ghost use Rattle.geometry.specs.Bytes as Bytes;
 ghost use Rattle.geometry.specs.Places.{origin};
 ghost use Rattle.geometry.specs.Sizes.{blocked, compressed, random};
 ghost use Rattle.geometry.specs.Sizes as Sizes;
-ghost use Rattle.directory.specs.Entries.{isKind};
+ghost use Rattle.directory.specs.Entries.{entryAt, isKind};
 ghost use Rattle.sessions.specs.Session.{bare, openFiles, extent, legal, bufferedLegal};
-ghost use Rattle.steps.specs.Look.{shown};
+ghost use Rattle.steps.specs.Look.{shown, plainLookAnswer, bufferedLookAnswer};
 ghost use Rattle.requests.specs.declared.Answer.the-variants.{Done};
 ghost use Rattle.storing.specs.Stored.{sessionIn, bufferedIn};
-ghost use Rattle.judging.specs.Looks.{lookNumber, lookPart};
+ghost use Rattle.judging.specs.Looks.{lookNumber, lookPart, lookedBy};
 ghost use Rattle.steps.specs.Next.{moved, counted, fileMet, entryDone};
 ghost use Rattle.steps.specs.Verdict.{seenBytes, seenScene, bufferNext, answerOf, verdictOf};
 ghost use Rattle.steps.proofs.Lawful.{Lawful};
@@ -555,10 +555,10 @@ pub fn verdict_in(
         (length (now (buffer .entry))) code q (seenScene (now (image .entry)) (sessionIn (now (session .entry))) 0 [] i (now (given .entry)))) q
         (seenScene (now (image .entry)) (sessionIn (now (session .entry))) 0 [] i (now (given .entry))) (now (buffer .entry))) ⌝ }
 {
-    let seen = find_in(session, i);
+    let seen = find_in(image, session, i);
     let e = seen.entry;
     let f = seen.file;
-    let lawful = is_legal_in(image, session);
+    let lawful = seen.lawful;
     let none = part(given, 0, 0);
     verdict_on(
         image,
@@ -594,10 +594,10 @@ pub fn verdict_buffered_in(
         (length (now (buffer .entry))) code q (seenScene (now (image .entry)) (bare (bufferedIn (now (session .entry)))) held (now (over .entry)) i (now (given .entry)))) q
         (seenScene (now (image .entry)) (bare (bufferedIn (now (session .entry)))) held (now (over .entry)) i (now (given .entry))) (now (buffer .entry))) ⌝ }
 {
-    let seen = find_buffered_in(session, i);
+    let seen = find_buffered_in(image, session, i);
     let e = seen.entry;
     let f = seen.file;
-    let lawful = is_legal_buffered_in(image, session);
+    let lawful = seen.lawful;
     verdict_on(
         image,
         lawful,
@@ -652,4 +652,41 @@ pub fn look(image: &[u8], s: Session, sound: bool, i: usize, g: u32) -> &[u8]
     } else {
         &image[..0]
     }
+}
+
+// ---- looks on a session in lent bytes
+
+// The answer to a look, and the entry looked at.
+pub struct Looked {
+    pub answer: Answer,
+    pub entry: Entry,
+}
+
+// A look at granule g of what is seen of an entry.
+fn look_seen(seen: Seen, g: u32) -> Looked
+    ensures { λ r. ⌜ r ≡ lookedBy seen g ⌝ }
+{
+    let e = seen.entry;
+    let f = seen.file;
+    let known = facts(false, seen.lawful, seen.opened, e, f, 0, 0, 0);
+    Looked {
+        answer: judge_granule_look(known, g),
+        entry: e,
+    }
+}
+
+// A look at granule g of entry i of the session that the lent bytes are.
+pub fn look_in(image: &[u8], session: &[u8], i: usize, g: u32) -> Looked
+    ensures { λ r. ⌜ (r .answer ≡ plainLookAnswer (now (image .entry)) (sessionIn (now (session .entry))) i g)
+        × (r .entry ≡ entryAt (sessionIn (now (session .entry)) .table) i) ⌝ }
+{
+    look_seen(find_in(image, session, i), g)
+}
+
+// A look at granule g of entry i of the session with buffers that the lent bytes are.
+pub fn look_buffered_in(image: &[u8], session: &[u8], i: usize, g: u32) -> Looked
+    ensures { λ r. ⌜ (r .answer ≡ bufferedLookAnswer (now (image .entry)) (bufferedIn (now (session .entry))) i g)
+        × (r .entry ≡ entryAt (bufferedIn (now (session .entry)) .table) i) ⌝ }
+{
+    look_seen(find_buffered_in(image, session, i), g)
 }

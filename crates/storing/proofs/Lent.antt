@@ -3,10 +3,9 @@ use mathlib.Core.Path.{_≡_, refl, sym, ap, _∙_}
 use mathlib.Core.Bool.{Bool, true, false, _&&_, not, and-false, false≢true}
 use mathlib.Core.List.{List, [], _∷_, map}
 use Prim.Native.Nat.{ℕ, zero, suc, _+_, _-_, _*_, _≤_, _<_}
-use mathlib.Core.Logic.{Dec, yes, no}
 use native.Mathlib.Omega.{arith}
 use native.Mathlib.Decide.{decLt}
-use lib.Dec.{eqb}
+use lib.Dec.{eqb, ltb}
 use lib.ListN.{length, take, drop, getD, List·getD-eq-default}
 use lib.Seq.{length-take-le, getD-take}
 use borrow.Author.Tests.{eq-eqb, eqb-true, lt-ltb}
@@ -256,9 +255,27 @@ module _ (b : List ℕ) (k : ℕ) where
   abbrev Lends : BufferedFile → Type 0
   Lends y = y .holds ≡ true → (k < mostOpen) × (y .buffer ≡ part b (filesAt + heldWidth * k + 36) sector)
 
+  told-part : (xs : List ℕ) (z : Bool) → z ≡ true → elim z [ true ↦ xs | false ↦ [] ] ≡ xs
+  told-part xs z e = rw e
+
+  untold-part : (xs : List ℕ) (z : Bool) → z ≡ false → _≡_ {A = List ℕ} (elim z [ true ↦ xs | false ↦ [] ]) []
+  untold-part xs z e = rw e
+
+  -- as the program lends it
+  module _ (h : Bool) (xs : List ℕ) where
+    pub lent-part : (h && ltb k mostOpen) ≡ true → (at : ℕ) → at ≡ filesAt + heldWidth * k → xs ≡ part b (at + 36) sector → xs ≡ lentIn b k h
+    unfolding lentIn
+    lent-part t at q p = p ∙ ap (λ (m : ℕ). part b (m + 36) sector) q ∙ sym (told-part (part b (filesAt + heldWidth * k + 36) sector) (h && ltb k mostOpen) t)
+
+    pub lent-none : (h && ltb k mostOpen) ≡ false → xs ≡ part b 0 0 → xs ≡ lentIn b k h
+    unfolding lentIn part
+    lent-none t p = p ∙ sym (untold-part (part b (filesAt + heldWidth * k + 36) sector) (h && ltb k mostOpen) t)
+
   lends : (y : BufferedFile) → Lends y → lentIn b k (y .holds) ≡ lentBy y
   unfolding lentIn lentBy
-  lends y h = either (y .holds) (λ (t : y .holds ≡ true). rw (t, lt-ltb k mostOpen (h t .0), h t .1)) (λ (t : y .holds ≡ false). rw t)
+  lends y h = either (y .holds)
+      (λ (t : y .holds ≡ true). rw t (told-part (part b (filesAt + heldWidth * k + 36) sector) (ltb k mostOpen) (lt-ltb k mostOpen (h t .0)) ∙ sym (h t .1)))
+      (λ (t : y .holds ≡ false). rw t)
 
   used-lends : k < mostOpen → Lends (inUse (heldIn b (filesAt + heldWidth * k)))
   unfolding inUse heldIn fileIn
