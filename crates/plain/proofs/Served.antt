@@ -16,14 +16,15 @@ use Rattle.sessions.specs.Session.{slotOf, openFiles, legal}
 use Rattle.steps.specs.Effects.{effects, plainAll}
 use Rattle.steps.specs.Next.{factsOf}
 use Rattle.steps.specs.Step.{After, plainScene, plainStep}
-use Rattle.steps.specs.Verdict.{seenScene, bufferNext, answerOf, verdictOf}
+use Rattle.steps.specs.Verdict.{seenScene, bufferNext}
 use Rattle.straight.specs.Straight.{codeGiven, Encoded}
 use Rattle.straight.proofs.Judged.{judgement}
-use Rattle.storing.specs.Lent.{seenOf}
+use Rattle.storing.specs.Lent.{seenOf, seenIn}
 use Rattle.storing.specs.Stored.{entryWidth, entryStored, isStored, unlawful, sessionIn, stored, layEntry, layFile}
 use Rattle.storing.proofs.Illegal.{none-legal}
 use Rattle.storing.proofs.Laws.{stored-kept, stored-laid}
 use Rattle.storing.proofs.Read.{length-table, session-is, session-none}
+use Rattle.judging.specs.Judged.{judgedBy, bufferBy}
 use Rattle.judging.specs.Lent.{afterIn, lentAfter}
 use Rattle.plain.specs.Plain.{sceneIn}
 use Rattle.plain.proofs.Stepped.{verdict-now, buffer-now, done-after, met-after, refused-after, goes-there, goes-encoded}
@@ -35,6 +36,7 @@ use Rattle.requests.specs.declared.Request.{Request}
 use Rattle.sessions.specs.declared.Session.{Session}
 use Rattle.steps.specs.declared.Verdict.{Verdict}
 use Rattle.storing.specs.declared.lawful.Seen.{Seen}
+use Rattle.judging.specs.declared.Judged.{Judged}
 
 -- a legal session's bytes are one
 told : (image b : List ℕ) → legal image (sessionIn b) ≡ true → isStored b ≡ true
@@ -111,42 +113,46 @@ module _ (image b : List ℕ) (i : ℕ) (q : Request) (given buffer : List ℕ) 
       let r : Live (factsOf (legal image s) (openFiles (s .files)) (length buffer) q (plainScene image s i given)) = met-live _ q y (met-meets q _ y d) in
       r .legal
 
-  module _ (x : Seen) (found : x ≡ seenOf s i) (n : ℕ) (size : n ≡ length (codeGiven (x .entry) given)) (v : Verdict)
-      (told : v ≡ verdictOf (legal image s) (openFiles (s .files)) (length buffer) n q (seenScene image s 0 [] i given)) where
-    verdict-told : v ≡ judged
-    unfolding seenOf
-    verdict-told = rw (told, size, found) (verdict-now image s i q given buffer)
+  module _ (r : Judged) (h : r ≡ judgedBy image (seenIn image b i) [] i q given (length buffer)) where
+    found : r .seen ≡ seenIn image b i
+    unfolding judgedBy
+    found = ap (λ (x : Judged). x .seen) h
 
-    answer-told : (a : Answer) → v .answer ≡ a → answered ≡ a
-    answer-told a h = sym (ap (λ (w : Verdict). w .answer) verdict-told) ∙ h
+    verdict-told : r .verdict ≡ judged
+    unfolding judgedBy seenIn seenOf seenScene
+    verdict-told = rw h (verdict-now image s i q given buffer)
 
-    pub goes : (room : List ℕ) → length room ≡ 135 → v .answer ≡ Done → (i < entries) × Encoded q (x .entry) given (part (sets room 0 (codeGiven (x .entry) given)) 0 n)
-    unfolding seenOf
-    goes room h d = (
+    answer-told : (a : Answer) → r .verdict .answer ≡ a → answered ≡ a
+    answer-told a d = sym (ap (λ (w : Verdict). w .answer) verdict-told) ∙ d
+
+    pub goes : (room code : List ℕ) → length room ≡ 135 → code ≡ sets room 0 (codeGiven (seenIn image b i .entry) given) → r .verdict .answer ≡ Done
+        → (i < entries) × Encoded q (r .seen .entry) given (part code 0 (r .size))
+    unfolding judgedBy seenIn seenOf
+    goes room code l e d = (
       goes-there image s i q given buffer (table-long b) (answer-told Done d),
-      rw (size, found) (goes-encoded image s i q given buffer room h (answer-told Done d)),
+      rw (h, e) (goes-encoded image s i q given buffer room l (answer-told Done d)),
     )
 
-    module _ (moved : List ℕ) (into : moved ≡ bufferNext (answerOf (legal image s) (openFiles (s .files)) (length buffer) n q (seenScene image s 0 [] i given)) q (seenScene image s 0 [] i given) buffer) where
+    module _ (moved : List ℕ) (into : moved ≡ bufferBy image (seenIn image b i) [] i q given buffer) where
       buffer-told : moved ≡ bufferNext answered q (plainScene image s i given) buffer
-      unfolding seenOf
-      buffer-told = rw (into, size, found) (buffer-now image s i q given buffer)
+      unfolding bufferBy seenIn seenOf seenScene
+      buffer-told = rw into (buffer-now image s i q given buffer)
 
-      pub done-served : v .answer ≡ Done → (to : List ℕ)
-          → to ≡ plainAll (sceneIn image i (x .entry) (x .file) given) (effects q (sceneIn image i (x .entry) (x .file) given)) image
-          → (lent : List ℕ) → length (entryStored (v .entry)) ≡ entryWidth → lent ≡ layFile (layEntry b i (v .entry)) (x .slot) (v .file)
-          → afterIn (v .answer) to lent moved ≡ lentAfter (isStored b) stored b stepped
-      unfolding seenOf plainScene
+      pub done-served : r .verdict .answer ≡ Done → (to : List ℕ)
+          → to ≡ plainAll (sceneIn image i (r .seen .entry) (r .seen .file) given) (effects q (sceneIn image i (r .seen .entry) (r .seen .file) given)) image
+          → (lent : List ℕ) → length (entryStored (r .verdict .entry)) ≡ entryWidth → lent ≡ layFile (layEntry b i (r .verdict .entry)) (r .seen .slot) (r .verdict .file)
+          → afterIn (r .verdict .answer) to lent moved ≡ lentAfter (isStored b) stored b stepped
+      unfolding judgedBy seenIn seenOf plainScene
       done-served d to t lent long l =
-          laid image b i stepped (done-legal (answer-told Done d)) v (v .answer) to moved lent long (rw found at l)
+          laid image b i stepped (done-legal (answer-told Done d)) (r .verdict) (r .verdict .answer) to moved lent long (l ∙ ap (λ (x : Seen). layFile (layEntry b i (r .verdict .entry)) (x .slot) (r .verdict .file)) found)
           (rw (verdict-told, t, found, buffer-told) (done-after image s i q given buffer (answer-told Done d)))
 
-      pub met-served : (y : Edge) → v .answer ≡ Met y → (lent : List ℕ) → length (entryStored (v .entry)) ≡ entryWidth
-          → lent ≡ layFile (layEntry b i (v .entry)) (x .slot) (v .file) → afterIn (v .answer) image lent moved ≡ lentAfter (isStored b) stored b stepped
-      unfolding seenOf
+      pub met-served : (y : Edge) → r .verdict .answer ≡ Met y → (lent : List ℕ) → length (entryStored (r .verdict .entry)) ≡ entryWidth
+          → lent ≡ layFile (layEntry b i (r .verdict .entry)) (r .seen .slot) (r .verdict .file) → afterIn (r .verdict .answer) image lent moved ≡ lentAfter (isStored b) stored b stepped
+      unfolding judgedBy seenIn seenOf
       met-served y d lent long l =
-          laid image b i stepped (met-legal y (answer-told (Met y) d)) v (v .answer) image moved lent long (rw found at l)
+          laid image b i stepped (met-legal y (answer-told (Met y) d)) (r .verdict) (r .verdict .answer) image moved lent long (l ∙ ap (λ (x : Seen). layFile (layEntry b i (r .verdict .entry)) (x .slot) (r .verdict .file)) found)
           (rw (verdict-told, buffer-told) (met-after image s i q given buffer y (answer-told (Met y) d)))
 
-      pub refused-served : (y : Refusal) → v .answer ≡ Refused y → afterIn (v .answer) image b moved ≡ lentAfter (isStored b) stored b stepped
-      refused-served y d = unlaid image b i stepped (v .answer) moved (rw (verdict-told, buffer-told) (refused-after image s i q given buffer y (answer-told (Refused y) d)))
+      pub refused-served : (y : Refusal) → r .verdict .answer ≡ Refused y → afterIn (r .verdict .answer) image b moved ≡ lentAfter (isStored b) stored b stepped
+      refused-served y d = unlaid image b i stepped (r .verdict .answer) moved (rw (verdict-told, buffer-told) (refused-after image s i q given buffer y (answer-told (Refused y) d)))

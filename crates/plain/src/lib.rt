@@ -18,7 +18,6 @@ use sessions::file_of;
 use sessions::slot_of;
 use sessions::spot_of;
 use steps::Verdict;
-use storing::find_in;
 use storing::put_entry;
 use storing::put_file;
 use straight::encode_given;
@@ -191,20 +190,20 @@ fn serve_in(
     ensures { λ r. ⌜ afterIn r (now (image .exit)) (now (session .exit)) (now (buffer .exit))
         ≡ served (now (image .entry)) (now (session .entry)) i q (now (given .entry)) (now (buffer .entry)) ⌝ }
 {
-    let seen = find_in(session, i);
+    let r = verdict_in(image, session, i, q, given, code, buffer);
+    let seen = r.seen;
     let e = seen.entry;
     let f = seen.file;
-    let m = encode_given(e, given, code);
-    let w = verdict_in(image, session, i, q, given, m, buffer);
-    let a = w.answer;
+    let v = r.verdict;
+    let a = v.answer;
     match a {
         Answer::Done => {
-            act(image, i, e, f, q, given, part(code, 0, m));
-            put_next(session, i, seen.slot, w);
+            act(image, i, e, f, q, given, part(code, 0, r.size));
+            put_next(session, i, seen.slot, v);
             a
         }
         Answer::Met(_) => {
-            put_next(session, i, seen.slot, w);
+            put_next(session, i, seen.slot, v);
             a
         }
         Answer::Refused(_) => a,
