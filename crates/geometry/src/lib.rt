@@ -198,16 +198,6 @@ pub fn put(out: &mut [u8], at: usize, b: u8)
     }
 }
 
-// Puts a word at a place, high byte first, if it fits there.
-pub fn put_word(out: &mut [u8], at: usize, w: u16)
-    ensures { λ _. ⌜ now (out .exit) ≡ Bytes.lay (now (out .entry)) at (word w) ⌝ }
-{
-    if fits(at, 2, out.len()) {
-        out[at] = (w / 256) as u8;
-        out[at + 1] = (w % 256) as u8;
-    }
-}
-
 // Lays the bytes xs over those from byte at on, if they fit there.
 pub fn lay(out: &mut [u8], at: usize, xs: &[u8])
     ensures { λ _. ⌜ now (out .exit) ≡ Bytes.lay (now (out .entry)) at (now (xs .entry)) ⌝ }

@@ -133,18 +133,6 @@ module _ (b : List ℕ) (i at : ℕ) (h : i < entries) (q : at ≡ entryWidth * 
 
 -- ---- those before number i
 
--- a member that breaks the rule of two with one before it breaks the whole
-pub front-some : {A : Type 0} (one : A → Bool) (two : A → A → Bool) (xs : List A) (i : ℕ) (d : A) → i < length xs
-    → every (λ a. two a (getD xs i d)) (take i xs) ≡ false → (every one xs && pairwise two xs) ≡ false
-front-some one two xs i d h b =
-    rw (denied (pairwise two xs) (every (λ a. two a (getD xs i d)) (take i xs)) all-two b, and-false (every one xs))
-  where
-    all-two : pairwise two xs ≡ true → every (λ a. two a (getD xs i d)) (take i xs) ≡ true
-    all-two p = every-from (λ a. two a (getD xs i d)) (take i xs) d λ (j : ℕ) (l : j < length (take i xs)).
-        let n : length (take i xs) ≡ i = length-take-le i xs (omega arith) in
-        let u : j < i = omega arith in
-        rw (getD-take i xs j d u) (pairwise-getD two xs j i d p u h)
-
 -- tested from the front: what is left of them decides
 module _ {A : Type 0} (p : A → Bool) (xs : List A) (i j : ℕ) (m : i ≤ length xs) where
   pub before-end : i ≤ j → every p (drop j (take i xs)) ≡ true
