@@ -4,7 +4,7 @@ ghost use Prim.Native.Nat.{_+_, _/_, _%_, min};
 ghost use lib.Dec.{leb};
 ghost use lib.ListN.{length, getD, set, replicate};
 ghost use Rattle.geometry.specs.Lists as Lists;
-ghost use Rattle.geometry.specs.Bytes.{wordAt, word, padded};
+ghost use Rattle.geometry.specs.Bytes.{wordAt, padded};
 ghost use Rattle.geometry.specs.Bytes as Bytes;
 ghost use Rattle.geometry.specs.Sizes.{sectorsOf, lawfulLength};
 ghost use Rattle.geometry.specs.Places.{sectorsFor, perSector, placeOf};

@@ -1,14 +1,12 @@
 -- A record or granule of R bytes written where it lies: it reads back padded with zero, and so do those before it, since places stand in order;
 -- where each has sectors of its own, every other one too.
-use mathlib.Core.Path.{_≡_, refl, sym, ap, _∙_}
+use mathlib.Core.Path.{_≡_, sym, ap, _∙_}
 use mathlib.Core.Logic.{_≢_}
 use mathlib.Core.Bool.{true, false}
-use mathlib.Core.List.{List, _++_}
-use Prim.Native.Nat.{ℕ, zero, suc, _+_, _-_, _*_, _≤_, _<_}
+use mathlib.Core.List.{List}
+use Prim.Native.Nat.{ℕ, _+_, _-_, _*_, _≤_, _<_}
 use native.Mathlib.Omega.{arith}
-use native.Mathlib.Nat.{not-suc-le-zero}
-use lib.ListN.{length, take, replicate}
-use lib.Seq.{take-append-add}
+use lib.ListN.{length}
 use borrow.Author.Tests.{eqb-true, eqb-false}
 use Rattle.geometry.specs.Bytes.{part, lay, padded}
 use Rattle.geometry.specs.Sizes.{sector, blocked, compressed}
@@ -22,11 +20,6 @@ use Rattle.steps.specs.Effects.{storeEffect, blockedEffect, writeEffects}
 use Rattle.steps.proofs.Lawful.{ownDo, ownAll}
 
 -- ---- what is laid
-
-take-replicate : (n m b : ℕ) → n ≤ m → take n (replicate m b) ≡ replicate n b
-take-replicate zero m b h = refl
-take-replicate (suc n) zero b h = absurd (not-suc-le-zero h)
-take-replicate (suc n) (suc m) b h = rw (take-replicate n m b (omega arith))
 
 abbrev pub written : ℕ → ℕ → List ℕ → ℕ → List ℕ → List ℕ
 written kind R bytes k given = lay bytes (byteOf (placeOf kind R k)) (padded 0 (spanOf kind R k) given)
