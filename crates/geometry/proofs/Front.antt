@@ -4,9 +4,10 @@ use mathlib.Core.Bool.{Bool, true, false, _&&_, and-false}
 use mathlib.Core.List.{List}
 use Prim.Native.Nat.{ℕ, _+_, _≤_, _<_}
 use lib.ListN.{length, take, getD}
-use lib.Seq.{take-all}
+use lib.Seq.{take-all, length-take-le, getD-take}
+use native.Mathlib.Omega.{arith}
 use Rattle.geometry.specs.Lists.{every, pairwise}
-use Rattle.geometry.proofs.Tests.{denied, and-left, and-right, and-both, every-getD, every-more, pairwise-getD, pairwise-more}
+use Rattle.geometry.proofs.Tests.{denied, and-left, and-right, and-both, every-from, every-getD, every-more, pairwise-getD, pairwise-more}
 
 -- a rule of one member, of the first i
 pub front-every-on : {A : Type 0} (p : A → Bool) (xs : List A) (i : ℕ) (d : A) → i < length xs
@@ -45,3 +46,13 @@ module _ {A : Type 0} (one : A → Bool) (two : A → A → Bool) (xs : List A) 
     pub front-two : (j : ℕ) → j < i → two (getD xs j d) x ≡ false → every one xs && pairwise two xs ≡ false
     front-two j l b =
         rw (denied (pairwise two xs) (two (getD xs j d) x) (λ p. pairwise-getD two xs j i d p l h) b, and-false (every one xs))
+
+    -- one that breaks the rule of two with some member before it
+    pub front-some : every (λ a. two a x) (take i xs) ≡ false → (every one xs && pairwise two xs) ≡ false
+    front-some b = rw (denied (pairwise two xs) (every (λ a. two a x) (take i xs)) all-two b, and-false (every one xs))
+      where
+        all-two : pairwise two xs ≡ true → every (λ a. two a x) (take i xs) ≡ true
+        all-two p = every-from (λ a. two a x) (take i xs) d λ (j : ℕ) (l : j < length (take i xs)).
+            let n : length (take i xs) ≡ i = length-take-le i xs (omega arith) in
+            let u : j < i = omega arith in
+            rw (getD-take i xs j d u) (pairwise-getD two xs j i d p u h)

@@ -4,7 +4,7 @@ ghost use Prim.Native.Nat.{_+_, _/_, _%_, min};
 ghost use lib.Dec.{leb};
 ghost use lib.ListN.{length, getD, set, replicate};
 ghost use Rattle.geometry.specs.Lists as Lists;
-ghost use Rattle.geometry.specs.Bytes.{wordAt, word, padded};
+ghost use Rattle.geometry.specs.Bytes.{wordAt, padded};
 ghost use Rattle.geometry.specs.Bytes as Bytes;
 ghost use Rattle.geometry.specs.Sizes.{sectorsOf, lawfulLength};
 ghost use Rattle.geometry.specs.Places.{sectorsFor, perSector, placeOf};
@@ -195,16 +195,6 @@ pub fn put(out: &mut [u8], at: usize, b: u8)
 {
     if at < out.len() {
         out[at] = b;
-    }
-}
-
-// Puts a word at a place, high byte first, if it fits there.
-pub fn put_word(out: &mut [u8], at: usize, w: u16)
-    ensures { λ _. ⌜ now (out .exit) ≡ Bytes.lay (now (out .entry)) at (word w) ⌝ }
-{
-    if fits(at, 2, out.len()) {
-        out[at] = (w / 256) as u8;
-        out[at + 1] = (w % 256) as u8;
     }
 }
 

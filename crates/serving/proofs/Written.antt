@@ -1,19 +1,17 @@
 -- A record or granule of R bytes written where it lies: it reads back padded with zero, and so do those before it, since places stand in order;
 -- where each has sectors of its own, every other one too.
-use mathlib.Core.Path.{_≡_, refl, sym, ap, _∙_}
+use mathlib.Core.Path.{_≡_, sym, ap, _∙_}
 use mathlib.Core.Logic.{_≢_}
 use mathlib.Core.Bool.{true, false}
-use mathlib.Core.List.{List, _++_}
-use Prim.Native.Nat.{ℕ, zero, suc, _+_, _-_, _*_, _≤_, _<_}
+use mathlib.Core.List.{List}
+use Prim.Native.Nat.{ℕ, _+_, _-_, _*_, _≤_, _<_}
 use native.Mathlib.Omega.{arith}
-use native.Mathlib.Nat.{not-suc-le-zero}
-use lib.ListN.{length, take, replicate}
-use lib.Seq.{take-append-add}
+use lib.ListN.{length}
 use borrow.Author.Tests.{eqb-true, eqb-false}
 use Rattle.geometry.specs.Bytes.{part, lay, padded}
 use Rattle.geometry.specs.Sizes.{sector, blocked, compressed}
 use Rattle.geometry.specs.Places.{capacity, placeOf, byteOf, sectorsFor}
-use Rattle.geometry.proofs.Bytes.{part-lay-inside, part-lay-apart, length-padded}
+use Rattle.geometry.proofs.Bytes.{part-lay-inside, part-lay-apart, part-padded, length-padded}
 use Rattle.geometry.proofs.Tests.{either}
 use Rattle.geometry.proofs.Places.{spanOf, span-blocked, span-whole, place-whole, span-holds, span-inside, earlier-apart, spans-apart}
 use Rattle.directory.specs.Entries.{isKind}
@@ -22,20 +20,6 @@ use Rattle.steps.specs.Effects.{storeEffect, blockedEffect, writeEffects}
 use Rattle.steps.proofs.Lawful.{ownDo, ownAll}
 
 -- ---- what is laid
-
-take-replicate : (n m b : ℕ) → n ≤ m → take n (replicate m b) ≡ replicate n b
-take-replicate zero m b h = refl
-take-replicate (suc n) zero b h = absurd (not-suc-le-zero h)
-take-replicate (suc n) (suc m) b h = rw (take-replicate n m b (omega arith))
-
--- what is padded further begins with what is padded less
-pub part-padded : (b n m : ℕ) (xs : List ℕ) → length xs ≤ n → n ≤ m → part (padded b m xs) 0 n ≡ padded b n xs
-unfolding part padded
-part-padded b n m xs h k =
-    let e : n ≡ length xs + (n - length xs) = omega arith in
-    ap (λ (j : ℕ). take j (xs ++ replicate (m - length xs) b)) e
-    ∙ take-append-add xs (replicate (m - length xs) b) (n - length xs)
-    ∙ ap (λ (zs : List ℕ). xs ++ zs) (take-replicate (n - length xs) (m - length xs) b (omega arith))
 
 abbrev pub written : ℕ → ℕ → List ℕ → ℕ → List ℕ → List ℕ
 written kind R bytes k given = lay bytes (byteOf (placeOf kind R k)) (padded 0 (spanOf kind R k) given)
@@ -77,7 +61,7 @@ module _ (kind R sectors : ℕ) (pos : 0 < R) (small : kind ≡ blocked → R �
       let z : at + 0 ≡ at = omega arith in
       ap (λ (a : ℕ). part (written kind R bytes p given) a R) (sym z)
       ∙ part-lay-inside bytes at (padded 0 (spanOf kind R p) given) (omega (arith, span-inside kind R pos small p sectors below)) 0 R (omega (arith, span-holds kind R pos small p))
-      ∙ part-padded 0 R (spanOf kind R p) given short (span-holds kind R pos small p)
+      ∙ part-padded 0 (spanOf kind R p) R given short (span-holds kind R pos small p)
 
   -- those before it are as they were
   pub written-before : (k : ℕ) → k < p → part (written kind R bytes p given) (byteOf (placeOf kind R k)) R ≡ part bytes (byteOf (placeOf kind R k)) R

@@ -1,6 +1,6 @@
 -- Sessions in lent bytes, read where they lie: an entry stands at 22·i, a state at w·k behind the first, and what is tested of those bytes is tested of the entry or state that they hold.
 use mathlib.Core.Path.{_≡_, refl, sym, ap, _∙_}
-use mathlib.Core.Bool.{Bool, true, false, _&&_, not, and-false, false≢true}
+use mathlib.Core.Bool.{Bool, true, false, _&&_, not, false≢true}
 use mathlib.Core.List.{List, [], _∷_, map}
 use Prim.Native.Nat.{ℕ, zero, suc, _+_, _-_, _*_, _≤_, _<_}
 use native.Mathlib.Omega.{arith}
@@ -10,11 +10,11 @@ use lib.ListN.{length, take, drop, getD, List·getD-eq-default}
 use lib.Seq.{length-take-le, getD-take}
 use borrow.Author.Tests.{eq-eqb, eqb-true, lt-ltb}
 use Rattle.geometry.specs.Bytes.{part}
-use Rattle.geometry.specs.Lists.{every, pairwise, firstWith, howMany}
+use Rattle.geometry.specs.Lists.{every, firstWith, howMany}
 use Rattle.geometry.specs.Sizes.{sector, entries, mostOpen}
 use Rattle.geometry.proofs.Bytes.{part-split}
 use Rattle.geometry.proofs.Left.{every-on, every-off, every-end}
-use Rattle.geometry.proofs.Tests.{either, alike, denied, and-left, and-right, and-both, every-from, every-alike, pairwise-getD}
+use Rattle.geometry.proofs.Tests.{either, alike, and-left, and-right, and-both, every-alike}
 use Rattle.directory.specs.Entries.{entryBytes, freeEntry, entryAt}
 use Rattle.directory.specs.Grouped.{entryGood, twoGood}
 use Rattle.directory.proofs.Free.{every-append, zero-entry, free-good}
@@ -136,18 +136,6 @@ module _ (b : List ℕ) (i at : ℕ) (h : i < entries) (q : at ≡ entryWidth * 
   all-told e r p s = ap (λ (x : Entry). every (λ f. twoGood f x) (take i (tableIn b))) (entry-is ∙ sym p) ∙ sym s
 
 -- ---- those before number i
-
--- a member that breaks the rule of two with one before it breaks the whole
-pub front-some : {A : Type 0} (one : A → Bool) (two : A → A → Bool) (xs : List A) (i : ℕ) (d : A) → i < length xs
-    → every (λ a. two a (getD xs i d)) (take i xs) ≡ false → (every one xs && pairwise two xs) ≡ false
-front-some one two xs i d h b =
-    rw (denied (pairwise two xs) (every (λ a. two a (getD xs i d)) (take i xs)) all-two b, and-false (every one xs))
-  where
-    all-two : pairwise two xs ≡ true → every (λ a. two a (getD xs i d)) (take i xs) ≡ true
-    all-two p = every-from (λ a. two a (getD xs i d)) (take i xs) d λ (j : ℕ) (l : j < length (take i xs)).
-        let n : length (take i xs) ≡ i = length-take-le i xs (omega arith) in
-        let u : j < i = omega arith in
-        rw (getD-take i xs j d u) (pairwise-getD two xs j i d p u h)
 
 -- tested from the front: what is left of them decides
 module _ {A : Type 0} (p : A → Bool) (xs : List A) (i j : ℕ) (m : i ≤ length xs) where

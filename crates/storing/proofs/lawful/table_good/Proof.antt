@@ -6,13 +6,13 @@ use mathlib.Core.Logic.{⊎-elim}
 use native.Mathlib.Omega.{arith}
 use lib.ListN.{length, take}
 use borrow.Author.Tests.{not-true, not-false}
-use Rattle.geometry.proofs.Front.{Front, front-none, front-on, front-one, front-whole}
+use Rattle.geometry.proofs.Front.{Front, front-none, front-on, front-one, front-some, front-whole}
 use Rattle.directory.specs.Entries.{freeEntry}
 use Rattle.directory.specs.Grouped.{entryGood, twoGood}
 use Rattle.directory.proofs.Grouped.{grouped, free-apart}
 use Rattle.storing.specs.Stored.{tableIn}
 use Rattle.storing.proofs.Read.{length-table}
-use Rattle.storing.proofs.Lent.{free-told, free-kind, one-told, all-told, front-some}
+use Rattle.storing.proofs.Lent.{free-told, free-kind, one-told, all-told}
 use borrow.Author.Needs.{needs}
 use Rattle.storing.proofs.lawful.table_good.Statement.{statement}
 use Rattle.storing.proofs.lawful.table_good.Tie as tie
