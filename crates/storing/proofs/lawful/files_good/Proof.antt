@@ -6,13 +6,13 @@ use mathlib.Core.Logic.{⊎-elim}
 use native.Mathlib.Omega.{arith}
 use lib.ListN.{length, take, getD}
 use borrow.Author.Tests.{not-true, not-false}
-use Rattle.geometry.proofs.Front.{Front, front-none, front-on, front-one, front-whole}
+use Rattle.geometry.proofs.Front.{Front, front-none, front-on, front-one, front-some, front-whole}
 use Rattle.sessions.specs.Session.{idle, ofOther}
 use Rattle.sessions.specs.Grouped.{fileGood}
 use Rattle.sessions.proofs.Grouped.{files-grouped, file-unused, others-unused}
 use Rattle.storing.specs.Stored.{tableIn}
 use Rattle.storing.specs.Lent.{filesIn}
-use Rattle.storing.proofs.Lent.{front-some, length-files, state-is, state-used, one-file-told, others-told}
+use Rattle.storing.proofs.Lent.{length-files, state-is, state-used, one-file-told, others-told}
 use borrow.Author.Needs.{needs}
 use Rattle.storing.proofs.lawful.files_good.Statement.{statement}
 use Rattle.storing.proofs.lawful.files_good.Tie as tie
