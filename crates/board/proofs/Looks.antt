@@ -49,14 +49,13 @@ module _ {S : Type 0} (E : Engine S) (image b : List ℕ) (i g : ℕ) where
   unfolding lookPlace
   refused-place old h = rw (ne-eqb number 0 h, lookPlace)
 
-  module _ (s : S) (f : s ≡ E .read b) (a : Answer) (e : a ≡ E .look image s i g) (n : ℕ) (p : n ≡ numberOf a) (old : ℕ) where
+  module _ (a : Answer) (e : a ≡ E .look image (E .read b) i g) (n : ℕ) (p : n ≡ numberOf a) (old : ℕ) where
     number-is : n ≡ number
-    number-is = p ∙ ap numberOf (e ∙ ap (λ (x : S). E .look image x i g) f)
+    number-is = p ∙ ap numberOf e
 
-    pub look-shown : n ≡ 0 → (x : Entry) → x ≡ entryAt (E .table s) i → (at : ℕ) → at ≡ sector * x .first + byteOf (placeOf random (x .length) g)
+    pub look-shown : n ≡ 0 → (x : Entry) → x ≡ entryAt (E .table (E .read b)) i → (at : ℕ) → at ≡ sector * x .first + byteOf (placeOf random (x .length) g)
         → (x .length ≡ lookSize E image b i g) × (at ≡ lookPlace E image b i g old)
-    look-shown z x h at k =
-        let y : x ≡ entryAt (E .table (E .read b)) i = h ∙ ap (λ (r : S). entryAt (E .table r) i) f in
+    look-shown z x y at k =
         let w : number ≡ 0 = sym number-is ∙ z in
         (ap (λ (r : Entry). r .length) y ∙ sym (shown-size w), k ∙ ap (λ (r : Entry). sector * r .first + byteOf (placeOf random (r .length) g)) y ∙ sym (shown-place old w))
 

@@ -1,30 +1,23 @@
 // The board for C: both engines on a lent image, with the session in lent bytes. include/lleuadrys.h has the declarations.
 use coding::Coded;
 use directory::Entry;
-use directory::entry_of;
 use geometry::Geometry;
+use judging::look_buffered_in;
+use judging::look_in;
 use requests::Answer;
 use requests::Asked;
 use requests::Request;
 use requests::by_code;
 use requests::number;
-use sessions::BufferedFile;
-use sessions::BufferedSession;
 use sessions::Spot;
-use sessions::bare_files;
-use sessions::fresh;
-use sessions::idle;
-use sessions::slot_of;
 use storing::Form;
-use storing::put_entry;
-use storing::put_held;
-use storing::read_buffered;
-use storing::read_session;
+use storing::spot_buffered_in;
+use storing::spot_in;
 use storing::write_buffered;
 use storing::write_session;
 ghost use mathlib.Core.Path.{_≡_};
 ghost use Prim.Native.Nat.{_+_, _*_, min};
-ghost use lib.ListN.{length, getD};
+ghost use lib.ListN.{length};
 ghost use lib.Seq.{sets};
 ghost use Rattle.coding.specs.Decode as Decode;
 ghost use Rattle.coding.specs.Encode as Encode;
@@ -32,9 +25,6 @@ ghost use Rattle.listing.specs.Listing.{listing};
 ghost use Rattle.geometry.specs.Places.{placeOf, byteOf};
 ghost use Rattle.geometry.specs.Sizes.{random};
 ghost use Rattle.geometry.specs.Sizes as Sizes;
-ghost use Rattle.directory.specs.Entries.{entryAt};
-ghost use Rattle.sessions.specs.Session.{idle, fresh};
-ghost use Rattle.storing.specs.Stored.{entryStored, heldStored, layEntry, layHeld};
 ghost use Rattle.requests.specs.Codes.{askedFor};
 ghost use Rattle.requests.specs.declared.Asked.the-variants.{For};
 ghost use Rattle.board.specs.Codes.{unknownNumber, standing, recordAt, codeSize};
@@ -82,27 +72,7 @@ fn serve(
 
 // ---- the engine with buffers
 
-// The state of number k with its buffer; idle where there is none.
-fn held_state(files: [BufferedFile; 4], k: usize) -> BufferedFile
-    ensures { λ r. ⌜ r ≡ getD files k (fresh idle) ⌝ }
-{
-    if k < 4 { files[k] } else { fresh(idle()) }
-}
-
-// Lays entry i and state k of a session over its bytes.
-fn keep_held(b: &mut [u8], i: usize, k: usize, s: BufferedSession)
-    ensures { λ _. ⌜ (now (b .exit) ≡ layHeld (layEntry (now (b .entry)) i (entryAt (s .table) i)) k (getD (s .files) k (fresh idle)))
-        × (length (entryStored (entryAt (s .table) i)) ≡ 22) × (length (heldStored (getD (s .files) k (fresh idle))) ≡ 396) ⌝ }
-{
-    let t = s.table;
-    let files = s.files;
-    let e = entry_of(t, i);
-    let f = held_state(files, k);
-    put_entry(b, i, e);
-    put_held(b, k, f);
-}
-
-// A request. Answers 0 to 2 change at most the entry and the state of that number.
+// A request, done on the lent bytes themselves.
 fn serve_held(
     image: &mut [u8],
     b: &mut [u8],
@@ -114,17 +84,10 @@ fn serve_held(
     ensures { λ r. ⌜ left r (now (image .exit)) (now (b .exit)) (now (buffer .exit))
         ≡ requested bufferedEngine (now (image .entry)) (now (b .entry)) i (For q) (now (given .entry)) (now (buffer .entry)) ⌝ }
 {
-    let s = read_buffered(b);
-    let r = buffered::request(image, s, i, q, given, buffer);
-    let a = r.answer;
-    let n = number(a);
-    if n <= 2 {
-        let files = s.files;
-        let next = r.session;
-        keep_held(b, i, slot_of(bare_files(files), i), next);
-    }
-    n
+    number(buffered::serve(image, b, i, q, given, buffer))
 }
+
+// ---- a granule in the image
 
 // Where granule g of an entry begins in the image.
 fn granule_at(e: Entry, g: u32) -> usize
@@ -180,8 +143,8 @@ pub extern "C" fn board_request(
     match by_code(code, granule) {
         Asked::For(q) => serve(image, session, entry, q, given, buffer),
         Asked::Unknown => {
-            let s = read_session(session);
-            unknown(plain::look_number(image, s, entry, 0))
+            let seen = look_in(image, session, entry, 0);
+            unknown(seen.answer)
         }
     }
 }
@@ -198,11 +161,10 @@ pub extern "C" fn board_look(
     ensures { λ r. ⌜ (r ≡ lookSize plainEngine (now (image .entry)) (now (session .entry)) entry granule)
         × (now (at .exit) ≡ lookPlace plainEngine (now (image .entry)) (now (session .entry)) entry granule (now (at .entry))) ⌝ }
 {
-    let s = read_session(session);
-    let a = plain::look_number(image, s, entry, granule);
+    let seen = look_in(image, session, entry, granule);
+    let a = seen.answer;
+    let e = seen.entry;
     if number(a) == 0 {
-        let t = s.table;
-        let e = entry_of(t, entry);
         *at = granule_at(e, granule);
         e.length as usize
     } else {
@@ -216,8 +178,7 @@ pub extern "C" fn board_position(session: &[u8], entry: usize, at: &mut u32) -> 
     ensures { λ r. ⌜ (r ≡ standing (plainEngine .spot (plainEngine .read (now (session .entry))) entry))
         × (now (at .exit) ≡ recordAt (plainEngine .spot (plainEngine .read (now (session .entry))) entry) (now (at .entry))) ⌝ }
 {
-    let s = read_session(session);
-    tell(plain::position(s, entry), at)
+    tell(spot_in(session, entry), at)
 }
 
 // ---- the calls from C, with buffers
@@ -266,8 +227,8 @@ pub extern "C" fn board_buffered_request(
     match by_code(code, granule) {
         Asked::For(q) => serve_held(image, session, entry, q, given, buffer),
         Asked::Unknown => {
-            let s = read_buffered(session);
-            unknown(buffered::look_number(image, s, entry, 0))
+            let seen = look_buffered_in(image, session, entry, 0);
+            unknown(seen.answer)
         }
     }
 }
@@ -284,11 +245,10 @@ pub extern "C" fn board_buffered_look(
     ensures { λ r. ⌜ (r ≡ lookSize bufferedEngine (now (image .entry)) (now (session .entry)) entry granule)
         × (now (at .exit) ≡ lookPlace bufferedEngine (now (image .entry)) (now (session .entry)) entry granule (now (at .entry))) ⌝ }
 {
-    let s = read_buffered(session);
-    let a = buffered::look_number(image, s, entry, granule);
+    let seen = look_buffered_in(image, session, entry, granule);
+    let a = seen.answer;
+    let e = seen.entry;
     if number(a) == 0 {
-        let t = s.table;
-        let e = entry_of(t, entry);
         *at = granule_at(e, granule);
         e.length as usize
     } else {
@@ -302,8 +262,7 @@ pub extern "C" fn board_buffered_position(session: &[u8], entry: usize, at: &mut
     ensures { λ r. ⌜ (r ≡ standing (bufferedEngine .spot (bufferedEngine .read (now (session .entry))) entry))
         × (now (at .exit) ≡ recordAt (bufferedEngine .spot (bufferedEngine .read (now (session .entry))) entry) (now (at .entry))) ⌝ }
 {
-    let s = read_buffered(session);
-    tell(buffered::position(s, entry), at)
+    tell(spot_buffered_in(session, entry), at)
 }
 
 // ---- the calls that need no session

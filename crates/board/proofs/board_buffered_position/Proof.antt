@@ -1,27 +1,22 @@
 -- The session's spot, told in numbers.
 use mathlib.Core.Path.{ap, _∙_}
-use Rattle.sessions.specs.Session.{bare, spotOf}
-use Rattle.sessions.specs.declared.BufferedSession.{BufferedSession}
 use Rattle.sessions.specs.declared.Spot.{Spot}
 use Rattle.board.specs.Codes.{standing, recordAt}
 use borrow.Author.Needs.{needs}
 use Rattle.board.proofs.board_buffered_position.Statement.{statement}
 use Rattle.board.proofs.board_buffered_position.Tie as tie
 
-read-buffered-requires : tie.Need-read-buffered-requires
-read-buffered-requires c κs = search needs
-
-position-requires : tie.Need-position-requires
-position-requires c κs = search needs
+spot-buffered-in-requires : tie.Need-spot-buffered-in-requires
+spot-buffered-in-requires c κs = search needs
 
 tell-requires : tie.Need-tell-requires
 tell-requires c κs = search needs
 
 returns : tie.Need-returns
 returns c =
-    let s = c .before .before .position .ensures ∙ ap (λ (x : BufferedSession). spotOf (bare x) (c .before .before .before .before .before .args .entry)) (c .before .before .before .read-buffered .ensures) in
-    (c .tell .ensures .0 ∙ ap standing s, c .tell .ensures .1 ∙ ap (λ (x : Spot). recordAt x (c .before .before .before .before .before .args .at .now)) s)
+    let s = c .before .before .spot-buffered-in .ensures in
+    (c .tell .ensures .0 ∙ ap standing s, c .tell .ensures .1 ∙ ap (λ (x : Spot). recordAt x (c .before .before .before .before .args .at .now)) s)
 
 pub board-buffered-position-spec : {M : Type 1} → statement M
 board-buffered-position-spec =
-    tie.close (tie.spec read-buffered-requires position-requires tell-requires returns)
+    tie.close (tie.spec spot-buffered-in-requires tell-requires returns)

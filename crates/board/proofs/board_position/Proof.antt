@@ -1,27 +1,22 @@
 -- The session's spot, told in numbers.
 use mathlib.Core.Path.{ap, _∙_}
-use Rattle.sessions.specs.Session.{spotOf}
-use Rattle.sessions.specs.declared.Session.{Session}
 use Rattle.sessions.specs.declared.Spot.{Spot}
 use Rattle.board.specs.Codes.{standing, recordAt}
 use borrow.Author.Needs.{needs}
 use Rattle.board.proofs.board_position.Statement.{statement}
 use Rattle.board.proofs.board_position.Tie as tie
 
-read-session-requires : tie.Need-read-session-requires
-read-session-requires c κs = search needs
-
-position-requires : tie.Need-position-requires
-position-requires c κs = search needs
+spot-in-requires : tie.Need-spot-in-requires
+spot-in-requires c κs = search needs
 
 tell-requires : tie.Need-tell-requires
 tell-requires c κs = search needs
 
 returns : tie.Need-returns
 returns c =
-    let s = c .before .before .position .ensures ∙ ap (λ (x : Session). spotOf x (c .before .before .before .before .before .args .entry)) (c .before .before .before .read-session .ensures) in
-    (c .tell .ensures .0 ∙ ap standing s, c .tell .ensures .1 ∙ ap (λ (x : Spot). recordAt x (c .before .before .before .before .before .args .at .now)) s)
+    let s = c .before .before .spot-in .ensures in
+    (c .tell .ensures .0 ∙ ap standing s, c .tell .ensures .1 ∙ ap (λ (x : Spot). recordAt x (c .before .before .before .before .args .at .now)) s)
 
 pub board-position-spec : {M : Type 1} → statement M
 board-position-spec =
-    tie.close (tie.spec read-session-requires position-requires tell-requires returns)
+    tie.close (tie.spec spot-in-requires tell-requires returns)
