@@ -194,16 +194,16 @@ fn serve_in(
     let seen = r.seen;
     let e = seen.entry;
     let f = seen.file;
-    let v = r.verdict;
-    let a = v.answer;
+    let w = r.verdict;
+    let a = w.answer;
     match a {
         Answer::Done => {
             act(image, i, e, f, q, given, part(code, 0, r.size));
-            put_next(session, i, seen.slot, v);
+            put_next(session, i, seen.slot, w);
             a
         }
         Answer::Met(_) => {
-            put_next(session, i, seen.slot, v);
+            put_next(session, i, seen.slot, w);
             a
         }
         Answer::Refused(_) => a,
