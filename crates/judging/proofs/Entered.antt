@@ -1,41 +1,51 @@
 -- The first two tests, 12 and 8, are made before anything else; behind them the entry and its state are lawful, and the extent is whole.
-use mathlib.Core.Path.{_≡_, refl, ap}
+use mathlib.Core.Path.{_≡_, refl, sym, ap, _∙_}
 use mathlib.Core.Bool.{Bool, true, false, not}
 use mathlib.Core.List.{List, []}
-use Prim.Native.Nat.{ℕ, _*_}
+use Prim.Native.Nat.{ℕ, _+_, _*_, _<_, _^_}
 use native.Mathlib.Omega.{arith}
+use lib.Dec.{eqb}
 use lib.ListN.{length}
 use borrow.Author.Tests.{eqb-false, eq-eqb, ne-eqb, not-true, not-false}
 use Rattle.geometry.specs.Bytes.{part}
 use Rattle.geometry.specs.Sizes.{sector, sectorsOf}
 use Rattle.geometry.proofs.Bytes.{length-part}
 use Rattle.geometry.proofs.Places.{lawful-whole}
+use Rattle.geometry.proofs.Tests.{either}
 use Rattle.directory.specs.Entries.{entryAt, isFree}
 use Rattle.directory.proofs.Good.{Lies, lies}
+use Rattle.requests.specs.Numbers.{numberOf}
 use Rattle.requests.proofs.First.{not-legal, not-there}
-use Rattle.sessions.specs.Session.{fileOf, openFiles, extent, legal}
-use Rattle.sessions.proofs.Legal.{lawful-length, good-table}
+use Rattle.sessions.specs.Session.{bare, fileOf, openFiles, extent, legal}
+use Rattle.sessions.proofs.Legal.{lawful-length, good-table, bare-legal}
 use Rattle.steps.specs.Next.{Scene, factsWith}
 use Rattle.steps.specs.Verdict.{seenBytes, seenScene, entryNext, fileWith, bufferNext, answerOf, verdictOf}
 use Rattle.steps.proofs.Lawful.{Lawful}
 use Rattle.steps.proofs.Inside.{lawful}
-use Rattle.storing.specs.Lent.{seenOf}
+use Rattle.storing.specs.Lent.{lentBy, lentIn, ownState, seenOf, seenIn, seenBufferedIn}
+use Rattle.storing.specs.Stored.{sessionIn, bufferedIn}
+use Rattle.storing.proofs.Lent.{lent-own}
+use Rattle.straight.specs.Straight.{codeGiven}
+use Rattle.judging.specs.Judged.{sceneSeen, judgedBy, bufferBy}
 use Rattle.storing.specs.declared.lawful.Seen.{Seen}
-use Rattle.judging.specs.Turns.{Stands, sceneOf}
+use Rattle.judging.specs.Turns.{Stands, sceneOf, fileFrom, verdictFrom}
+use Rattle.geometry.specs.declared.Place.{Place}
 use Rattle.directory.specs.declared.Entry.{Entry}
+use Rattle.sessions.specs.declared.Holding.{Holding}
 use Rattle.sessions.specs.declared.OpenFile.{OpenFile}
 use Rattle.sessions.specs.declared.Session.{Session}
 use Rattle.requests.specs.declared.Request.{Request}
 use Rattle.requests.specs.declared.Refusal.{Refusal}
 use Rattle.requests.specs.declared.Refusal.the-variants.{NotThere, NotLegal}
-use Rattle.requests.specs.declared.Answer.the-variants.{Refused}
+use Rattle.requests.specs.declared.Answer.{Answer}
+use Rattle.requests.specs.declared.Answer.the-variants.{Done, Refused}
 use Rattle.steps.specs.declared.Verdict.{Verdict}
 
 -- a refusal changes nothing
 module _ (lawful : Bool) (files buffer code : ℕ) (q : Request) (c : Scene) (x : Refusal) (h : answerOf lawful files buffer code q c ≡ Refused x) where
-  refused-is : record { answer = Refused x; entry = c .entry; file = c .file } ≡ verdictOf lawful files buffer code q c
-  unfolding verdictOf entryNext fileWith
-  refused-is = rw h
+  refused-is : (p : Place) → verdictFrom (Refused x) q (c .number) (c .entry) (c .file) p ≡ verdictOf lawful files buffer code q c
+  unfolding verdictOf entryNext fileWith fileFrom
+  refused-is p = rw h
 
   refused-buffer : (old : List ℕ) → old ≡ bufferNext (answerOf lawful files buffer code q c) q c old
   unfolding bufferNext
@@ -54,27 +64,52 @@ module _ (image : List ℕ) (ok : Bool) (files : ℕ) (e : Entry) (f : OpenFile)
   abbrev scene : Scene
   scene = sceneOf i e f (seenBytes e f (extent e image) held over) given
 
-  abbrev Comes : Verdict → List ℕ → Type 0
-  Comes v b = (v ≡ verdictOf ok files (length buffer) code q scene) × (b ≡ bufferNext (answerOf ok files (length buffer) code q scene) q scene buffer)
+  -- a ruling
+  abbrev Rules : Answer → Place → List ℕ → Type 0
+  Rules a p b =
+      (a ≡ answerOf ok files (length buffer) code q scene) × (verdictFrom a q i e f p ≡ verdictOf ok files (length buffer) code q scene)
+      × (b ≡ bufferNext (answerOf ok files (length buffer) code q scene) q scene buffer)
 
-  refused : (x : Refusal) → answerOf ok files (length buffer) code q scene ≡ Refused x → Comes (record { answer = Refused x; entry = e; file = f }) buffer
-  refused x h = (refused-is ok files (length buffer) code q scene x h, refused-buffer ok files (length buffer) code q scene x h buffer)
+  refused : (x : Refusal) → answerOf ok files (length buffer) code q scene ≡ Refused x → (p : Place) → Rules (Refused x) p buffer
+  refused x h p = (sym h, refused-is ok files (length buffer) code q scene x h p, refused-buffer ok files (length buffer) code q scene x h buffer)
 
-  pub twelve : not ok ≡ true → Comes (record { answer = Refused NotLegal; entry = e; file = f }) buffer
+  pub twelve : not ok ≡ true → (p : Place) → Rules (Refused NotLegal) p buffer
   twelve h = refused NotLegal (not-legal q (factsWith ok files (length buffer) code q scene) (not-true ok h))
 
   module _ (h : not ok ≡ false) where
-    pub eight : e .kind ≡ 0 → Comes (record { answer = Refused NotThere; entry = e; file = f }) buffer
+    pub eight : e .kind ≡ 0 → (p : Place) → Rules (Refused NotThere) p buffer
     eight k = refused NotThere (not-there q (factsWith ok files (length buffer) code q scene) (not-false ok h) (eq-eqb (e .kind) 0 k))
 
     pub enters : Stands image ok e f → (e .kind ≡ 0 → ⊥) → (bytes : List ℕ) → bytes ≡ extent e image → (Lawful e f) × (length bytes ≡ sector * e .sectors)
     enters s k bytes eb = rw eb (s (not-false ok h) (ne-eqb (e .kind) 0 k))
 
-    pub comes : (bytes : List ℕ) (v : Verdict) (b : List ℕ) → bytes ≡ extent e image
-        → (v ≡ verdictOf true files (length buffer) code q (sceneOf i e f (seenBytes e f bytes held over) given))
+    pub ruled : (bytes : List ℕ) (a : Answer) (p : Place) (b : List ℕ) → bytes ≡ extent e image
+        → (a ≡ answerOf true files (length buffer) code q (sceneOf i e f (seenBytes e f bytes held over) given))
+        × (verdictFrom a q i e f p ≡ verdictOf true files (length buffer) code q (sceneOf i e f (seenBytes e f bytes held over) given))
         × (b ≡ bufferNext (answerOf true files (length buffer) code q (sceneOf i e f (seenBytes e f bytes held over) given)) q (sceneOf i e f (seenBytes e f bytes held over) given) buffer)
-        → Comes v b
-    comes bytes v b eb h2 = rw (not-false ok h) (rw eb at h2)
+        → Rules a p b
+    ruled bytes a p b eb h2 = rw (not-false ok h) (rw eb at h2)
+
+  -- what is done is done in a legal session, whose positions are small
+  pub fits : Stands image ok e f → (a : Answer) (p : Place) (b : List ℕ) → Rules a p b → a ≡ Done → f .position + 1 < 2 ^ 32
+  fits s a p b r d =
+      either ok
+      (λ (l : ok ≡ true). either (isFree e)
+      (λ (k : isFree e ≡ true). absurd (other NotThere refl (not-there q (factsWith ok files (length buffer) code q scene) l k)))
+      (λ (k : isFree e ≡ false).
+      let w : Lawful e f = s l k .0 in
+      omega (arith, w .standing, w .words)))
+      (λ (l : ok ≡ false). absurd (other NotLegal refl (not-legal q (factsWith ok files (length buffer) code q scene) l)))
+    where
+      other : (x : Refusal) → eqb 0 (numberOf (Refused x)) ≡ false → answerOf ok files (length buffer) code q scene ≡ Refused x → ⊥
+      other x n h = eqb-false 0 (numberOf (Refused x)) n (ap numberOf (sym d ∙ r .0 ∙ h))
+
+  -- the verdict that a ruling makes
+  abbrev Comes : Verdict → List ℕ → Type 0
+  Comes v b = (v ≡ verdictOf ok files (length buffer) code q scene) × (b ≡ bufferNext (answerOf ok files (length buffer) code q scene) q scene buffer)
+
+  pub comes : (a : Answer) (p : Place) (b : List ℕ) (v : Verdict) → Rules a p b → v ≡ verdictFrom a q i e f p → Comes v b
+  comes a p b v r ev = (ev ∙ r .1, r .2)
 
 -- a legal session's entry and state stand
 pub stands : (image : List ℕ) (s : Session) (i : ℕ) (e : Entry) (f : OpenFile) (ok : Bool)
@@ -98,14 +133,37 @@ pub part-none : (xs : List ℕ) → part xs 0 0 ≡ []
 unfolding part
 part-none xs = refl
 
-pub seen-stands : (image : List ℕ) (s : Session) (i : ℕ) (x : Seen) (ok : Bool) → x ≡ seenOf s i → (ok ≡ true → legal image s ≡ true) → Stands image ok (x .entry) (x .file)
+-- what is seen of a legal session stands
+pub seen-stands : (image : List ℕ) (s : Session) (i : ℕ) (x : Seen) (l : Bool) (h : Holding) → x ≡ seenOf l s i h → (l ≡ true → legal image s ≡ true)
+    → Stands image (x .lawful) (x .entry) (x .file)
 unfolding seenOf
-seen-stands image s i x ok ex = stands image s i (x .entry) (x .file) ok (ap (λ (y : Seen). y .entry) ex) (ap (λ (y : Seen). y .file) ex)
+seen-stands image s i x l h ex el =
+    stands image s i (x .entry) (x .file) (x .lawful) (ap (λ (y : Seen). y .entry) ex) (ap (λ (y : Seen). y .file) ex) (λ t. el (sym (ap (λ (y : Seen). y .lawful) ex) ∙ t))
 
-pub by-seen : (image : List ℕ) (s : Session) (held : ℕ) (over : List ℕ) (i : ℕ) (q : Request) (given : List ℕ) (code : ℕ) (buffer : List ℕ)
-    (ok l : Bool) (x : Seen) (lent : List ℕ) → l ≡ ok → x ≡ seenOf s i → lent ≡ over
-    → (v : Verdict) (b : List ℕ) → Comes image l (x .opened) (x .entry) (x .file) held lent i q given code buffer v b
-    → (v ≡ verdictOf ok (openFiles (s .files)) (length buffer) code q (seenScene image s held over i given))
-    × (b ≡ bufferNext (answerOf ok (openFiles (s .files)) (length buffer) code q (seenScene image s held over i given)) q (seenScene image s held over i given) buffer)
-unfolding seenScene seenOf
-by-seen image s held over i q given code buffer ok l x lent el ex eo v b h = rw (el, ex, eo) at h
+module _ (image b : List ℕ) (i : ℕ) (x : Seen) where
+  pub plain-stands : x ≡ seenIn image b i → Stands image (x .lawful) (x .entry) (x .file)
+  unfolding seenIn
+  plain-stands ex = seen-stands image (sessionIn b) i x _ _ ex (λ t. t)
+
+  pub buffered-stands : x ≡ seenBufferedIn image b i → Stands image (x .lawful) (x .entry) (x .file)
+  unfolding seenBufferedIn
+  buffered-stands ex = seen-stands image (bare (bufferedIn b)) i x _ _ ex (bare-legal image (bufferedIn b))
+
+  -- the held sector is lent
+  pub buffered-lent : x ≡ seenBufferedIn image b i → lentIn b (x .slot) (x .hold .holds) ≡ lentBy (ownState (bufferedIn b) i)
+  unfolding seenBufferedIn seenOf
+  buffered-lent ex = ap (λ (y : Seen). lentIn b (y .slot) (y .hold .holds)) ex ∙ lent-own image b i
+
+-- the verdict that a ruling on what is seen makes
+pub judged : (image : List ℕ) (x : Seen) (over : List ℕ) (i : ℕ) (q : Request) (given : List ℕ) (size : ℕ) (buffer : List ℕ) (z : Seen) (lent : List ℕ)
+    → size ≡ length (codeGiven (x .entry) given) → x ≡ z → lent ≡ over → (a : Answer) (p : Place) (b : List ℕ) (v : Verdict)
+    → Rules image (x .lawful) (x .opened) (x .entry) (x .file) (x .hold .held) lent i q given size buffer a p b → v ≡ verdictFrom a q i (x .entry) (x .file) p
+    → (record { verdict = v; seen = x; size = size } ≡ judgedBy image z over i q given (length buffer)) × (b ≡ bufferBy image z over i q given buffer)
+unfolding judgedBy bufferBy
+judged image x over i q given size buffer z lent es ex el a p b v r ev =
+    let c = rw (es, el) at (comes image (x .lawful) (x .opened) (x .entry) (x .file) (x .hold .held) lent i q given size buffer a p b v r ev) in
+    (same (c .0) ∙ ap (λ (y : Seen). judgedBy image y over i q given (length buffer)) ex, c .1 ∙ ap (λ (y : Seen). bufferBy image y over i q given buffer) ex)
+  where
+    same : v ≡ verdictOf (x .lawful) (x .opened) (length buffer) (length (codeGiven (x .entry) given)) q (sceneSeen image x over i q given)
+        → record { verdict = v; seen = x; size = size } ≡ judgedBy image x over i q given (length buffer)
+    same e = rw (e, es)

@@ -1,5 +1,5 @@
 -- Judging with decoding in its turn comes to the verdict. An answer other than 11 to the request judged as if a code were bad stands; at 11 the
--- request is judged again by what its decoding led to.
+-- request is answered by what its decoding led to: a bad code 11, a good one by the tests behind.
 use mathlib.Core.Path.{_≡_, refl, sym, ap, ap₂, subst, _∙_}
 use mathlib.Core.Bool.{Bool, true, false, not, false≢true}
 use mathlib.Core.List.{List, []}
@@ -15,10 +15,11 @@ use Rattle.geometry.proofs.Tests.{either, both-ways}
 use Rattle.directory.specs.Entries.{isKind}
 use Rattle.packing.specs.Reading.{Got, got, lost, Walk, decodes, recordsOf, behind, behindFrom, walk, walkedTo, ledTo}
 use Rattle.packing.proofs.Walks.{walk-length, decodes-walked, to-decodes, lost-breaks}
-use Rattle.requests.specs.Judge.{judge}
+use Rattle.requests.specs.Judge.{judge, behindCode}
 use Rattle.requests.specs.Numbers.{numberOf}
 use Rattle.requests.proofs.Done.{Allows, done-allows}
-use Rattle.requests.proofs.InTurn.{supposing, isBad, stands, turn, Then, ReadsThen, reads-on}
+use Rattle.requests.proofs.InTurn.{isBad, stands, turn, Then, ReadsThen, reads-on}
+use Rattle.requests.proofs.InTurn as InTurn
 use Rattle.mounting.specs.Mounting.{countedWalk}
 use Rattle.steps.specs.Next.{Scene, recordHere, fixedAt, isLost, bytesGot, behindGot, theCounted, theNext, decoding, badIn, endPlace, moved, fileMet, fileDone, intoBuffer, entryDone}
 use Rattle.steps.proofs.Compressed.{end-is}
@@ -37,7 +38,6 @@ use Rattle.requests.specs.declared.Request.the-variants.{Open, Read, Write, Gra
 use Rattle.requests.specs.declared.Answer.{Answer}
 use Rattle.requests.specs.declared.Answer.the-variants.{Done, Met, Refused}
 use Rattle.sessions.specs.declared.OpenFile.{OpenFile}
-use Rattle.steps.specs.declared.Verdict.{Verdict}
 
 -- ---- the count records: lost exactly where one is bad; else to the end place
 
@@ -203,10 +203,16 @@ module _ (files buffer code : ℕ) (c : Scene) where
   abbrev ans : Request → Answer
   ans q = judge q (facts (badIn (decoding q) c))
 
-  verdict-by : (q : Request) (a : Answer) (p : Place) → ans q ≡ a → (a ≡ Done → doneFrom q (c .number) (c .entry) (c .file) p ≡ doneWith code q c)
-      → verdictFrom a q (c .number) (c .entry) (c .file) p ≡ verdictOf true files buffer code q c
+  -- a ruling: the answer, the place that the verdict is made from, and the buffer, which was old
+  abbrev pub Rules : Request → List ℕ → Answer → Place → List ℕ → Type 0
+  Rules q old a p new =
+      (a ≡ ans q) × (verdictFrom a q (c .number) (c .entry) (c .file) p ≡ verdictOf true files buffer code q c) × (new ≡ bufferNext (ans q) q c old)
+
+  rules : (q : Request) (old : List ℕ) (a : Answer) (p : Place) (new : List ℕ) → a ≡ ans q
+      → (a ≡ Done → doneFrom q (c .number) (c .entry) (c .file) p ≡ doneWith code q c) → new ≡ bufferNext (ans q) q c old → Rules q old a p new
   unfolding verdictOf fileFrom fileWith
-  verdict-by q a p h d = subst (λ (x : Answer). verdictFrom a q (c .number) (c .entry) (c .file) p ≡ record { answer = x; entry = entryNext x q c; file = fileWith code x q c }) (sym h) (go a d)
+  rules q old a p new h d eb =
+      (h, subst (λ (x : Answer). verdictFrom a q (c .number) (c .entry) (c .file) p ≡ record { answer = x; entry = entryNext x q c; file = fileWith code x q c }) h (go a d), eb)
     where
       go : (x : Answer) → (x ≡ Done → doneFrom q (c .number) (c .entry) (c .file) p ≡ doneWith code q c)
           → verdictFrom x q (c .number) (c .entry) (c .file) p ≡ record { answer = x; entry = entryNext x q c; file = fileWith code x q c }
@@ -250,22 +256,18 @@ module _ (files buffer code : ℕ) (c : Scene) where
     settled : ans q ≡ Done
     settled = stays q (ap isBad d) ∙ d
 
-    pub carried-verdict : verdictFrom (first q) q (c .number) (c .entry) (c .file) (carriedTo code q (c .entry) (c .file)) ≡ verdictOf true files buffer code q c
-    carried-verdict = verdict-by q (first q) _ (stays q (ap isBad d)) (λ h. carried q (done-allows q (facts true) d))
-
-    pub carried-buffer : (old : List ℕ) → carriedInto q (c .entry) (c .file) (c .bytes) old ≡ bufferNext (ans q) q c old
+    carried-buffer : (old : List ℕ) → carriedInto q (c .entry) (c .file) (c .bytes) old ≡ bufferNext (ans q) q c old
     unfolding bufferNext
     carried-buffer old = rw settled (carried-into q old (done-allows q (facts true) d))
 
+    carried-rules : (old : List ℕ) → Rules q old (first q) (carriedTo code q (c .entry) (c .file)) (carriedInto q (c .entry) (c .file) (c .bytes) old)
+    carried-rules old = rules q old (first q) _ _ (sym (stays q (ap isBad d))) (λ h. carried q (done-allows q (facts true) d)) (carried-buffer old)
+
   -- neither 0 nor 11
-  module _ (q : Request) (b : isBad (first q) ≡ false) (n : first q ≡ Done → ⊥) where
-    pub refused-verdict : (p : Place) → verdictFrom (first q) q (c .number) (c .entry) (c .file) p ≡ verdictOf true files buffer code q c
-    refused-verdict p = verdict-by q (first q) p (stays q b) (λ h. absurd (n h))
+  refused-rules : (q : Request) → isBad (first q) ≡ false → (first q ≡ Done → ⊥) → (old : List ℕ) (p : Place) → Rules q old (first q) p old
+  refused-rules q b n old p = rules q old (first q) p old (sym (stays q b)) (λ h. absurd (n h)) (sym (buffer-kept (ans q) q c old (λ h. n (sym (stays q b) ∙ h))))
 
-    pub refused-buffer : (old : List ℕ) → old ≡ bufferNext (ans q) q c old
-    refused-buffer old = sym (buffer-kept (ans q) q c old (λ h. n (sym (stays q b) ∙ h)))
-
-  -- ---- at 11 the request is judged again
+  -- ---- at 11 the request decodes
 
   turn-astray : (q : Request) → Then q (facts true) → isAstray (turnLed q (c .entry) (c .file) (c .bytes)) ≡ badIn (decoding q) c
   unfolding turnLed decoding
@@ -330,25 +332,16 @@ module _ (files buffer code : ℕ) (c : Scene) where
   turn-into (GranuleLook g) t old = absurd t
   turn-into (Position o) t old = unmoved (ans (Position o)) (Position o) c old refl
 
-  module _ (q : Request) (b : isBad (first q) ≡ true) where
-    t : Then q (facts true)
-    t = turn q (facts true) b
-
-    pub turn-verdict : (a : Answer) → a ≡ judge q (facts (isAstray (turnLed q (c .entry) (c .file) (c .bytes))))
-        → verdictFrom a q (c .number) (c .entry) (c .file) (placeIn (turnLed q (c .entry) (c .file) (c .bytes))) ≡ verdictOf true files buffer code q c
-    turn-verdict a h =
-        let s : ans q ≡ a = ap (λ (x : Bool). judge q (facts x)) (sym (turn-astray q t)) ∙ sym h in
-        verdict-by q a _ s (λ d. turn-done q t (done-allows q (facts (badIn (decoding q) c)) (s ∙ d)))
-
-    pub turn-buffer : (old : List ℕ) → turnInto q (c .entry) (c .file) (c .bytes) old ≡ bufferNext (ans q) q c old
-    turn-buffer old = turn-into q t old
+  turn-rules : (q : Request) → isBad (first q) ≡ true → (old : List ℕ) (a : Answer) → a ≡ judge q (facts (isAstray (turnLed q (c .entry) (c .file) (c .bytes))))
+      → Rules q old a (placeIn (turnLed q (c .entry) (c .file) (c .bytes))) (turnInto q (c .entry) (c .file) (c .bytes) old)
+  turn-rules q b old a h =
+      let t : Then q (facts true) = turn q (facts true) b in
+      let s : a ≡ ans q = h ∙ ap (λ (x : Bool). judge q (facts x)) (turn-astray q t) in
+      rules q old a _ _ s (λ d. turn-done q t (done-allows q (facts (badIn (decoding q) c)) (sym s ∙ d))) (turn-into q t old)
 
   -- ---- as the program goes: the facts known, what the request is first taken for and its number
 
   module _ (q : Request) (known : Facts) (a : Answer) (n : ℕ) (k : known ≡ facts true) (j : a ≡ judge q known) (m : n ≡ numberOf a) where
-    abbrev i : ℕ
-    i = c .number
-
     abbrev led : Led
     led = turnLed q (c .entry) (c .file) (c .bytes)
 
@@ -359,31 +352,33 @@ module _ (files buffer code : ℕ) (c : Scene) where
     pub is-bad : n ≡ 11 → isBad (first q) ≡ true
     is-bad h = eq-eqb (numberOf (first q)) 11 (ap numberOf (sym a-first) ∙ sym m ∙ h)
 
-    pub judged-again : n ≡ 11 → (l : Led) (t : Bool) (g : Facts) (b : Answer) (p : Place) (r : Verdict)
-        → l ≡ led → t ≡ isAstray l → g ≡ supposing t known → b ≡ judge q g → p ≡ placeIn l → r ≡ verdictFrom b q i (c .entry) (c .file) p
-        → r ≡ verdictOf true files buffer code q c
-    judged-again h l t g b p r el et eg eb ep er =
-        er ∙ ap (verdictFrom b q i (c .entry) (c .file)) (ep ∙ ap placeIn el)
-        ∙ turn-verdict q (is-bad h) b (eb ∙ ap (judge q) (eg ∙ ap₂ supposing (et ∙ ap isAstray el) k))
+    module _ (h : n ≡ 11) (old new : List ℕ) (l : Led) (e : (l ≡ led) × (new ≡ turnInto q (c .entry) (c .file) (c .bytes) old)) (p : Place) where
+      led-rules : (t : Led) (b : Answer) → l ≡ t → b ≡ judge q (facts (isAstray t)) → Rules q old b (placeIn t) new
+      led-rules t b el eb = rw (sym (e .1)) at ans-rules
+        where
+          ans-rules : Rules q old b (placeIn t) (turnInto q (c .entry) (c .file) (c .bytes) old)
+          ans-rules =
+              let s : t ≡ led = sym el ∙ e .0 in
+              subst (λ (x : Led). Rules q old b (placeIn x) (turnInto q (c .entry) (c .file) (c .bytes) old)) (sym s) (turn-rules q (is-bad h) old b (eb ∙ ap (λ (x : Led). judge q (facts (isAstray x))) s))
+
+      -- a good code: the tests behind it answer
+      pub good-rules : l ≡ To p → (b : Answer) → b ≡ behindCode q known → Rules q old b p new
+      unfolding isAstray placeIn
+      good-rules el b eb = led-rules (To p) b el (eb ∙ ap (behindCode q) k ∙ sym (InTurn.behind q (facts true) (is-bad h)))
+
+      -- a bad one
+      pub lost-rules : l ≡ Lost p → Rules q old a p new
+      unfolding isAstray placeIn
+      lost-rules el = led-rules (Lost p) a el a-first
 
     -- 0
     pub is-done : n ≡ 0 → first q ≡ Done
     is-done h = done-is (first q) (ap numberOf (sym a-first) ∙ sym m ∙ h)
 
-    pub judged-done : n ≡ 0 → (p : Place) (r : Verdict) → p ≡ carriedTo code q (c .entry) (c .file) → r ≡ verdictFrom a q i (c .entry) (c .file) p
-        → r ≡ verdictOf true files buffer code q c
-    judged-done h p r ep er = er ∙ ap₂ (λ (x : Answer) (y : Place). verdictFrom x q i (c .entry) (c .file) y) a-first ep ∙ carried-verdict q (is-done h)
+    pub done-rules : n ≡ 0 → (old new : List ℕ) (p : Place) → (p ≡ carriedTo code q (c .entry) (c .file)) × (new ≡ carriedInto q (c .entry) (c .file) (c .bytes) old)
+        → Rules q old a p new
+    done-rules h old new p e = rw (a-first, e .0, e .1) (carried-rules q (is-done h) old)
 
     -- any other
-    not-bad : (n ≡ 11 → ⊥) → isBad (first q) ≡ false
-    not-bad h = ne-eqb (numberOf (first q)) 11 (λ e. h (m ∙ ap numberOf a-first ∙ e))
-
-    not-done : (n ≡ 0 → ⊥) → first q ≡ Done → ⊥
-    not-done h d = h (m ∙ ap numberOf (a-first ∙ d))
-
-    pub judged-once : (n ≡ 11 → ⊥) → (n ≡ 0 → ⊥) → (p : Place) (r : Verdict) → r ≡ verdictFrom a q i (c .entry) (c .file) p
-        → r ≡ verdictOf true files buffer code q c
-    judged-once h z p r er = er ∙ ap (λ (x : Answer). verdictFrom x q i (c .entry) (c .file) p) a-first ∙ refused-verdict q (not-bad h) (not-done z) p
-
-    pub buffer-once : (n ≡ 11 → ⊥) → (n ≡ 0 → ⊥) → (old : List ℕ) → old ≡ bufferNext (ans q) q c old
-    buffer-once h z old = refused-buffer q (not-bad h) (not-done z) old
+    pub other-rules : (n ≡ 11 → ⊥) → (n ≡ 0 → ⊥) → (old : List ℕ) (p : Place) → Rules q old a p old
+    other-rules h z old p = rw a-first (refused-rules q (ne-eqb (numberOf (first q)) 11 (λ e. h (m ∙ ap numberOf a-first ∙ e))) (λ d. z (m ∙ ap numberOf (a-first ∙ d))) old p)

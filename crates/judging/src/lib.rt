@@ -23,6 +23,7 @@ use requests::Request;
 use requests::judge;
 use requests::judge_granule_look;
 use requests::number;
+use requests::past_code;
 use sessions::OpenFile;
 use sessions::Session;
 use sessions::file_of;
@@ -33,27 +34,32 @@ use steps::Verdict;
 use storing::Seen;
 use storing::find_buffered_in;
 use storing::find_in;
+use storing::lent_in;
+use straight::encode_given;
 ghost use mathlib.Core.Path.{_≡_};
 ghost use mathlib.Core.Bool.{true, false, _&&_};
 ghost use mathlib.Core.List.{[]};
 ghost use Prim.Native.Nat.{_+_, _-_, _*_, _≤_, _<_, _^_};
 ghost use lib.Dec.{eqb};
 ghost use lib.ListN.{length};
+ghost use lib.Seq.{sets};
 ghost use Rattle.geometry.specs.Bytes as Bytes;
 ghost use Rattle.geometry.specs.Places.{origin};
 ghost use Rattle.geometry.specs.Sizes.{blocked, compressed, random};
 ghost use Rattle.geometry.specs.Sizes as Sizes;
 ghost use Rattle.directory.specs.Entries.{entryAt, isKind};
-ghost use Rattle.sessions.specs.Session.{bare, openFiles, extent, legal, bufferedLegal};
+ghost use Rattle.sessions.specs.Session.{openFiles, extent, legal};
 ghost use Rattle.steps.specs.Look.{shown, plainLookAnswer, bufferedLookAnswer};
 ghost use Rattle.requests.specs.declared.Answer.the-variants.{Done};
 ghost use Rattle.storing.specs.Stored.{sessionIn, bufferedIn};
+ghost use Rattle.storing.specs.Lent.{lentBy, ownState, seenIn, seenBufferedIn};
+ghost use Rattle.straight.specs.Straight.{codeGiven};
+ghost use Rattle.judging.specs.Judged.{judgedBy, bufferBy};
 ghost use Rattle.judging.specs.Looks.{lookNumber, lookPart, lookedBy};
 ghost use Rattle.steps.specs.Next.{moved, counted, fileMet, entryDone};
 ghost use Rattle.steps.specs.Verdict.{seenBytes, seenScene, bufferNext, answerOf, verdictOf};
 ghost use Rattle.steps.proofs.Lawful.{Lawful};
-ghost use Rattle.requests.proofs.InTurn.{supposing};
-ghost use Rattle.judging.specs.Turns.{factsBut, sight, Ready, Stands, endLed, hereLed, hereInto, isAstray, placeIn, turnLed, turnInto, TurnOf, writtenAt, Reaches, carriedTo, carriedInto, CarryOf, Fixed, recordIn, blockedBytes, orderFrom, doneFrom, sceneOf, verdictFrom};
+ghost use Rattle.judging.specs.Turns.{factsBut, sight, Ready, Stands, endLed, hereLed, hereInto, turnLed, turnInto, TurnOf, writtenAt, Reaches, carriedTo, carriedInto, CarryOf, Fixed, recordIn, blockedBytes, orderFrom, doneFrom, sceneOf, verdictFrom};
 
 // ---- what a request is judged by
 
@@ -89,15 +95,6 @@ fn facts(
         code: code,
         buffer: buffer,
     }
-}
-
-// The same facts, but that a record that the request decodes is bad or not.
-fn supposed(f: Facts, bad: bool) -> Facts
-    ensures { λ r. ⌜ r ≡ supposing bad f ⌝ }
-{
-    let mut g = f;
-    g.bad = bad;
-    g
 }
 
 // ---- the next entry and the next state
@@ -219,7 +216,7 @@ fn done_file(q: Request, i: usize, e: Entry, f: OpenFile, p: Place) -> OpenFile
 
 // An answer, with the entry and the state behind it; p as above.
 fn next(a: Answer, q: Request, i: usize, e: Entry, f: OpenFile, p: Place) -> Verdict
-    requires { ⌜ f .position + 1 < 2 ^ 32 ⌝ }
+    requires { ⌜ (a ≡ Done → f .position + 1 < 2 ^ 32) ⌝ }
     ensures { λ r. ⌜ r ≡ verdictFrom a q i e f p ⌝ }
 {
     match a {
@@ -249,26 +246,6 @@ fn next(a: Answer, q: Request, i: usize, e: Entry, f: OpenFile, p: Place) -> Ver
 }
 
 // ---- decoding and copying
-
-// Whether reading met a bad code.
-fn is_astray(l: Led) -> bool
-    ensures { λ r. ⌜ r ≡ isAstray l ⌝ }
-{
-    match l {
-        Led::To(_) => false,
-        Led::Lost(_) => true,
-    }
-}
-
-// The place that reading led to.
-fn place_in(l: Led) -> Place
-    ensures { λ r. ⌜ r ≡ placeIn l ⌝ }
-{
-    match l {
-        Led::To(p) => p,
-        Led::Lost(p) => p,
-    }
-}
 
 // The end place of a file that is opened.
 fn end_place(bytes: &[u8], e: Entry) -> Led
@@ -420,8 +397,16 @@ fn extent_of(image: &[u8], e: Entry) -> &[u8]
     )
 }
 
-// The verdict on a used entry of a legal session; bytes is its extent.
-fn lawful_verdict(
+// ---- what a request is answered
+
+// What a request is answered, and the place that its file's next state is made from.
+struct Ruling {
+    answer: Answer,
+    place: Place,
+}
+
+// The ruling on a used entry of a legal session; bytes is its extent.
+fn lawful_ruling(
     bytes: &[u8],
     held: u32,
     over: &[u8],
@@ -433,9 +418,11 @@ fn lawful_verdict(
     given: &[u8],
     code: usize,
     buffer: &mut [u8],
-) -> Verdict
+) -> Ruling
     requires { ⌜ (Lawful e f) × (length (now bytes) ≡ Sizes.sector * e .sectors) ⌝ }
-    ensures { λ r. ⌜ (r ≡ verdictOf true files (length (now (buffer .entry))) code q
+    ensures { λ r. ⌜ (r .answer ≡ answerOf true files (length (now (buffer .entry))) code q
+        (sceneOf i e f (seenBytes e f (now (bytes .entry)) held (now (over .entry))) (now (given .entry))))
+        × (verdictFrom (r .answer) q i e f (r .place) ≡ verdictOf true files (length (now (buffer .entry))) code q
         (sceneOf i e f (seenBytes e f (now (bytes .entry)) held (now (over .entry))) (now (given .entry))))
         × (now (buffer .exit) ≡ bufferNext (answerOf true files (length (now (buffer .entry))) code q
         (sceneOf i e f (seenBytes e f (now (bytes .entry)) held (now (over .entry))) (now (given .entry)))) q
@@ -444,22 +431,35 @@ fn lawful_verdict(
     let known = facts(true, true, files, e, f, given.len(), code, buffer.len());
     let first = judge(q, known);
     let n = number(first);
-    let here = f.here;
     if n == 11 {
         let led = decode(q, bytes, held, over, e, f, buffer);
-        let a = judge(q, supposed(known, is_astray(led)));
-        return next(a, q, i, e, f, place_in(led));
+        return match led {
+            Led::To(p) => Ruling {
+                answer: past_code(q, known),
+                place: p,
+            },
+            Led::Lost(p) => Ruling {
+                answer: first,
+                place: p,
+            },
+        };
     }
     if n == 0 {
         let p = carry(q, bytes, held, over, e, f, code, buffer);
-        return next(first, q, i, e, f, p);
+        return Ruling {
+            answer: first,
+            place: p,
+        };
     }
-    next(first, q, i, e, f, here)
+    Ruling {
+        answer: first,
+        place: start(),
+    }
 }
 
-// The verdict on a request on entry i, and the caller's buffer behind it, where it is known whether the session is legal: e is the entry, f its
+// The ruling on a request on entry i, and the caller's buffer behind it, where it is known whether the session is legal: e is the entry, f its
 // state, and so many files are open. The held sector of this file, if there is one, is lent as over; code is the length of the code of the bytes given.
-fn verdict_on(
+fn ruling_on(
     image: &[u8],
     lawful: bool,
     files: u32,
@@ -472,31 +472,33 @@ fn verdict_on(
     given: &[u8],
     code: usize,
     buffer: &mut [u8],
-) -> Verdict
+) -> Ruling
     requires { ⌜ Stands (now image) lawful e f ⌝ }
-    ensures { λ r. ⌜ (r ≡ verdictOf lawful files (length (now (buffer .entry))) code q
+    ensures { λ r. ⌜ (r .answer ≡ answerOf lawful files (length (now (buffer .entry))) code q
+        (sceneOf i e f (seenBytes e f (extent e (now (image .entry))) held (now (over .entry))) (now (given .entry))))
+        × (verdictFrom (r .answer) q i e f (r .place) ≡ verdictOf lawful files (length (now (buffer .entry))) code q
         (sceneOf i e f (seenBytes e f (extent e (now (image .entry))) held (now (over .entry))) (now (given .entry))))
         × (now (buffer .exit) ≡ bufferNext (answerOf lawful files (length (now (buffer .entry))) code q
         (sceneOf i e f (seenBytes e f (extent e (now (image .entry))) held (now (over .entry))) (now (given .entry)))) q
         (sceneOf i e f (seenBytes e f (extent e (now (image .entry))) held (now (over .entry))) (now (given .entry))) (now (buffer .entry))) ⌝ }
 {
     if !lawful {
-        return Verdict {
+        return Ruling {
             answer: Answer::Refused(Refusal::NotLegal),
-            entry: e,
-            file: f,
+            place: start(),
         };
     }
     if e.kind == Geometry::FREE {
-        return Verdict {
+        return Ruling {
             answer: Answer::Refused(Refusal::NotThere),
-            entry: e,
-            file: f,
+            place: start(),
         };
     }
     let bytes = extent_of(image, e);
-    lawful_verdict(bytes, held, over, files, i, e, f, q, given, code, buffer)
+    lawful_ruling(bytes, held, over, files, i, e, f, q, given, code, buffer)
 }
+
+// ---- the verdict
 
 // The verdict on a request, the session being given by value. sound: what an engine asks of its sessions beyond the rules of every session.
 pub fn verdict(
@@ -523,7 +525,7 @@ pub fn verdict(
     let f = file_of(files, i);
     let lawful = is_legal(image, s) & sound;
     let n = open_files(files);
-    verdict_on(
+    let r = ruling_on(
         image,
         lawful,
         n,
@@ -536,82 +538,107 @@ pub fn verdict(
         given,
         code,
         buffer,
-    )
+    );
+    let a = r.answer;
+    let p = r.place;
+    next(a, q, i, e, f, p)
 }
 
-// The verdict on a request, the session standing in lent bytes.
+// ---- a session in lent bytes
+
+// A verdict, what was seen of the session, and the length of the code of the bytes given.
+pub struct Judged {
+    pub verdict: Verdict,
+    pub seen: Seen,
+    pub size: usize,
+}
+
+// The verdict on a request on entry i of the session that the lent bytes are; the code of the bytes given goes into code.
 pub fn verdict_in(
     image: &[u8],
     session: &[u8],
     i: usize,
     q: Request,
     given: &[u8],
-    code: usize,
+    code: &mut [u8],
     buffer: &mut [u8],
-) -> Verdict
-    ensures { λ r. ⌜ (r ≡ verdictOf (legal (now (image .entry)) (sessionIn (now (session .entry)))) (openFiles (sessionIn (now (session .entry)) .files))
-        (length (now (buffer .entry))) code q (seenScene (now (image .entry)) (sessionIn (now (session .entry))) 0 [] i (now (given .entry))))
-        × (now (buffer .exit) ≡ bufferNext (answerOf (legal (now (image .entry)) (sessionIn (now (session .entry)))) (openFiles (sessionIn (now (session .entry)) .files))
-        (length (now (buffer .entry))) code q (seenScene (now (image .entry)) (sessionIn (now (session .entry))) 0 [] i (now (given .entry)))) q
-        (seenScene (now (image .entry)) (sessionIn (now (session .entry))) 0 [] i (now (given .entry))) (now (buffer .entry))) ⌝ }
+) -> Judged
+    ensures { λ r. ⌜ (r ≡ judgedBy (now (image .entry)) (seenIn (now (image .entry)) (now (session .entry)) i) [] i q (now (given .entry)) (length (now (buffer .entry))))
+        × (now (buffer .exit) ≡ bufferBy (now (image .entry)) (seenIn (now (image .entry)) (now (session .entry)) i) [] i q (now (given .entry)) (now (buffer .entry)))
+        × (now (code .exit) ≡ sets (now (code .entry)) 0 (codeGiven (seenIn (now (image .entry)) (now (session .entry)) i .entry) (now (given .entry)))) ⌝ }
 {
     let seen = find_in(image, session, i);
     let e = seen.entry;
     let f = seen.file;
-    let lawful = seen.lawful;
+    let h = seen.hold;
+    let size = encode_given(e, given, code);
     let none = part(given, 0, 0);
-    verdict_on(
+    let r = ruling_on(
         image,
-        lawful,
+        seen.lawful,
         seen.opened,
         e,
         f,
-        0,
+        h.held,
         none,
         i,
         q,
         given,
-        code,
+        size,
         buffer,
-    )
+    );
+    let a = r.answer;
+    let p = r.place;
+    let v = next(a, q, i, e, f, p);
+    Judged {
+        verdict: v,
+        seen: seen,
+        size: size,
+    }
 }
 
-// The verdict on a request, the session with its buffers standing in lent bytes; the held sector of this file, if there is one, is lent as over.
+// The same on a session with buffers; the held sector of the file, if there is one, is read where it lies.
 pub fn verdict_buffered_in(
     image: &[u8],
     session: &[u8],
-    held: u32,
-    over: &[u8],
     i: usize,
     q: Request,
     given: &[u8],
-    code: usize,
+    code: &mut [u8],
     buffer: &mut [u8],
-) -> Verdict
-    ensures { λ r. ⌜ (r ≡ verdictOf (bufferedLegal (now (image .entry)) (bufferedIn (now (session .entry)))) (openFiles (bare (bufferedIn (now (session .entry))) .files))
-        (length (now (buffer .entry))) code q (seenScene (now (image .entry)) (bare (bufferedIn (now (session .entry)))) held (now (over .entry)) i (now (given .entry))))
-        × (now (buffer .exit) ≡ bufferNext (answerOf (bufferedLegal (now (image .entry)) (bufferedIn (now (session .entry)))) (openFiles (bare (bufferedIn (now (session .entry))) .files))
-        (length (now (buffer .entry))) code q (seenScene (now (image .entry)) (bare (bufferedIn (now (session .entry)))) held (now (over .entry)) i (now (given .entry)))) q
-        (seenScene (now (image .entry)) (bare (bufferedIn (now (session .entry)))) held (now (over .entry)) i (now (given .entry))) (now (buffer .entry))) ⌝ }
+) -> Judged
+    ensures { λ r. ⌜ (r ≡ judgedBy (now (image .entry)) (seenBufferedIn (now (image .entry)) (now (session .entry)) i) (lentBy (ownState (bufferedIn (now (session .entry))) i)) i q (now (given .entry)) (length (now (buffer .entry))))
+        × (now (buffer .exit) ≡ bufferBy (now (image .entry)) (seenBufferedIn (now (image .entry)) (now (session .entry)) i) (lentBy (ownState (bufferedIn (now (session .entry))) i)) i q (now (given .entry)) (now (buffer .entry)))
+        × (now (code .exit) ≡ sets (now (code .entry)) 0 (codeGiven (seenBufferedIn (now (image .entry)) (now (session .entry)) i .entry) (now (given .entry)))) ⌝ }
 {
     let seen = find_buffered_in(image, session, i);
     let e = seen.entry;
     let f = seen.file;
-    let lawful = seen.lawful;
-    verdict_on(
+    let h = seen.hold;
+    let size = encode_given(e, given, code);
+    let over = lent_in(session, seen.slot, h.holds);
+    let r = ruling_on(
         image,
-        lawful,
+        seen.lawful,
         seen.opened,
         e,
         f,
-        held,
+        h.held,
         over,
         i,
         q,
         given,
-        code,
+        size,
         buffer,
-    )
+    );
+    let a = r.answer;
+    let p = r.place;
+    let v = next(a, q, i, e, f, p);
+    Judged {
+        verdict: v,
+        seen: seen,
+        size: size,
+    }
 }
 
 // ---- looks

@@ -9,10 +9,10 @@ enum-told : tie.Need-enum-told
 enum-told c = search needs
 
 done-entry-requires : tie.Need-done-entry-requires
-done-entry-requires c κs = search needs
+done-entry-requires c κs = c .before .before .pre (c .enum-told .given .1)
 
 done-file-requires : tie.Need-done-file-requires
-done-file-requires c κs = search needs
+done-file-requires c κs = c .before .before .before .pre (c .before .enum-told .given .1)
 
 enum-known-a : tie.Need-enum-known-a
 enum-known-a c = search needs

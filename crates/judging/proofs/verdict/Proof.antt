@@ -1,7 +1,7 @@
 -- The session's entry and state are those that it is judged by.
 use Rattle.geometry.proofs.Tests.{and-left}
 use Rattle.sessions.specs.Session.{legal}
-use Rattle.judging.proofs.Entered.{stands, by-session}
+use Rattle.judging.proofs.Entered.{stands, fits, comes, by-session}
 use mathlib.Core.Bool.{Bool, _&&_}
 use mathlib.Core.Path.{sym, ap, _∙_}
 use borrow.Author.Needs.{needs}
@@ -20,20 +20,26 @@ is-legal-requires c κs = search needs
 open-files-requires : tie.Need-open-files-requires
 open-files-requires c κs = search needs
 
-verdict-on-requires : tie.Need-verdict-on-requires
-verdict-on-requires c κs =
+ruling-on-requires : tie.Need-ruling-on-requires
+ruling-on-requires c κs =
     let a = c .before .before .before .before .before .before .before .before .before .before .before .args in
-    stands (a .image .now) (a .s) (a .i) (c .before .before .before .before .entry-of .result) (c .before .before .before .file-of .result) _ (c .before .before .before .before .entry-of .ensures) (c .before .before .before .file-of .ensures)
-    λ h. sym (c .before .before .is-legal .ensures) ∙ and-left _ _ h
+    stands (a .image .now) (a .s) (a .i) (c .before .before .before .before .entry-of .result) (c .before .before .before .file-of .result) _ (c .before .before .before .before .entry-of .ensures) (c .before .before .before .file-of .ensures) λ h. sym (c .before .before .is-legal .ensures) ∙ and-left _ _ h
+
+next-requires : tie.Need-next-requires
+next-requires c κs =
+    let a = c .before .before .before .before .before .before .before .before .before .before .before .before .before .before .before .args in
+    fits (a .image .now) _ (c .before .before .before .before .before .open-files .result) (c .before .before .before .before .before .before .before .before .entry-of .result) (c .before .before .before .before .before .before .before .file-of .result) (a .held) (a .over .now) (a .i) (a .q) (a .given .now) (a .code) (a .buffer .now)
+    (stands (a .image .now) (a .s) (a .i) (c .before .before .before .before .before .before .before .before .entry-of .result) (c .before .before .before .before .before .before .before .file-of .result) _ (c .before .before .before .before .before .before .before .before .entry-of .ensures) (c .before .before .before .before .before .before .before .file-of .ensures) λ h. sym (c .before .before .before .before .before .before .is-legal .ensures) ∙ and-left _ _ h) _ _ _ (c .before .before .before .ruling-on .ensures)
 
 same-length : tie.Need-same-length
 same-length c = search needs
 
 returns : tie.Need-returns
 returns c =
-    let a = c .before .before .before .before .before .before .before .before .before .before .before .before .before .before .args in
-    by-session (a .image .now) (a .s) (a .held) (a .over .now) (a .i) (a .q) (a .given .now) (a .code) (a .buffer .now) (legal (a .image .now) (a .s) && a .sound) _ (c .before .before .before .before .open-files .result) (c .before .before .before .before .before .before .before .entry-of .result) (c .before .before .before .before .before .before .file-of .result)
-    (ap (λ (l : Bool). l && a .sound) (c .before .before .before .before .before .is-legal .ensures)) (c .before .before .before .before .open-files .ensures) (c .before .before .before .before .before .before .before .entry-of .ensures) (c .before .before .before .before .before .before .file-of .ensures) _ _ (c .before .before .verdict-on .ensures)
+    let a = c .before .before .before .before .before .before .before .before .before .before .before .before .before .before .before .before .args in
+    by-session (a .image .now) (a .s) (a .held) (a .over .now) (a .i) (a .q) (a .given .now) (a .code) (a .buffer .now) (legal (a .image .now) (a .s) && a .sound) _ (c .before .before .before .before .before .before .open-files .result) (c .before .before .before .before .before .before .before .before .before .entry-of .result) (c .before .before .before .before .before .before .before .before .file-of .result)
+    (ap (λ (l : Bool). l && a .sound) (c .before .before .before .before .before .before .before .is-legal .ensures)) (c .before .before .before .before .before .before .open-files .ensures) (c .before .before .before .before .before .before .before .before .before .entry-of .ensures) (c .before .before .before .before .before .before .before .before .file-of .ensures) _ _
+    (comes (a .image .now) _ (c .before .before .before .before .before .before .open-files .result) (c .before .before .before .before .before .before .before .before .before .entry-of .result) (c .before .before .before .before .before .before .before .before .file-of .result) (a .held) (a .over .now) (a .i) (a .q) (a .given .now) (a .code) (a .buffer .now) _ _ _ (c .next .result) (c .before .before .before .before .ruling-on .ensures) (c .next .ensures))
 
 pub verdict-spec : {M : Type 1} → statement M
 verdict-spec =
@@ -43,6 +49,7 @@ verdict-spec =
     file-of-requires
     is-legal-requires
     open-files-requires
-    verdict-on-requires
+    ruling-on-requires
+    next-requires
     same-length
     returns)

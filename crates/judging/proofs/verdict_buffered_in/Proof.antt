@@ -1,9 +1,13 @@
--- The entry and the state are those of the session that the bytes are.
-use mathlib.Core.Path.{refl, sym, _∙_}
-use Rattle.sessions.specs.Session.{bare, bufferedLegal}
-use Rattle.sessions.proofs.Legal.{bare-legal}
+-- The entry, the state and what is held are those of the session that the bytes are.
+use mathlib.Core.Path.{ap, _∙_}
+use mathlib.Core.List.{List, []}
+use lib.Seq.{sets}
+use Prim.Native.Nat.{ℕ}
+use Rattle.straight.specs.Straight.{codeGiven}
+use Rattle.storing.specs.Lent.{lentBy, ownState, seenIn, seenBufferedIn}
 use Rattle.storing.specs.Stored.{bufferedIn}
-use Rattle.judging.proofs.Entered.{seen-stands, by-seen}
+use Rattle.storing.specs.declared.lawful.Seen.{Seen}
+use Rattle.judging.proofs.Entered.{part-none, buffered-stands, buffered-lent, fits, judged}
 use borrow.Author.Needs.{needs}
 use Rattle.judging.proofs.verdict_buffered_in.Statement.{statement}
 use Rattle.judging.proofs.verdict_buffered_in.Tie as tie
@@ -11,23 +15,55 @@ use Rattle.judging.proofs.verdict_buffered_in.Tie as tie
 find-buffered-in-requires : tie.Need-find-buffered-in-requires
 find-buffered-in-requires c κs = search needs
 
-is-legal-buffered-in-requires : tie.Need-is-legal-buffered-in-requires
-is-legal-buffered-in-requires c κs = search needs
+encode-given-requires : tie.Need-encode-given-requires
+encode-given-requires c κs = search needs
 
-verdict-on-requires : tie.Need-verdict-on-requires
-verdict-on-requires c κs =
-    let a = c .before .before .before .before .before .before .before .before .before .before .args in
-    seen-stands (a .image .now) (bare (bufferedIn (a .session .now))) (a .i) (c .before .before .before .before .find-buffered-in .result) (c .before .is-legal-buffered-in .result) (c .before .before .before .before .find-buffered-in .ensures)
-    λ h. bare-legal (a .image .now) (bufferedIn (a .session .now)) (sym (c .before .is-legal-buffered-in .ensures) ∙ h)
+lent-in-requires : tie.Need-lent-in-requires
+lent-in-requires c κs = search needs
+
+ruling-on-requires : tie.Need-ruling-on-requires
+ruling-on-requires c κs =
+    let d = c .before .before .before .before .before .before .before .before .before in
+    let a = d .before .before .before .before .before .before .args in
+    buffered-stands (a .image .now) (a .session .now) (a .i) (d .find-buffered-in .result) (d .find-buffered-in .ensures)
+
+next-requires : tie.Need-next-requires
+next-requires c κs =
+    let r = c .before .before .before in
+    let n = r .before .before .before .before .before in
+    let d = n .before .before .before .before .before in
+    let a = d .before .before .before .before .before .before .args in
+    let x = d .find-buffered-in .result in
+    fits (a .image .now) (x .lawful) (x .opened) (x .entry) (x .file) (x .hold .held) (r .before .before .lent-in .result .now) (a .i) (a .q) (a .given .now) (n .encode-given .result) (a .buffer .now)
+    (buffered-stands (a .image .now) (a .session .now) (a .i) x (d .find-buffered-in .ensures)) _ _ _ (r .ruling-on .ensures)
 
 same-length : tie.Need-same-length
 same-length c = search needs
 
+same-length-2 : tie.Need-same-length-2
+same-length-2 c = search needs
+
 returns : tie.Need-returns
 returns c =
-    let a = c .before .before .before .before .before .before .before .before .before .before .before .before .before .args in
-    by-seen (a .image .now) (bare (bufferedIn (a .session .now))) (a .held) (a .over .now) (a .i) (a .q) (a .given .now) (a .code) (a .buffer .now) (bufferedLegal (a .image .now) (bufferedIn (a .session .now))) (c .before .before .before .before .is-legal-buffered-in .result) (c .before .before .before .before .before .before .before .find-buffered-in .result) (a .over .now)
-    (c .before .before .before .before .is-legal-buffered-in .ensures) (c .before .before .before .before .before .before .before .find-buffered-in .ensures) refl _ _ (c .before .before .verdict-on .ensures)
+    let r = c .before .before .before .before in
+    let n = r .before .before .before .before .before in
+    let d = n .before .before .before .before .before in
+    let a = d .before .before .before .before .before .before .args in
+    let x = d .find-buffered-in .result in
+    let z = seenBufferedIn (a .image .now) (a .session .now) (a .i) in
+    let j = judged (a .image .now) x (lentBy (ownState (bufferedIn (a .session .now)) (a .i))) (a .i) (a .q) (a .given .now) (n .encode-given .result) (a .buffer .now) z (r .before .before .lent-in .result .now)
+    (n .encode-given .ensures .0) (d .find-buffered-in .ensures) (r .before .before .lent-in .ensures ∙ buffered-lent (a .image .now) (a .session .now) (a .i) x (d .find-buffered-in .ensures)) _ _ _ (c .next .result) (r .ruling-on .ensures) (c .next .ensures) in
+    (j .0, j .1, n .encode-given .ensures .1 ∙ ap (λ (y : Seen). sets (a .code .now) 0 (codeGiven (y .entry) (a .given .now))) (d .find-buffered-in .ensures))
 
 pub verdict-buffered-in-spec : {M : Type 1} → statement M
-verdict-buffered-in-spec = tie.close (tie.spec find-buffered-in-requires is-legal-buffered-in-requires verdict-on-requires same-length returns)
+verdict-buffered-in-spec =
+    tie.close
+    (tie.spec
+    find-buffered-in-requires
+    encode-given-requires
+    lent-in-requires
+    ruling-on-requires
+    next-requires
+    same-length
+    same-length-2
+    returns)

@@ -1,9 +1,13 @@
--- The entry and the state are those of the session that the bytes are.
-use mathlib.Core.Path.{sym, _∙_}
-use mathlib.Core.List.{[]}
-use Rattle.sessions.specs.Session.{legal}
-use Rattle.storing.specs.Stored.{sessionIn}
-use Rattle.judging.proofs.Entered.{part-none, seen-stands, by-seen}
+-- The entry, the state and what is held are those of the session that the bytes are.
+use mathlib.Core.Path.{ap, _∙_}
+use mathlib.Core.List.{List, []}
+use lib.Seq.{sets}
+use Prim.Native.Nat.{ℕ}
+use Rattle.straight.specs.Straight.{codeGiven}
+use Rattle.storing.specs.Lent.{lentBy, ownState, seenIn, seenBufferedIn}
+use Rattle.storing.specs.Stored.{bufferedIn}
+use Rattle.storing.specs.declared.lawful.Seen.{Seen}
+use Rattle.judging.proofs.Entered.{part-none, plain-stands, buffered-lent, fits, judged}
 use borrow.Author.Needs.{needs}
 use Rattle.judging.proofs.verdict_in.Statement.{statement}
 use Rattle.judging.proofs.verdict_in.Tie as tie
@@ -11,25 +15,55 @@ use Rattle.judging.proofs.verdict_in.Tie as tie
 find-in-requires : tie.Need-find-in-requires
 find-in-requires c κs = search needs
 
-is-legal-in-requires : tie.Need-is-legal-in-requires
-is-legal-in-requires c κs = search needs
+encode-given-requires : tie.Need-encode-given-requires
+encode-given-requires c κs = search needs
 
 part-requires : tie.Need-part-requires
 part-requires c κs = search needs
 
-verdict-on-requires : tie.Need-verdict-on-requires
-verdict-on-requires c κs =
-    let a = c .before .before .before .before .before .before .before .before .before .before .args in
-    seen-stands (a .image .now) (sessionIn (a .session .now)) (a .i) (c .before .before .before .before .before .find-in .result) (c .before .before .is-legal-in .result) (c .before .before .before .before .before .find-in .ensures) λ h. sym (c .before .before .is-legal-in .ensures) ∙ h
+ruling-on-requires : tie.Need-ruling-on-requires
+ruling-on-requires c κs =
+    let d = c .before .before .before .before .before .before .before .before .before in
+    let a = d .before .before .before .before .before .before .args in
+    plain-stands (a .image .now) (a .session .now) (a .i) (d .find-in .result) (d .find-in .ensures)
+
+next-requires : tie.Need-next-requires
+next-requires c κs =
+    let r = c .before .before .before in
+    let n = r .before .before .before .before .before in
+    let d = n .before .before .before .before .before in
+    let a = d .before .before .before .before .before .before .args in
+    let x = d .find-in .result in
+    fits (a .image .now) (x .lawful) (x .opened) (x .entry) (x .file) (x .hold .held) (r .before .before .part .result .now) (a .i) (a .q) (a .given .now) (n .encode-given .result) (a .buffer .now)
+    (plain-stands (a .image .now) (a .session .now) (a .i) x (d .find-in .ensures)) _ _ _ (r .ruling-on .ensures)
 
 same-length : tie.Need-same-length
 same-length c = search needs
 
+same-length-2 : tie.Need-same-length-2
+same-length-2 c = search needs
+
 returns : tie.Need-returns
 returns c =
-    let a = c .before .before .before .before .before .before .before .before .before .before .before .before .before .args in
-    by-seen (a .image .now) (sessionIn (a .session .now)) 0 [] (a .i) (a .q) (a .given .now) (a .code) (a .buffer .now) (legal (a .image .now) (sessionIn (a .session .now))) (c .before .before .before .before .before .is-legal-in .result) (c .before .before .before .before .before .before .before .before .find-in .result) (c .before .before .before .before .part .result .now)
-    (c .before .before .before .before .before .is-legal-in .ensures) (c .before .before .before .before .before .before .before .before .find-in .ensures) (c .before .before .before .before .part .ensures ∙ part-none (a .given .now)) _ _ (c .before .before .verdict-on .ensures)
+    let r = c .before .before .before .before in
+    let n = r .before .before .before .before .before in
+    let d = n .before .before .before .before .before in
+    let a = d .before .before .before .before .before .before .args in
+    let x = d .find-in .result in
+    let z = seenIn (a .image .now) (a .session .now) (a .i) in
+    let j = judged (a .image .now) x [] (a .i) (a .q) (a .given .now) (n .encode-given .result) (a .buffer .now) z (r .before .before .part .result .now)
+    (n .encode-given .ensures .0) (d .find-in .ensures) (r .before .before .part .ensures ∙ part-none (a .given .now)) _ _ _ (c .next .result) (r .ruling-on .ensures) (c .next .ensures) in
+    (j .0, j .1, n .encode-given .ensures .1 ∙ ap (λ (y : Seen). sets (a .code .now) 0 (codeGiven (y .entry) (a .given .now))) (d .find-in .ensures))
 
 pub verdict-in-spec : {M : Type 1} → statement M
-verdict-in-spec = tie.close (tie.spec find-in-requires is-legal-in-requires part-requires verdict-on-requires same-length returns)
+verdict-in-spec =
+    tie.close
+    (tie.spec
+    find-in-requires
+    encode-given-requires
+    part-requires
+    ruling-on-requires
+    next-requires
+    same-length
+    same-length-2
+    returns)
