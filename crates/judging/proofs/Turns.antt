@@ -1,5 +1,5 @@
 -- Judging with decoding in its turn comes to the verdict. An answer other than 11 to the request judged as if a code were bad stands; at 11 the
--- request is answered by what its decoding led to: a bad code 11, a good one by the tests behind.
+-- request decodes: a bad code leaves the 11, behind a good one the tests behind it answer.
 use mathlib.Core.Path.{_≡_, refl, sym, ap, ap₂, subst, _∙_}
 use mathlib.Core.Bool.{Bool, true, false, not, false≢true}
 use mathlib.Core.List.{List, []}
@@ -204,7 +204,7 @@ module _ (files buffer code : ℕ) (c : Scene) where
   ans q = judge q (facts (badIn (decoding q) c))
 
   -- a ruling: the answer, the place that the verdict is made from, and the buffer, which was old
-  abbrev pub Rules : Request → List ℕ → Answer → Place → List ℕ → Type 0
+  abbrev Rules : Request → List ℕ → Answer → Place → List ℕ → Type 0
   Rules q old a p new =
       (a ≡ ans q) × (verdictFrom a q (c .number) (c .entry) (c .file) p ≡ verdictOf true files buffer code q c) × (new ≡ bufferNext (ans q) q c old)
 
@@ -352,7 +352,7 @@ module _ (files buffer code : ℕ) (c : Scene) where
     pub is-bad : n ≡ 11 → isBad (first q) ≡ true
     is-bad h = eq-eqb (numberOf (first q)) 11 (ap numberOf (sym a-first) ∙ sym m ∙ h)
 
-    module _ (h : n ≡ 11) (old new : List ℕ) (l : Led) (e : (l ≡ led) × (new ≡ turnInto q (c .entry) (c .file) (c .bytes) old)) (p : Place) where
+    module _ (h : n ≡ 11) (old new : List ℕ) (l : Led) (e : (l ≡ led) × (new ≡ turnInto q (c .entry) (c .file) (c .bytes) old)) where
       led-rules : (t : Led) (b : Answer) → l ≡ t → b ≡ judge q (facts (isAstray t)) → Rules q old b (placeIn t) new
       led-rules t b el eb = rw (sym (e .1)) at ans-rules
         where
@@ -362,14 +362,14 @@ module _ (files buffer code : ℕ) (c : Scene) where
               subst (λ (x : Led). Rules q old b (placeIn x) (turnInto q (c .entry) (c .file) (c .bytes) old)) (sym s) (turn-rules q (is-bad h) old b (eb ∙ ap (λ (x : Led). judge q (facts (isAstray x))) s))
 
       -- a good code: the tests behind it answer
-      pub good-rules : l ≡ To p → (b : Answer) → b ≡ behindCode q known → Rules q old b p new
+      pub good-rules : (p : Place) → l ≡ To p → (b : Answer) → b ≡ behindCode q known → Rules q old b p new
       unfolding isAstray placeIn
-      good-rules el b eb = led-rules (To p) b el (eb ∙ ap (behindCode q) k ∙ sym (InTurn.behind q (facts true) (is-bad h)))
+      good-rules p el b eb = led-rules (To p) b el (eb ∙ ap (behindCode q) k ∙ sym (InTurn.behind q (facts true) (is-bad h)))
 
       -- a bad one
-      pub lost-rules : l ≡ Lost p → Rules q old a p new
+      pub lost-rules : (p : Place) → l ≡ Lost p → Rules q old a p new
       unfolding isAstray placeIn
-      lost-rules el = led-rules (Lost p) a el a-first
+      lost-rules p el = led-rules (Lost p) a el a-first
 
     -- 0
     pub is-done : n ≡ 0 → first q ≡ Done

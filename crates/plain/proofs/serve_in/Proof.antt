@@ -7,12 +7,6 @@ use borrow.Author.Needs.{needs}
 use Rattle.plain.proofs.serve_in.Statement.{statement}
 use Rattle.plain.proofs.serve_in.Tie as tie
 
-find-in-requires : tie.Need-find-in-requires
-find-in-requires c κs = search needs
-
-encode-given-requires : tie.Need-encode-given-requires
-encode-given-requires c κs = search needs
-
 verdict-in-requires : tie.Need-verdict-in-requires
 verdict-in-requires c κs = search needs
 
@@ -24,10 +18,12 @@ part-requires c κs = search needs
 
 act-requires : tie.Need-act-requires
 act-requires c κs =
-    let a = c .before .before .before .before .before .before .before .before .before .before .before .before .before .before .before .before .before .before .before .before .before .before .args in
+    let d = c .before .before .before .before .before .before .before .before .before .before .before .before in
+    let a = d .before .before .before .before .before .before .before .before .before .args in
+    let r = d .verdict-in in
     let z : length (a .code .now) ≡ 135 = search needs in
-    let g = goes (a .image .now) (a .session .now) (a .i) (a .q) (a .given .now) (a .buffer .now) (c .before .before .before .before .before .before .before .before .before .before .before .before .before .before .before .before .find-in .result) (c .before .before .before .before .before .before .before .before .before .before .before .before .before .before .before .before .find-in .ensures) (c .before .before .before .before .before .before .before .before .before .before .before .before .encode-given .result) (c .before .before .before .before .before .before .before .before .before .before .before .before .encode-given .ensures .0) (c .before .before .before .before .before .before .before .before .verdict-in .result) (c .before .before .before .before .before .before .before .before .verdict-in .ensures .0) (a .code .now) z (c .before .before .before .before .enum-told .given .1) in
-    (g .0, rw (c .part .ensures, c .before .before .before .before .before .before .before .before .before .before .before .before .encode-given .ensures .1) (g .1))
+    let g = goes (a .image .now) (a .session .now) (a .i) (a .q) (a .given .now) (a .buffer .now) (r .result) (r .ensures .0) (a .code .now) _ z (r .ensures .2) (c .before .before .before .before .enum-told .given .1) in
+    (g .0, rw (c .part .ensures) (g .1))
 
 put-next-requires : tie.Need-put-next-requires
 put-next-requires c κs = search needs
@@ -53,8 +49,11 @@ same-length-3 c = search needs
 returns : tie.Need-returns
 unfolding served
 returns c =
-    let a = c .before .before .before .before .before .before .before .before .before .before .before .before .before .before .before .before .before .before .before .before .before .before .before .before .before .before .before .before .before .args in
-    done-served (a .image .now) (a .session .now) (a .i) (a .q) (a .given .now) (a .buffer .now) (c .before .before .before .before .before .before .before .before .before .before .before .before .before .before .before .before .before .before .before .before .before .before .before .find-in .result) (c .before .before .before .before .before .before .before .before .before .before .before .before .before .before .before .before .before .before .before .before .before .before .before .find-in .ensures) (c .before .before .before .before .before .before .before .before .before .before .before .before .before .before .before .before .before .before .before .encode-given .result) (c .before .before .before .before .before .before .before .before .before .before .before .before .before .before .before .before .before .before .before .encode-given .ensures .0) (c .before .before .before .before .before .before .before .before .before .before .before .before .before .before .before .verdict-in .result) (c .before .before .before .before .before .before .before .before .before .before .before .before .before .before .before .verdict-in .ensures .0) _ (c .before .before .before .before .before .before .before .before .before .before .before .before .before .before .before .verdict-in .ensures .1) (c .before .before .before .before .before .before .before .before .before .before .before .enum-told .given .1) _ (c .before .before .before .before .before .before .act .ensures) _ (c .before .before .put-next .ensures .1) (c .before .before .put-next .ensures .0)
+    let d = c .before .before .before .before .before .before .before .before .before .before .before .before .before .before .before .before .before .before .before in
+    let a = d .before .before .before .before .before .before .before .before .before .args in
+    let r = d .verdict-in in
+    let p = c .before .before .put-next .ensures in
+    done-served (a .image .now) (a .session .now) (a .i) (a .q) (a .given .now) (a .buffer .now) (r .result) (r .ensures .0) _ (r .ensures .1) (c .before .before .before .before .before .before .before .before .before .before .before .enum-told .given .1) _ (c .before .before .before .before .before .before .act .ensures) _ (p .1) (p .0)
 
 same-length-4 : tie.Need-same-length-4
 same-length-4 c = search needs
@@ -68,8 +67,11 @@ same-length-6 c = search needs
 returns-2 : tie.Need-returns-2
 unfolding served
 returns-2 c =
-    let a = c .before .before .before .before .before .before .before .before .before .before .before .before .before .before .before .before .before .before .before .before .before .before .args in
-    met-served (a .image .now) (a .session .now) (a .i) (a .q) (a .given .now) (a .buffer .now) (c .before .before .before .before .before .before .before .before .before .before .before .before .before .before .before .before .find-in .result) (c .before .before .before .before .before .before .before .before .before .before .before .before .before .before .before .before .find-in .ensures) (c .before .before .before .before .before .before .before .before .before .before .before .before .encode-given .result) (c .before .before .before .before .before .before .before .before .before .before .before .before .encode-given .ensures .0) (c .before .before .before .before .before .before .before .before .verdict-in .result) (c .before .before .before .before .before .before .before .before .verdict-in .ensures .0) _ (c .before .before .before .before .before .before .before .before .verdict-in .ensures .1) _ (c .before .before .before .before .enum-told2 .given .1) _ (c .before .before .put-next2 .ensures .1) (c .before .before .put-next2 .ensures .0)
+    let d = c .before .before .before .before .before .before .before .before .before .before .before .before in
+    let a = d .before .before .before .before .before .before .before .before .before .args in
+    let r = d .verdict-in in
+    let p = c .before .before .put-next2 .ensures in
+    met-served (a .image .now) (a .session .now) (a .i) (a .q) (a .given .now) (a .buffer .now) (r .result) (r .ensures .0) _ (r .ensures .1) _ (c .before .before .before .before .enum-told2 .given .1) _ (p .1) (p .0)
 
 same-length-7 : tie.Need-same-length-7
 same-length-7 c = search needs
@@ -83,15 +85,15 @@ same-length-9 c = search needs
 returns-3 : tie.Need-returns-3
 unfolding served
 returns-3 c =
-    let a = c .before .before .before .before .before .before .before .before .before .before .before .before .before .before .before .before .before .before .args in
-    refused-served (a .image .now) (a .session .now) (a .i) (a .q) (a .given .now) (a .buffer .now) (c .before .before .before .before .before .before .before .before .before .before .before .before .find-in .result) (c .before .before .before .before .before .before .before .before .before .before .before .before .find-in .ensures) (c .before .before .before .before .before .before .before .before .encode-given .result) (c .before .before .before .before .before .before .before .before .encode-given .ensures .0) (c .before .before .before .before .verdict-in .result) (c .before .before .before .before .verdict-in .ensures .0) _ (c .before .before .before .before .verdict-in .ensures .1) _ (c .enum-told3 .given .1)
+    let d = c .before .before .before .before .before .before .before .before in
+    let a = d .before .before .before .before .before .before .before .before .before .args in
+    let r = d .verdict-in in
+    refused-served (a .image .now) (a .session .now) (a .i) (a .q) (a .given .now) (a .buffer .now) (r .result) (r .ensures .0) _ (r .ensures .1) _ (c .enum-told3 .given .1)
 
 pub serve-in-spec : {M : Type 1} → statement M
 serve-in-spec =
     tie.close
     (tie.spec
-    find-in-requires
-    encode-given-requires
     verdict-in-requires
     enum-told
     part-requires
