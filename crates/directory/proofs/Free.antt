@@ -1,18 +1,17 @@
 -- A free entry keeps every rule exactly if its 20 bytes are zero, which they are if its name and its words are.
 use mathlib.Core.Path.{_≡_, refl, sym, ap, _∙_}
-use mathlib.Core.Bool.{Bool, true, false, _&&_, and-true, and-assoc}
+use mathlib.Core.Bool.{Bool, true, false, _&&_, and-assoc}
 use mathlib.Core.List.{List, [], _∷_, _++_}
 use Prim.Native.Nat.{ℕ, _+_, _/_, _%_}
 use native.Mathlib.Omega.{arith}
 use lib.Dec.{eqb}
-use lib.ListN.{getD}
 use borrow.Author.Tests.{eq-eqb, ne-eqb, eqb-true, eqb-false}
-use Rattle.geometry.specs.Lists.{all, every}
+use Rattle.geometry.specs.Lists.{every}
 use Rattle.geometry.specs.Bytes.{word}
 use Rattle.directory.specs.declared.Entry.{Entry}
-use Rattle.geometry.proofs.Tests.{either, denied, and-left, and-right, all-getD}
+use Rattle.geometry.proofs.Tests.{either, and-left, and-right}
 use Rattle.directory.specs.Entries.{entryBytes}
-use Rattle.directory.specs.Rules.{kindKnown, freeIsZero, isName, nameGood, extentInside, flagsKnown, lengthGood, countGood, randomBare}
+use Rattle.directory.specs.Rules.{kindKnown, freeIsZero, nameGood, extentInside, flagsKnown, lengthGood, countGood, randomBare}
 use Rattle.directory.specs.Grouped.{entryGood}
 
 pub every-append : {A : Type 0} (p : A → Bool) (xs ys : List A) → every p (xs ++ ys) ≡ (every p xs && every p ys)
@@ -45,7 +44,7 @@ zero-entry e =
     next : {b : Bool} (n : ℕ) (ys : List ℕ) → every zero-byte ys ≡ b → every zero-byte (word n ++ ys) ≡ (eqb n 0 && b)
     next n ys h = every-append zero-byte (word n) ys ∙ rw (zero-word n, h)
 
--- the rules of one entry, for a free one and for a used one
+-- the rules of one entry, for a free one
 module _ (N : ℕ) (e : Entry) where
   last-words : every zero-byte (entryBytes e) ≡ true → (eqb (e .count) 0 && eqb (e .flags) 0) ≡ true
   last-words h =
@@ -64,24 +63,3 @@ module _ (N : ℕ) (e : Entry) where
       let f : e .flags ≡ 0 = eqb-true (e .flags) 0 (and-right (eqb (e .count) 0) (eqb (e .flags) 0) (last-words h)) in
       rw (h, k, c, f))
       (λ (h : every zero-byte (entryBytes e) ≡ false). rw (h, k))
-
-  module _ (used : ¬ (e .kind ≡ 0)) where
-    abbrev rules : List Bool
-    rules = kindKnown e ∷ nameGood e ∷ extentInside N e ∷ flagsKnown e ∷ lengthGood e ∷ countGood e ∷ randomBare e ∷ []
-
-    used-rules : entryGood N e ≡ all rules
-    unfolding entryGood freeIsZero all
-    used-rules = rw (ne-eqb (e .kind) 0 used, and-true (randomBare e))
-
-    -- the rule of number m is broken
-    pub used-bad : (m : ℕ) → getD rules m true ≡ false → entryGood N e ≡ false
-    used-bad m h = used-rules ∙ denied (all rules) (getD rules m true) (all-getD rules m) h
-
-    -- all but the last are kept
-    pub used-good : kindKnown e ≡ true → nameGood e ≡ true → extentInside N e ≡ true → flagsKnown e ≡ true → lengthGood e ≡ true → countGood e ≡ true → entryGood N e ≡ randomBare e
-    unfolding all
-    used-good k n x f l c = used-rules ∙ rw (k, n, x, f, l, c, and-true (randomBare e))
-
-    pub used-name : nameGood e ≡ isName (e .name)
-    unfolding nameGood
-    used-name = rw (ne-eqb (e .kind) 0 used)

@@ -4,12 +4,13 @@ use mathlib.Core.Bool.{Bool, true, false, _&&_, _||_, not, and-true, and-false, 
 use mathlib.Core.List.{List, [], _∷_}
 use Prim.Native.Nat.{ℕ, _+_, _≤_, _<_}
 use lib.Dec.{leb}
-use borrow.Author.Tests.{le-leb, lt-leb, eq-eqb}
+use lib.ListN.{getD}
+use borrow.Author.Tests.{le-leb, lt-leb, eq-eqb, ne-eqb}
 use Rattle.geometry.specs.Lists.{all, every, pairwise, same}
-use Rattle.geometry.proofs.Tests.{or-either, every-and, pairwise-and}
+use Rattle.geometry.proofs.Tests.{or-either, denied, all-getD, every-and, pairwise-and}
 use Rattle.directory.specs.Entries.{isFree}
-use Rattle.directory.specs.Rules.{kindKnown, freeIsZero, nameGood, namesDiffer, extentInside, extentsApart, flagsKnown, lengthGood, countGood, randomBare, tableRules, tableGood}
-use Rattle.directory.specs.Grouped.{entryGood, twoGood}
+use Rattle.directory.specs.Rules.{kindKnown, freeIsZero, isName, nameGood, namesDiffer, extentFits, extentInside, extentsApart, flagsKnown, lengthFits, lengthGood, countGood, randomBare, tableRules, tableGood}
+use Rattle.directory.specs.Grouped.{entryGood, usedGood, twoGood}
 use Rattle.directory.specs.declared.Entry.{Entry}
 
 module _ {A : Type 0} where
@@ -44,6 +45,39 @@ module _ (N : ℕ) (table : List Entry) where
   grouped =
       rw (of-one, of-two)
       (order (every kindKnown table) (every freeIsZero table) (every nameGood table) (pairwise namesDiffer table) (every (extentInside N) table) (pairwise extentsApart table) (every flagsKnown table) (every lengthGood table) (every countGood table) (every randomBare table))
+
+-- the rules of a used entry: that of its name, and the others one after another
+swap : (k n r : Bool) → (k && (n && r)) ≡ (n && (k && r))
+swap true n r = refl
+swap false n r = sym (and-false n)
+
+module _ (N : ℕ) (e : Entry) where
+  module _ (used : ¬ (e .kind ≡ 0)) where
+    pub used-good : entryGood N e ≡ (isName (e .name) && usedGood N e)
+    unfolding entryGood freeIsZero nameGood extentInside lengthGood usedGood
+    used-good = rw (ne-eqb (e .kind) 0 used) (swap (kindKnown e) (isName (e .name)) _)
+
+    pub used-unnamed : isName (e .name) ≡ false → entryGood N e ≡ false
+    used-unnamed n = used-good ∙ rw n
+
+    pub used-named : isName (e .name) ≡ true → entryGood N e ≡ usedGood N e
+    used-named n = used-good ∙ rw n
+
+  abbrev rules : List Bool
+  rules = kindKnown e ∷ extentFits N e ∷ flagsKnown e ∷ lengthFits e ∷ countGood e ∷ randomBare e ∷ []
+
+  used-rules : usedGood N e ≡ all rules
+  unfolding usedGood all
+  used-rules = rw (and-true (randomBare e))
+
+  -- the rule of number m is broken
+  pub used-bad : (m : ℕ) → getD rules m true ≡ false → usedGood N e ≡ false
+  used-bad m h = used-rules ∙ denied (all rules) (getD rules m true) (all-getD rules m) h
+
+  -- all but the last are kept
+  pub used-kept : kindKnown e ≡ true → extentFits N e ≡ true → flagsKnown e ≡ true → lengthFits e ≡ true → countGood e ≡ true → usedGood N e ≡ randomBare e
+  unfolding usedGood
+  used-kept k x f l c = rw (k, x, f, l, c)
 
 -- neither of two tests holds
 or-left : (a b : Bool) → (a || b) ≡ false → a ≡ false

@@ -1,8 +1,9 @@
 -- A name is read from its front: a capital or digit is no blank, so what stands behind it decides; where there is none, only blanks may stand.
-use mathlib.Core.Path.{_≡_, sym, ap, _∙_}
+use mathlib.Core.Path.{_≡_, refl, sym, ap, _∙_}
 use mathlib.Core.Bool.{true, false, _&&_, _||_, or-false, true≢false}
-use mathlib.Core.List.{List}
+use mathlib.Core.List.{List, [], _∷_}
 use Prim.Native.Nat.{ℕ, suc, _+_, _-_, _<_, _≤_}
+use native.Mathlib.Nat.{suc-ne-zero}
 use native.Mathlib.Numerals.{add-one}
 use native.Mathlib.Omega.{arith}
 use lib.ListN.{length, drop, getD, drop-of-length-le}
@@ -38,6 +39,11 @@ module _ (x : List ℕ) (k : ℕ) where
 pub name-whole : (x : List ℕ) → 1 ≤ length x → isName x ≡ (capital (getD x 0 0) && restOfName (drop 1 x))
 unfolding isName
 name-whole x h = ap isName (drop-cons x 0 0 h)
+
+pub name-none : (x : List ℕ) → length x ≡ 0 → isName x ≡ false
+unfolding isName
+name-none [] h = refl
+name-none (c ∷ x) h = absurd (suc-ne-zero (length x) h)
 
 -- a test of bytes from the last one back
 pub every-back : (x : List ℕ) (k : ℕ) → 1 ≤ k → k ≤ length x → (b : ℕ)

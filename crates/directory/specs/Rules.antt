@@ -43,8 +43,11 @@ unfoldable pub namesDiffer : Entry → Entry → Bool
 namesDiffer a b = isFree a || (isFree b || not (same (a .name) (b .name)))
 
 -- "first sector and sector count are at least 1 and their sum is at most N"
+abbrev pub extentFits : ℕ → Entry → Bool
+extentFits N e = leb 1 (e .first) && (leb 1 (e .sectors) && leb (e .first + e .sectors) N)
+
 unfoldable pub extentInside : ℕ → Entry → Bool
-extentInside N e = isFree e || (leb 1 (e .first) && (leb 1 (e .sectors) && leb (e .first + e .sectors) N))
+extentInside N e = isFree e || extentFits N e
 
 -- "extents share no sector"
 unfoldable pub extentsApart : Entry → Entry → Bool
@@ -63,8 +66,11 @@ longest kind = elim (eqb kind blocked) [
 ]
 
 -- "R is even and 2 to" that
+abbrev pub lengthFits : Entry → Bool
+lengthFits e = eqb (e .length % 2) 0 && (leb 2 (e .length) && leb (e .length) (longest (e .kind)))
+
 unfoldable pub lengthGood : Entry → Bool
-lengthGood e = isFree e || (eqb (e .length % 2) 0 && (leb 2 (e .length) && leb (e .length) (longest (e .kind))))
+lengthGood e = isFree e || lengthFits e
 
 -- "the count is at most the capacity for kinds 1 and 2"; for kind 3 it is a word of the directory, as every count is
 unfoldable pub countGood : Entry → Bool

@@ -12,10 +12,10 @@ ghost use Rattle.geometry.specs.Bytes.{padded, word};
 ghost use Rattle.geometry.specs.Bytes as Bytes;
 ghost use Rattle.geometry.specs.Lists.{every};
 ghost use Rattle.geometry.specs.Lists as Lists;
-ghost use Rattle.geometry.specs.Sizes.{blank, free};
+ghost use Rattle.geometry.specs.Sizes.{blank};
 ghost use Rattle.directory.specs.Entries.{entryFrom, entryBytes, oneWord, freeEntry, tableOf, entryAt, isMarked, isProtected};
-ghost use Rattle.directory.specs.Rules.{capital, digit, restOfName, isName, extentInside, longest, lengthGood, countGood, randomBare, tableGood};
-ghost use Rattle.directory.specs.Grouped.{entryGood, twoGood};
+ghost use Rattle.directory.specs.Rules.{capital, digit, restOfName, isName, extentFits, longest, lengthFits, countGood, randomBare, tableGood};
+ghost use Rattle.directory.specs.Grouped.{entryGood, usedGood, twoGood};
 ghost use Rattle.directory.specs.Search.{matches};
 ghost use Rattle.directory.specs.Search as Search;
 ghost use Rattle.directory.specs.Stamp.{stampBytes, stamped};
@@ -228,11 +228,11 @@ fn is_digit(c: u8) -> bool
 }
 
 // Where the capitals and digits behind a name's first byte end. Only blanks may stand from there on.
-fn name_end(x: [u8; 8]) -> usize
-    ensures { λ r. ⌜ restOfName (drop 1 x) ≡ every (λ b. eqb b blank) (drop r x) ⌝ }
+fn name_end(x: &[u8]) -> usize
+    ensures { λ r. ⌜ restOfName (drop 1 (now (x .entry))) ≡ every (λ b. eqb b blank) (drop r (now (x .entry))) ⌝ }
 {
     let mut k: usize = 1;
-    while k < 8 {
+    while k < x.len() {
         let c = x[k];
         if !(is_capital(c) | is_digit(c)) {
             return k;
@@ -243,11 +243,14 @@ fn name_end(x: [u8; 8]) -> usize
 }
 
 // Whether x is a capital letter followed by capitals or digits, then only blanks.
-fn is_name(x: [u8; 8]) -> bool
-    ensures { λ r. ⌜ r ≡ isName x ⌝ }
+pub fn is_name(x: &[u8]) -> bool
+    ensures { λ r. ⌜ r ≡ isName (now (x .entry)) ⌝ }
 {
+    if x.len() == 0 {
+        return false;
+    }
     let mut k = name_end(x);
-    while k < 8 {
+    while k < x.len() {
         if x[k] != Geometry::BLANK {
             return false;
         }
@@ -280,10 +283,9 @@ fn is_zero(e: Entry) -> bool
                 & ((e.first == 0) & ((e.sectors == 0) & ((e.count == 0) & (e.flags == 0))))))
 }
 
-// A used entry's extent lies in an image of n sectors, behind the directory.
+// An entry's extent lies in an image of n sectors, behind the directory.
 fn extent_inside(e: Entry, n: u32) -> bool
-    requires { ⌜ ¬ (e .kind ≡ free) ⌝ }
-    ensures { λ r. ⌜ r ≡ extentInside n e ⌝ }
+    ensures { λ r. ⌜ r ≡ extentFits n e ⌝ }
 {
     (1 <= e.first) & ((1 <= e.sectors) & ((e.first as u32) + (e.sectors as u32) <= n))
 }
@@ -301,10 +303,9 @@ fn longest_of(kind: u16) -> u16
     }
 }
 
-// A used entry's length is even, and within the bounds of its kind.
+// An entry's length is even, and within the bounds of its kind.
 fn length_good(e: Entry) -> bool
-    requires { ⌜ ¬ (e .kind ≡ free) ⌝ }
-    ensures { λ r. ⌜ r ≡ lengthGood e ⌝ }
+    ensures { λ r. ⌜ r ≡ lengthFits e ⌝ }
 {
     (e.length % 2 == 0) & ((2 <= e.length) & (e.length <= longest_of(e.kind)))
 }
@@ -327,16 +328,11 @@ fn random_bare(e: Entry) -> bool
     !(e.kind == Geometry::RANDOM) | ((e.count == 0) & !is_marked(e))
 }
 
-// Whether a used entry keeps the rules of one entry, in an image of n sectors: one after another, in document 01's order.
-fn used_good(e: Entry, n: u32) -> bool
-    requires { ⌜ ¬ (e .kind ≡ free) ⌝ }
-    ensures { λ r. ⌜ r ≡ entryGood n e ⌝ }
+// Whether an entry keeps the rules of a used one but that of its name, in an image of n sectors: one after another, in document 01's order.
+pub fn used_good(e: Entry, n: u32) -> bool
+    ensures { λ r. ⌜ r ≡ usedGood n e ⌝ }
 {
     if Geometry::RANDOM < e.kind {
-        return false;
-    }
-    let x = e.name;
-    if !is_name(x) {
         return false;
     }
     if !extent_inside(e, n) {
@@ -361,6 +357,10 @@ pub fn entry_good(e: Entry, n: u32) -> bool
     if e.kind == Geometry::FREE {
         is_zero(e)
     } else {
+        let x = e.name;
+        if !is_name(&x) {
+            return false;
+        }
         used_good(e, n)
     }
 }

@@ -16,8 +16,10 @@ use Rattle.geometry.proofs.Bytes.{part-split}
 use Rattle.geometry.proofs.Left.{every-on, every-off, every-end}
 use Rattle.geometry.proofs.Tests.{either, alike, and-left, and-right, and-both, every-alike}
 use Rattle.directory.specs.Entries.{entryBytes, freeEntry, entryAt}
-use Rattle.directory.specs.Grouped.{entryGood, twoGood}
+use Rattle.directory.specs.Grouped.{entryGood, usedGood, twoGood}
+use Rattle.directory.specs.Rules.{isName}
 use Rattle.directory.proofs.Free.{every-append, zero-entry, free-good}
+use Rattle.directory.proofs.Grouped.{used-unnamed, used-named}
 use Rattle.sessions.specs.Session.{idle, fresh, bare, unheld, isOf, ofOther, stand, fileOf, slotOf, openFiles, spotOf, heldGood, legal, bufferedLegal}
 use Rattle.sessions.specs.Grouped.{fileGood, openGood, holdGood}
 use Rattle.sessions.proofs.Grouped.{file-told, held-unused, held-told}
@@ -114,14 +116,28 @@ module _ (b : List ℕ) (i at : ℕ) (h : i < entries) (q : at ≡ entryWidth * 
       getD-row entryIn entryWidth entries b 0 i freeEntry h ∙ ap (entryIn b) e
 
   module _ (N : ℕ) where
-    -- the rules of one entry: of a free one, and of one that is read
+    -- the rules of one entry: of a free one, and of a used one, its name where it lies and the others of what is read
     pub free-told : (kind : ℕ) (r : Bool) → kind ≡ numberIn (part b (at + 8) 2) → kind ≡ 0 → r ≡ every (λ x. eqb x 0) (part b at 22)
         → entryGood N (getD (tableIn b) i freeEntry) ≡ r
     unfolding entryIn
     free-told kind r k z p = ap (entryGood N) entry-is ∙ free-good N (entryIn b at) (sym k ∙ z) ∙ sym (zero-by-field b at) ∙ sym p
 
-    pub one-told : (e : Entry) (r : Bool) → e ≡ entryIn b at → r ≡ entryGood N e → entryGood N (getD (tableIn b) i freeEntry) ≡ r
-    one-told e r p s = ap (entryGood N) (entry-is ∙ sym p) ∙ sym s
+    module _ (kind : ℕ) (k : kind ≡ numberIn (part b (at + 8) 2)) (u : ¬ (kind ≡ 0)) (r : Bool) (p : r ≡ isName (take ((at + 8) - at) (drop at b))) where
+      used : ¬ (entryIn b at .kind ≡ 0)
+      unfolding entryIn
+      used z = u (k ∙ z)
+
+      name-is : isName (entryIn b at .name) ≡ r
+      unfolding entryIn part
+      name-is =
+          let e : (at + 8) - at ≡ 8 = omega arith in
+          ap (λ (n : ℕ). isName (take n (drop at b))) (sym e) ∙ sym p
+
+      pub unnamed-told : r ≡ false → entryGood N (getD (tableIn b) i freeEntry) ≡ false
+      unnamed-told f = ap (entryGood N) entry-is ∙ used-unnamed N (entryIn b at) used (name-is ∙ f)
+
+      pub used-told : r ≡ true → (e : Entry) (s : Bool) → e ≡ entryIn b at → s ≡ usedGood N e → entryGood N (getD (tableIn b) i freeEntry) ≡ s
+      used-told t e s q m = ap (entryGood N) entry-is ∙ used-named N (entryIn b at) used (name-is ∙ t) ∙ ap (usedGood N) (sym q) ∙ sym m
 
   pub free-kind : (kind : ℕ) → kind ≡ numberIn (part b (at + 8) 2) → kind ≡ 0 → getD (tableIn b) i freeEntry .kind ≡ 0
   unfolding entryIn

@@ -11,9 +11,10 @@ use crate::unlawful_entry;
 use crate::wide_at;
 use crate::word_at;
 use directory::Entry;
-use directory::entry_good;
 use directory::free_entry;
+use directory::is_name;
 use directory::two_good;
+use directory::used_good;
 use geometry::Geometry;
 use geometry::part;
 use sessions::Holding;
@@ -88,8 +89,11 @@ fn table_good(b: &[u8], n: u32) -> bool
                 return false;
             }
         } else {
+            if !is_name(&b[at..at + 8]) {
+                return false;
+            }
             let e = entry_at(b, at);
-            if !entry_good(e, n) {
+            if !used_good(e, n) {
                 return false;
             }
             if !apart_before(b, at, e) {

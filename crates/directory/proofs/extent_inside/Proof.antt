@@ -1,6 +1,5 @@
--- `directory::extent_inside` meets its contract: the code is the definition, for a used entry.
-use borrow.Author.Tests.{ne-eqb}
-use Rattle.directory.specs.Rules.{extentInside}
+-- `directory::extent_inside` meets its contract: the code is the definition.
+use mathlib.Core.Path.{refl}
 use borrow.Author.Needs.{needs}
 use Rattle.directory.proofs.extent_inside.Statement.{statement}
 use Rattle.directory.proofs.extent_inside.Tie as tie
@@ -15,8 +14,7 @@ add-result : tie.Need-add-result
 add-result c = search needs
 
 returns : tie.Need-returns
-unfolding extentInside
-returns c = rw (ne-eqb _ _ (c .before .before .before .before .pre))
+returns c = refl
 
 pub extent-inside-spec : {M : Type 1} → statement M
 extent-inside-spec = tie.close (tie.spec cast-result cast-result-2 add-result returns)

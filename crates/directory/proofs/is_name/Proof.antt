@@ -1,4 +1,4 @@
--- `directory::is_name` meets its contract: what is left of the blanks decides, and then the first byte.
+-- `directory::is_name` meets its contract: no bytes are no name; else what is left of the blanks decides, and then the first byte.
 use mathlib.Core.Path.{_≡_, sym, _∙_}
 use mathlib.Core.Bool.{and-true, and-false}
 use Prim.Native.Nat.{_-_}
@@ -10,7 +10,7 @@ use Rattle.geometry.specs.Lists.{every}
 use Rattle.geometry.specs.Sizes.{blank}
 use Rattle.geometry.proofs.Left.{every-on, every-off, every-end}
 use Rattle.directory.specs.Rules.{capital, restOfName}
-use Rattle.directory.proofs.Names.{name-whole}
+use Rattle.directory.proofs.Names.{name-whole, name-none}
 use borrow.Author.Needs.{needs}
 use Rattle.directory.proofs.is_name.Statement.{statement}
 use Rattle.directory.proofs.is_name.Tie as tie
@@ -19,7 +19,10 @@ abbrev Inv-loop : tie.InvT-loop
 Inv-loop x k₀ k = restOfName (drop 1 x) ≡ every (λ b. eqb b blank) (drop k x)
 
 abbrev μ-loop : tie.MeasureT-loop
-μ-loop x k₀ k = 8 - k
+μ-loop x k₀ k = length x - k
+
+returns : tie.Need-returns Inv-loop μ-loop
+returns c = sym (name-none (c .before .before .args .x .now) (c .if1 .taken))
 
 name-end-requires : tie.Need-name-end-requires Inv-loop μ-loop
 name-end-requires c κs = search needs
@@ -27,15 +30,14 @@ name-end-requires c κs = search needs
 loop-holds : tie.Need-loop-holds Inv-loop μ-loop
 loop-holds c = c .name-end .ensures
 
-array-read-if1 : tie.Need-array-read-if1 Inv-loop μ-loop
-array-read-if1 c = search needs
+shared-slice-read-if2 : tie.Need-shared-slice-read-if2 Inv-loop μ-loop
+shared-slice-read-if2 c = search needs
 
-returns : tie.Need-returns Inv-loop μ-loop
-returns c =
-    let l = c .before .before in
-    let x = l .before .before .args .t1 in
-    let n : length x ≡ 8 = search needs in
-    let bad = l .loop .inv ∙ every-off _ x (l .loop .k) 0 (omega arith) (ne-eqb (getD x (l .loop .k) 0) blank (c .if1 .taken)) in
+returns-2 : tie.Need-returns-2 Inv-loop μ-loop
+returns-2 c =
+    let l = c .before .before .before in
+    let x = l .before .before .before .before .args .x .now in
+    let bad = l .loop .inv ∙ every-off _ x (l .loop .k) 0 (omega arith) (ne-eqb (getD x (l .loop .k) 0) blank (c .if2 .taken)) in
     sym (name-whole x (omega arith) ∙ rw (bad, and-false (capital (getD x 0 0))))
 
 add-k : tie.Need-add-k Inv-loop μ-loop
@@ -46,22 +48,20 @@ loop-less c = search needs
 
 loop-again : tie.Need-loop-again Inv-loop μ-loop
 loop-again c =
-    let l = c .before .before in
-    let x = l .before .before .args .t1 in
-    let n : length x ≡ 8 = search needs in
-    l .loop .inv ∙ every-on _ x (l .loop .k) 0 (omega arith) (eq-eqb (getD x (l .loop .k) 0) blank (c .if1 .left))
+    let l = c .before .before .before in
+    let x = l .before .before .before .before .args .x .now in
+    l .loop .inv ∙ every-on _ x (l .loop .k) 0 (omega arith) (eq-eqb (getD x (l .loop .k) 0) blank (c .if2 .left))
 
-array-read-is-capital : tie.Need-array-read-is-capital Inv-loop μ-loop
-array-read-is-capital c = search needs
+shared-slice-read-is-capital : tie.Need-shared-slice-read-is-capital Inv-loop μ-loop
+shared-slice-read-is-capital c = search needs
 
 is-capital-requires : tie.Need-is-capital-requires Inv-loop μ-loop
 is-capital-requires c κs = search needs
 
-returns-2 : tie.Need-returns-2 Inv-loop μ-loop
-returns-2 c =
-    let l = c .before .before in
-    let x = l .before .before .args .t1 in
-    let n : length x ≡ 8 = search needs in
+returns-3 : tie.Need-returns-3 Inv-loop μ-loop
+returns-3 c =
+    let l = c .before .before .before in
+    let x = l .before .before .before .before .args .x .now in
     let good = l .loop .inv ∙ every-end _ x (l .loop .k) (omega arith) in
     c .is-capital .ensures ∙ sym (name-whole x (omega arith) ∙ rw (good, and-true (capital (getD x 0 0))))
 
@@ -71,13 +71,14 @@ is-name-spec =
     (tie.spec
     Inv-loop
     μ-loop
+    returns
     name-end-requires
     loop-holds
-    array-read-if1
-    returns
+    shared-slice-read-if2
+    returns-2
     add-k
     loop-less
     loop-again
-    array-read-is-capital
+    shared-slice-read-is-capital
     is-capital-requires
-    returns-2)
+    returns-3)

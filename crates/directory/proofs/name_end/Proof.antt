@@ -14,13 +14,13 @@ abbrev Inv-loop : tie.InvT-loop
 Inv-loop x k₀ k = restOfName (drop 1 x) ≡ restOfName (drop k x)
 
 abbrev μ-loop : tie.MeasureT-loop
-μ-loop x k₀ k = 8 - k
+μ-loop x k₀ k = length x - k
 
 loop-holds : tie.Need-loop-holds Inv-loop μ-loop
 loop-holds c = refl
 
-array-read-c : tie.Need-array-read-c Inv-loop μ-loop
-array-read-c c = search needs
+shared-slice-read-c : tie.Need-shared-slice-read-c Inv-loop μ-loop
+shared-slice-read-c c = search needs
 
 is-capital-requires : tie.Need-is-capital-requires Inv-loop μ-loop
 is-capital-requires c κs = search needs
@@ -30,9 +30,8 @@ is-digit-requires c κs = search needs
 
 returns : tie.Need-returns Inv-loop μ-loop
 returns c =
-    let l = c .before .before .before .before in
-    let x = l .before .args .t1 in
-    let n : length x ≡ 8 = search needs in
+    let l = c .before .before .before .before .before in
+    let x = l .before .before .args .x .now in
     l .loop .inv ∙ rest-off x (l .loop .k) (omega arith) (rw (← c .before .before .is-capital .ensures, ← c .before .is-digit .ensures) (not-true _ (c .if1 .taken)))
 
 add-k : tie.Need-add-k Inv-loop μ-loop
@@ -43,15 +42,13 @@ loop-less c = search needs
 
 loop-again : tie.Need-loop-again Inv-loop μ-loop
 loop-again c =
-    let l = c .before .before .before .before in
-    let x = l .before .args .t1 in
-    let n : length x ≡ 8 = search needs in
+    let l = c .before .before .before .before .before in
+    let x = l .before .before .args .x .now in
     l .loop .inv ∙ rest-on x (l .loop .k) (omega arith) (rw (← c .before .before .is-capital .ensures, ← c .before .is-digit .ensures) (not-false _ (c .if1 .left)))
 
 returns-2 : tie.Need-returns-2 Inv-loop μ-loop
 returns-2 c =
-    let x = c .before .before .args .t1 in
-    let n : length x ≡ 8 = search needs in
+    let x = c .before .before .before .args .x .now in
     c .before .loop .inv ∙ rest-end x (c .before .loop .k) (omega arith)
 
 pub name-end-spec : {M : Type 1} → statement M
@@ -61,7 +58,7 @@ name-end-spec =
     Inv-loop
     μ-loop
     loop-holds
-    array-read-c
+    shared-slice-read-c
     is-capital-requires
     is-digit-requires
     returns

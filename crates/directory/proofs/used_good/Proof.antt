@@ -2,7 +2,7 @@
 use mathlib.Core.Path.{sym, _∙_}
 use borrow.Author.Tests.{le-leb, lt-leb, not-true, not-false}
 use Rattle.directory.specs.Rules.{kindKnown, flagsKnown}
-use Rattle.directory.proofs.Free.{used-bad, used-good, used-name}
+use Rattle.directory.proofs.Grouped.{used-bad, used-kept}
 use borrow.Author.Needs.{needs}
 use Rattle.directory.proofs.used_good.Statement.{statement}
 use Rattle.directory.proofs.used_good.Tie as tie
@@ -10,79 +10,67 @@ use Rattle.directory.proofs.used_good.Tie as tie
 returns : tie.Need-returns
 unfolding kindKnown
 returns c =
-    let s = c .before .before in
-    sym (used-bad (s .args .n) (s .args .e) (s .pre) 0 (lt-leb _ _ (c .if1 .taken)))
-
-is-name-requires : tie.Need-is-name-requires
-is-name-requires c κs = search needs
-
-returns-2 : tie.Need-returns-2
-returns-2 c =
-    let s = c .before .before .before .before .before in
-    sym (used-bad (s .args .n) (s .args .e) (s .pre) 1 (used-name (s .args .n) (s .args .e) (s .pre) ∙ sym (c .before .is-name .ensures) ∙ not-true _ (c .if2 .taken)))
+    let a = c .before .before .args in
+    sym (used-bad (a .n) (a .e) 0 (lt-leb _ _ (c .if1 .taken)))
 
 extent-inside-requires : tie.Need-extent-inside-requires
 extent-inside-requires c κs = search needs
 
-returns-3 : tie.Need-returns-3
-returns-3 c =
-    let s = c .before .before .before .before .before .before .before in
-    sym (used-bad (s .args .n) (s .args .e) (s .pre) 2 (sym (c .before .extent-inside .ensures) ∙ not-true _ (c .if3 .taken)))
+returns-2 : tie.Need-returns-2
+returns-2 c =
+    let a = c .before .before .before .before .args in
+    sym (used-bad (a .n) (a .e) 1 (sym (c .before .extent-inside .ensures) ∙ not-true _ (c .if2 .taken)))
 
-returns-4 : tie.Need-returns-4
+returns-3 : tie.Need-returns-3
 unfolding flagsKnown
-returns-4 c =
-    let s = c .before .before .before .before .before .before .before .before .before in
-    sym (used-bad (s .args .n) (s .args .e) (s .pre) 3 (lt-leb _ _ (c .if4 .taken)))
+returns-3 c =
+    let a = c .before .before .before .before .before .before .args in
+    sym (used-bad (a .n) (a .e) 2 (lt-leb _ _ (c .if3 .taken)))
 
 length-good-requires : tie.Need-length-good-requires
 length-good-requires c κs = search needs
 
-returns-5 : tie.Need-returns-5
-returns-5 c =
-    let s = c .before .before .before .before .before .before .before .before .before .before .before in
-    sym (used-bad (s .args .n) (s .args .e) (s .pre) 4 (sym (c .before .length-good .ensures) ∙ not-true _ (c .if5 .taken)))
+returns-4 : tie.Need-returns-4
+returns-4 c =
+    let a = c .before .before .before .before .before .before .before .before .args in
+    sym (used-bad (a .n) (a .e) 3 (sym (c .before .length-good .ensures) ∙ not-true _ (c .if4 .taken)))
 
 count-good-requires : tie.Need-count-good-requires
 count-good-requires c κs = search needs
 
-returns-6 : tie.Need-returns-6
-returns-6 c =
-    let s = c .before .before .before .before .before .before .before .before .before .before .before .before .before in
-    sym (used-bad (s .args .n) (s .args .e) (s .pre) 5 (sym (c .before .count-good .ensures) ∙ not-true _ (c .if6 .taken)))
+returns-5 : tie.Need-returns-5
+returns-5 c =
+    let a = c .before .before .before .before .before .before .before .before .before .before .args in
+    sym (used-bad (a .n) (a .e) 4 (sym (c .before .count-good .ensures) ∙ not-true _ (c .if5 .taken)))
 
 random-bare-requires : tie.Need-random-bare-requires
 random-bare-requires c κs = search needs
 
-returns-7 : tie.Need-returns-7
+returns-6 : tie.Need-returns-6
 unfolding kindKnown flagsKnown
-returns-7 c =
+returns-6 c =
     let f = c .before .before .before .before .before in
     let x = f .before .before .before in
-    let k = x .before .before .before .before in
-    let s = k .before .before in
+    let a = x .before .before .before .args in
     c .random-bare .ensures
-    ∙ sym (used-good (s .args .n) (s .args .e) (s .pre)
-    (le-leb _ _ (k .if1 .left))
-    (used-name (s .args .n) (s .args .e) (s .pre) ∙ sym (x .before .before .is-name .ensures) ∙ not-false _ (x .before .if2 .left))
-    (sym (x .extent-inside .ensures) ∙ not-false _ (f .before .before .if3 .left))
-    (le-leb _ _ (f .if4 .left))
-    (sym (c .before .before .before .before .length-good .ensures) ∙ not-false _ (c .before .before .before .if5 .left))
-    (sym (c .before .before .count-good .ensures) ∙ not-false _ (c .before .if6 .left)))
+    ∙ sym (used-kept (a .n) (a .e)
+    (le-leb _ _ (x .before .if1 .left))
+    (sym (x .extent-inside .ensures) ∙ not-false _ (f .before .before .if2 .left))
+    (le-leb _ _ (f .if3 .left))
+    (sym (c .before .before .before .before .length-good .ensures) ∙ not-false _ (c .before .before .before .if4 .left))
+    (sym (c .before .before .count-good .ensures) ∙ not-false _ (c .before .if5 .left)))
 
 pub used-good-spec : {M : Type 1} → statement M
 used-good-spec =
     tie.close
     (tie.spec
     returns
-    is-name-requires
-    returns-2
     extent-inside-requires
+    returns-2
     returns-3
-    returns-4
     length-good-requires
-    returns-5
+    returns-4
     count-good-requires
-    returns-6
+    returns-5
     random-bare-requires
-    returns-7)
+    returns-6)

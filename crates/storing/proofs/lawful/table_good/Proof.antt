@@ -12,7 +12,7 @@ use Rattle.directory.specs.Grouped.{entryGood, twoGood}
 use Rattle.directory.proofs.Grouped.{grouped, free-apart}
 use Rattle.storing.specs.Stored.{tableIn}
 use Rattle.storing.proofs.Read.{length-table}
-use Rattle.storing.proofs.Lent.{free-told, free-kind, one-told, all-told}
+use Rattle.storing.proofs.Lent.{free-told, free-kind, unnamed-told, used-told, all-told}
 use borrow.Author.Needs.{needs}
 use Rattle.storing.proofs.lawful.table_good.Statement.{statement}
 use Rattle.storing.proofs.lawful.table_good.Tie as tie
@@ -45,32 +45,61 @@ returns c =
     let bad = free-told (a .b .now) i (l .loop .at) (omega arith) (omega arith) (a .n) _ _ (d .word-at .ensures) (c .before .before .if1 .taken) (c .before .is-zero-at .ensures) ∙ not-true _ (c .if2 .taken) in
     sym (grouped (a .n) (tableIn (a .b .now)) ∙ front-one (entryGood (a .n)) twoGood (tableIn (a .b .now)) i freeEntry (omega arith) bad)
 
-entry-at-requires : tie.Need-entry-at-requires Inv-loop μ-loop
-entry-at-requires c κs = search needs
+add-is-name : tie.Need-add-is-name Inv-loop μ-loop
+add-is-name c = search needs
 
-entry-good-requires : tie.Need-entry-good-requires Inv-loop μ-loop
-entry-good-requires c κs = search needs
+sub-is-name : tie.Need-sub-is-name Inv-loop μ-loop
+sub-is-name c = search needs
+
+part-is-name-start : tie.Need-part-is-name-start Inv-loop μ-loop
+part-is-name-start c = search needs
+
+part-is-name-end : tie.Need-part-is-name-end Inv-loop μ-loop
+part-is-name-end c = search needs
+
+is-name-requires : tie.Need-is-name-requires Inv-loop μ-loop
+is-name-requires c κs = search needs
 
 returns-2 : tie.Need-returns-2 Inv-loop μ-loop
 returns-2 c =
-    let l = c .before .before .before .before .before .before in
+    let u = c .before .before .before in
+    let d = u .before in
+    let l = d .before .before in
     let a = l .before .before .args in
     let i = l .loop .at / 22 in
     let n : length (tableIn (a .b .now)) ≡ 18 = length-table (a .b .now) in
-    let bad = one-told (a .b .now) i (l .loop .at) (omega arith) (omega arith) (a .n) _ _ (c .before .before .entry-at .ensures) (c .before .entry-good .ensures) ∙ not-true _ (c .if3 .taken) in
+    let bad = unnamed-told (a .b .now) i (l .loop .at) (omega arith) (omega arith) (a .n) _ (d .word-at .ensures) (u .if1 .left) _ (c .before .is-name .ensures) (not-true _ (c .if3 .taken)) in
+    sym (grouped (a .n) (tableIn (a .b .now)) ∙ front-one (entryGood (a .n)) twoGood (tableIn (a .b .now)) i freeEntry (omega arith) bad)
+
+entry-at-requires : tie.Need-entry-at-requires Inv-loop μ-loop
+entry-at-requires c κs = search needs
+
+used-good-requires : tie.Need-used-good-requires Inv-loop μ-loop
+used-good-requires c κs = search needs
+
+returns-3 : tie.Need-returns-3 Inv-loop μ-loop
+returns-3 c =
+    let m = c .before .before .before in
+    let u = m .before .before .before in
+    let d = u .before in
+    let l = d .before .before in
+    let a = l .before .before .args in
+    let i = l .loop .at / 22 in
+    let n : length (tableIn (a .b .now)) ≡ 18 = length-table (a .b .now) in
+    let bad = used-told (a .b .now) i (l .loop .at) (omega arith) (omega arith) (a .n) _ (d .word-at .ensures) (u .if1 .left) _ (m .before .is-name .ensures) (not-false _ (m .if3 .left)) _ _ (c .before .before .entry-at .ensures) (c .before .used-good .ensures) ∙ not-true _ (c .if4 .taken) in
     sym (grouped (a .n) (tableIn (a .b .now)) ∙ front-one (entryGood (a .n)) twoGood (tableIn (a .b .now)) i freeEntry (omega arith) bad)
 
 apart-before-requires : tie.Need-apart-before-requires Inv-loop μ-loop
 apart-before-requires c κs = search needs
 
-returns-3 : tie.Need-returns-3 Inv-loop μ-loop
-returns-3 c =
+returns-4 : tie.Need-returns-4 Inv-loop μ-loop
+returns-4 c =
     let e = c .before .before .before .before in
-    let l = e .before .before .before .before in
+    let l = e .before .before .before .before .before .before .before in
     let a = l .before .before .args in
     let i = l .loop .at / 22 in
     let n : length (tableIn (a .b .now)) ≡ 18 = length-table (a .b .now) in
-    let bad = all-told (a .b .now) i (l .loop .at) (omega arith) (omega arith) _ _ (e .entry-at .ensures) (c .before .apart-before .ensures) ∙ not-true _ (c .if4 .taken) in
+    let bad = all-told (a .b .now) i (l .loop .at) (omega arith) (omega arith) _ _ (e .entry-at .ensures) (c .before .apart-before .ensures) ∙ not-true _ (c .if5 .taken) in
     sym (grouped (a .n) (tableIn (a .b .now)) ∙ front-some (entryGood (a .n)) twoGood (tableIn (a .b .now)) i freeEntry (omega arith) bad)
 
 add-at : tie.Need-add-at Inv-loop μ-loop
@@ -94,13 +123,13 @@ loop-again c =
     let on = front-on (entryGood (a .n)) twoGood (tableIn b) i freeEntry h i refl (l .loop .inv .0) in (
       rw next at (⊎-elim
           (λ w. on (free-told b i (l .loop .at) m q (a .n) _ _ (d .word-at .ensures) (w .0 .taken) (w .1 .ensures) ∙ not-false _ (w .2 .left)) (free-apart _ (free-kind b i (l .loop .at) m q _ (d .word-at .ensures) (w .0 .taken)) (take i (tableIn b))))
-          (λ w. on (one-told b i (l .loop .at) m q (a .n) _ _ (w .1 .ensures) (w .2 .ensures) ∙ not-false _ (w .3 .left)) (all-told b i (l .loop .at) m q _ _ (w .1 .ensures) (w .4 .ensures) ∙ not-false _ (w .5 .left)))
+          (λ w. on (used-told b i (l .loop .at) m q (a .n) _ (d .word-at .ensures) (w .0 .left) _ (w .2 .ensures) (not-false _ (w .3 .left)) _ _ (w .4 .ensures) (w .5 .ensures) ∙ not-false _ (w .6 .left)) (all-told b i (l .loop .at) m q _ _ (w .4 .ensures) (w .7 .ensures) ∙ not-false _ (w .8 .left)))
           (c .if1 .came)),
       (omega arith, omega arith),
     )
 
-returns-4 : tie.Need-returns-4 Inv-loop μ-loop
-returns-4 c =
+returns-5 : tie.Need-returns-5 Inv-loop μ-loop
+returns-5 c =
     let l = c .before in
     let a = l .before .before .args in
     let n : length (tableIn (a .b .now)) ≡ 18 = length-table (a .b .now) in
@@ -117,12 +146,18 @@ table-good-spec =
     word-at-requires
     is-zero-at-requires
     returns
-    entry-at-requires
-    entry-good-requires
+    add-is-name
+    sub-is-name
+    part-is-name-start
+    part-is-name-end
+    is-name-requires
     returns-2
-    apart-before-requires
+    entry-at-requires
+    used-good-requires
     returns-3
+    apart-before-requires
+    returns-4
     add-at
     loop-less
     loop-again
-    returns-4)
+    returns-5)
