@@ -1,17 +1,13 @@
 -- A request by way of lent bytes: the engine's step on the session that they are, done on the bytes themselves. One argument for both engines.
-use mathlib.Core.Path.{_≡_, sym, ap, _∙_}
-use mathlib.Core.Bool.{true, false}
+use mathlib.Core.Path.{_≡_, ap}
 use mathlib.Core.List.{List}
-use Prim.Native.Nat.{ℕ, _≤_, _<_}
-use native.Mathlib.Omega.{arith}
-use Rattle.geometry.proofs.Tests.{either}
+use Prim.Native.Nat.{ℕ}
 use Rattle.requests.specs.Numbers.{numberOf}
 use Rattle.requests.specs.declared.Answer.{Answer}
 use Rattle.requests.specs.declared.Request.{Request}
 use Rattle.steps.specs.Step.{After}
 use Rattle.judging.specs.Lent.{afterIn, lentAfter}
-use Rattle.plain.specs.Plain.{served}
-use Rattle.board.specs.Board.{Engine, plainEngine, left, kept, requested}
+use Rattle.board.specs.Board.{Engine, left, kept, requested}
 use Rattle.board.specs.Codes.{unknownNumber}
 use Rattle.requests.specs.declared.Asked.{Asked}
 use Rattle.requests.specs.declared.Asked.the-variants.{For, Unknown}

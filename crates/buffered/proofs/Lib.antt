@@ -1,2 +1,4 @@
 pub mod Acts
 pub mod Stepped
+pub mod Laid
+pub mod Served

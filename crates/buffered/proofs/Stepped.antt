@@ -32,7 +32,8 @@ use Rattle.steps.specs.Verdict.{seenBytes, seenScene, entryNext, fileNext, buff
 use Rattle.straight.specs.Straight.{codeGiven, Encoded}
 use Rattle.straight.proofs.Judged.{judgement, judged, buffer-judged}
 use Rattle.held.specs.Held.{bench}
-use Rattle.buffered.specs.Buffered.{sceneWith, Found, stateAt, lentBy}
+use Rattle.storing.specs.Lent.{inUse, stateAt, lentBy}
+use Rattle.buffered.specs.Buffered.{sceneWith, Found}
 use Rattle.straight.proofs.Goes.{right, there, room, suits, lies-in, encoded}
 use Rattle.directory.specs.declared.Entry.{Entry}
 use Rattle.requests.specs.declared.Request.{Request}
@@ -75,13 +76,13 @@ seen-held e f b image l h = either (b .holds)
 -- whatever is put past the end of the states, if it is not in use
 module _ (files : List BufferedFile) (k : ℕ) (d : BufferedFile) where
   pub state-used : k < length files → getD files k d .file .used ≡ true → getD files k d ≡ stateAt files k
-  unfolding stateAt
+  unfolding stateAt inUse
   state-used l h =
       let p : getD files k d ≡ getD files k (fresh idle) = getD-any files k d (fresh idle) l in
       p ∙ sym (chosen (getD files k (fresh idle) .file .used) (getD files k (fresh idle)) (fresh idle) (rw p at h))
 
   pub state-unused : d .file .used ≡ false → getD files k d .file .used ≡ false → fresh idle ≡ stateAt files k
-  unfolding stateAt
+  unfolding stateAt inUse
   state-unused z h = sym (not-chosen (getD files k (fresh idle) .file .used) (getD files k (fresh idle)) (fresh idle) (go (decLt k (length files))))
     where
       go : Dec (k < length files) → getD files k (fresh idle) .file .used ≡ false
@@ -99,7 +100,7 @@ module _ (s : BufferedSession) (i : ℕ) where
   b = getD (s .files) k (fresh idle)
 
   -- it is in use where the entry is open
-  in-use : f .used ≡ b .file .used
+  pub in-use : f .used ≡ b .file .used
   in-use = go (standing s i)
     where
       unused : (n : ℕ) → n ≡ firstWith (λ f. not (f .used)) (bare s .files) → Dec (n < length (bare s .files)) → getD (bare s .files) n idle .used ≡ false
@@ -110,8 +111,8 @@ module _ (s : BufferedSession) (i : ℕ) where
       go (isOpen n o) = ap (λ (f : OpenFile). f .used) (o .file) ∙ ap (λ (n : ℕ). heldAt s n .file .used) (sym (o .slot))
       go (isShut z) = ap (λ (f : OpenFile). f .used) (z .file) ∙ sym (unused k (z .slot) (decLt k (length (bare s .files)))) ∙ ap (λ (f : OpenFile). f .used) (bare-at s k)
 
-  state-is : stateAt (s .files) k ≡ heldOf s i
-  unfolding stateAt heldOf
+  pub state-is : stateAt (s .files) k ≡ heldOf s i
+  unfolding stateAt inUse heldOf
   state-is = ap (λ (t : Bool). elim t [ true ↦ b | false ↦ fresh idle ]) (sym in-use)
 
   pub slot-told : (bares : List OpenFile) (n : ℕ) → bares ≡ bare s .files → n ≡ slotOf bares i → n ≡ k
@@ -165,12 +166,12 @@ module _ (image : List ℕ) (s : BufferedSession) (i : ℕ) (q : Request) (given
   unfolding bare
   right-code = right image (bare s) ok (bare-legal image s) i [] given
 
-  verdict-is : length (held .buffer) ≡ sector
+  pub verdict-is : length (held .buffer) ≡ sector
       → verdictOf (legal image (bare s) && every (heldGood (s .table)) (s .files)) files (length buffer) n q found ≡ j
   unfolding seenScene bufferedScene bufferedLegal bare
   verdict-is l = judged files (length buffer) q ok n found c refl refl (seen l) right-code
 
-  buffer-is : length (held .buffer) ≡ sector
+  pub buffer-is : length (held .buffer) ≡ sector
       → bufferNext (answerOf (legal image (bare s) && every (heldGood (s .table)) (s .files)) files (length buffer) n q found) q found buffer ≡ bufferNext a q c buffer
   unfolding seenScene bufferedScene bufferedLegal bare
   buffer-is l = buffer-judged files (length buffer) q ok n found c (seen l) right-code buffer

@@ -1,25 +1,30 @@
 -- What the functions of this crate hand on to each other. Definitions only.
 use mathlib.Core.Path.{_≡_}
-use mathlib.Core.Bool.{true, false, not}
+use mathlib.Core.Bool.{Bool, true, false, not}
 use mathlib.Core.List.{List, [], _∷_}
-use Prim.Native.Nat.{ℕ}
+use Prim.Native.Nat.{ℕ, _+_, _*_}
 use lib.Dec.{eqb}
-use lib.ListN.{getD}
-use Rattle.geometry.specs.Sizes.{compressed}
+use lib.ListN.{length}
+use Rattle.geometry.specs.Bytes.{part, lay}
+use Rattle.geometry.specs.Sizes.{sector, compressed}
 use Rattle.directory.specs.Entries.{isKind}
 use Rattle.packing.specs.Reading.{startOf}
 use Rattle.sessions.specs.Session.{idle, fresh, extentWith}
-use Rattle.steps.specs.Effects.{Effect, storeEffect, effects}
+use Rattle.steps.specs.Effects.{Effect, Bench, storeEffect, effects}
 use Rattle.steps.specs.Next.{Scene}
-use Rattle.steps.specs.Step.{After}
+use Rattle.steps.specs.Step.{After, bufferedStep}
 use Rattle.straight.specs.Straight.{writing}
-use Rattle.held.specs.Held.{scene, readWith, writeWith}
+use Rattle.held.specs.Held.{lent, scene, readWith, writeWith}
+use Rattle.storing.specs.Stored.{heldWidth, filesAt, isBufferedStored, bufferedIn, bufferedStored, layEntry, layHeld, layState}
+use Rattle.judging.specs.Lent.{lentAfter}
 use Rattle.directory.specs.declared.Entry.{Entry}
+use Rattle.sessions.specs.declared.Holding.{Holding}
 use Rattle.requests.specs.declared.Request.{Request}
 use Rattle.requests.specs.declared.Request.the-variants.{Open, Read, Write, GranuleRead, GranuleWrite, GranuleLook, Position}
 use Rattle.sessions.specs.declared.BufferedFile.{BufferedFile}
 use Rattle.sessions.specs.declared.BufferedSession.{BufferedSession}
 use Rattle.sessions.specs.declared.OpenFile.{OpenFile}
+use Rattle.steps.specs.declared.Verdict.{Verdict}
 use Rattle.buffered.specs.declared.Reply.{Reply}
 
 -- the scene of a request, from its parts
@@ -40,14 +45,34 @@ effectsWith (GranuleWrite g) e f given code k = storeEffect (writing e f given) 
 effectsWith (GranuleLook g) e f given code k = []
 effectsWith (Position o) e f given code k = effects (Position o) (scene 0 e)
 
--- the state of number k with its buffer; a fresh one where that is not in use
-unfoldable pub stateAt : List BufferedFile → ℕ → BufferedFile
-stateAt files k = elim (getD files k (fresh idle) .file .used) [ true ↦ getD files k (fresh idle) | false ↦ fresh idle ]
-
--- the held sector, if there is one
-unfoldable pub lentBy : BufferedFile → List ℕ
-lentBy b = elim (b .holds) [ true ↦ b .buffer | false ↦ [] ]
-
 -- a reply, with the image and the caller's buffer behind it
 abbrev pub after : Reply → List ℕ → List ℕ → After BufferedSession
 after r image buffer = record { answer = r .answer; image = image; session = r .session; buffer = buffer }
+
+-- ---- a request on a session in lent bytes
+
+-- where the buffer of state k begins
+abbrev pub bufferAt : ℕ → ℕ
+bufferAt k = filesAt + heldWidth * k + 36
+
+-- the bytes with a fresh state of number k, if that is not in use
+unfoldable pub readied : List ℕ → ℕ → Bool → List ℕ
+readied b k used = elim used [ true ↦ b | false ↦ layHeld b k (fresh idle) ]
+
+-- what a buffer of state k in such bytes comes to: image, bytes and what the file holds are then as w has them
+abbrev pub Acted : List ℕ → List ℕ → ℕ → Holding → (Bench → Bench) → List ℕ → List ℕ → Holding → Type 0
+Acted image b k h act image′ b′ h′ =
+    let w : Bench = act (lent image h (part b (bufferAt k) sector)) in
+    (lent image′ h′ (w .file .buffer) ≡ w) × (b′ ≡ lay b (bufferAt k) (w .file .buffer)) × (length (w .file .buffer) ≡ sector)
+
+-- the bytes with a verdict's entry of number i and its state of number k: one that is open keeps its buffer, one that is closed gets a fresh one
+unfoldable pub layNext : List ℕ → ℕ → ℕ → Verdict → Holding → List ℕ
+layNext b i k v h = elim (v .file .used) [
+  | true ↦ layState (layEntry b i (v .entry)) k (v .file) (h .holds) (h .held) (h .changed)
+  | false ↦ layHeld (layEntry b i (v .entry)) k (fresh (v .file))
+]
+
+-- a request on the session that lent bytes are
+unfoldable pub served : List ℕ → List ℕ → ℕ → Request → List ℕ → List ℕ → After (List ℕ)
+served image session i q given buffer =
+    lentAfter (isBufferedStored session) bufferedStored session (bufferedStep image (bufferedIn session) i q given buffer)

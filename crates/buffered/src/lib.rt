@@ -5,6 +5,7 @@ use directory::with_entry;
 use geometry::Geometry;
 use geometry::part;
 use judging::verdict;
+use judging::verdict_buffered_in;
 use mounting::BufferedMounted;
 use requests::Answer;
 use requests::Request;
@@ -22,6 +23,10 @@ use sessions::idle;
 use sessions::slot_of;
 use sessions::spot_of;
 use steps::Verdict;
+use storing::Form;
+use storing::put_entry;
+use storing::put_held;
+use storing::put_state;
 use straight::encode_given;
 use straight::store;
 ghost use mathlib.Core.Path.{_≡_};
@@ -38,7 +43,10 @@ ghost use Rattle.steps.specs.Verdict.{seenScene, bufferNext, answerOf, verdictO
 ghost use Rattle.steps.proofs.Inside.{AllSuit};
 ghost use Rattle.straight.specs.Straight.{Encoded};
 ghost use Rattle.held.specs.Held.{bench, lent, scene, heldAll};
-ghost use Rattle.buffered.specs.Buffered.{sceneWith, Found, effectsWith, stateAt, lentBy, after};
+ghost use Rattle.storing.specs.Stored.{entryWidth, entryStored};
+ghost use Rattle.judging.specs.Lent.{afterIn};
+ghost use Rattle.storing.specs.Lent.{stateAt, lentBy};
+ghost use Rattle.buffered.specs.Buffered.{sceneWith, Found, effectsWith, after, readied, Acted, layNext, served};
 
 // ---- what a request answered 0 does
 
@@ -256,6 +264,119 @@ pub fn request(
 {
     let mut code = [0u8; 135];
     request_in(image, s, i, q, given, &mut code, buffer)
+}
+
+// ---- a request on a session in lent bytes
+
+// Makes state k fresh, if it is not in use.
+fn make_ready(session: &mut [u8], k: usize, used: bool)
+    ensures { λ _. ⌜ now (session .exit) ≡ readied (now (session .entry)) k used ⌝ }
+{
+    if !used {
+        put_held(session, k, fresh(idle()));
+    }
+}
+
+// As `act`, on the buffer of state n, which is made fresh first if it is not in use.
+fn act_in(
+    image: &mut [u8],
+    session: &mut [u8],
+    n: usize,
+    i: usize,
+    e: Entry,
+    f: OpenFile,
+    q: Request,
+    given: &[u8],
+    code: &[u8],
+    k: u32,
+    h: Holding,
+) -> Holding
+    requires { ⌜ (n < 4) × (length (now session) ≡ 1980) ⌝ }
+    ensures { λ r. ⌜ Acted (now (image .entry)) (readied (now (session .entry)) n (f .used)) n h (heldAll (scene i e) (effectsWith q e f (now (given .entry)) (now (code .entry)) k)) (now (image .exit)) (now (session .exit)) r ⌝ }
+{
+    make_ready(session, n, f.used);
+    let at = Form::FILES + Form::HELD * n + 36;
+    let end = at + Geometry::SECTOR;
+    act(image, i, e, f, q, given, code, k, h, &mut session[at..end])
+}
+
+// Lays the entry of a verdict over that of entry i, and its state over that of state k, with what it holds.
+fn put_next(session: &mut [u8], i: usize, k: usize, v: Verdict, h: Holding)
+    ensures { λ _. ⌜ (now (session .exit) ≡ layNext (now (session .entry)) i k v h) × (length (entryStored (v .entry)) ≡ entryWidth) ⌝ }
+{
+    let e = v.entry;
+    let f = v.file;
+    put_entry(session, i, e);
+    if f.used {
+        put_state(session, k, f, h.holds, h.held, h.changed);
+    } else {
+        put_held(session, k, fresh(f));
+    }
+}
+
+// A request, with room for a code.
+fn serve_in(
+    image: &mut [u8],
+    session: &mut [u8],
+    i: usize,
+    q: Request,
+    given: &[u8],
+    code: &mut [u8; 135],
+    buffer: &mut [u8],
+) -> Answer
+    ensures { λ r. ⌜ afterIn r (now (image .exit)) (now (session .exit)) (now (buffer .exit))
+        ≡ served (now (image .entry)) (now (session .entry)) i q (now (given .entry)) (now (buffer .entry)) ⌝ }
+{
+    let r = verdict_buffered_in(image, session, i, q, given, code, buffer);
+    let seen = r.seen;
+    let e = seen.entry;
+    let f = seen.file;
+    let k = seen.slot;
+    let h = seen.hold;
+    let v = r.verdict;
+    let a = v.answer;
+    match a {
+        Answer::Done => {
+            let next = v.file;
+            let here = next.here;
+            let held = act_in(
+                image,
+                session,
+                k,
+                i,
+                e,
+                f,
+                q,
+                given,
+                part(code, 0, r.size),
+                here.sector,
+                h,
+            );
+            put_next(session, i, k, v, held);
+            a
+        }
+        Answer::Met(_) => {
+            put_next(session, i, k, v, h);
+            a
+        }
+        Answer::Refused(_) => a,
+    }
+}
+
+// One request on entry i of the session that the lent bytes are, as `request` does it.
+pub fn serve(
+    image: &mut [u8],
+    session: &mut [u8],
+    i: usize,
+    q: Request,
+    given: &[u8],
+    buffer: &mut [u8],
+) -> Answer
+    ensures { λ r. ⌜ afterIn r (now (image .exit)) (now (session .exit)) (now (buffer .exit))
+        ≡ served (now (image .entry)) (now (session .entry)) i q (now (given .entry)) (now (buffer .entry)) ⌝ }
+{
+    let mut code = [0u8; 135];
+    serve_in(image, session, i, q, given, &mut code, buffer)
 }
 
 // ---- mounting, looks and positions

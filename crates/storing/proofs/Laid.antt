@@ -5,10 +5,12 @@ use mathlib.Core.Bool.{Bool}
 use mathlib.Core.List.{List, [], _∷_, _++_}
 use Prim.Native.Nat.{ℕ, _+_, _*_, _≤_, _<_}
 use native.Mathlib.Omega.{arith}
+use native.Mathlib.Decide.{decLt}
 use lib.ListN.{length, getD, length-append}
 use borrow.Author.Tests.{lt-ltb, le-ltb, eq-eqb, ne-eqb}
 use Rattle.geometry.specs.Bytes.{lay}
-use Rattle.geometry.proofs.Bytes.{length-lay, lay-append, part-all, part-lay-same}
+use Rattle.geometry.specs.Sizes.{mostOpen}
+use Rattle.geometry.proofs.Bytes.{length-lay, lay-short, lay-append, part-all, part-lay-same}
 use Rattle.directory.proofs.Back.{eight}
 use Rattle.directory.specs.declared.Entry.{Entry}
 use Rattle.sessions.specs.declared.BufferedFile.{BufferedFile}
@@ -17,7 +19,7 @@ use Rattle.sessions.specs.declared.OpenFile.{OpenFile}
 use Rattle.sessions.specs.declared.Session.{Session}
 use Rattle.storing.specs.Numbers.{bytesOf, flagOf}
 use Rattle.storing.specs.Rows.{rowOf}
-use Rattle.storing.specs.Stored.{entryWidth, fileWidth, heldWidth, filesAt, sessionSize, bufferedSize, entryStored, placeStored, fileStored, holdStored, heldStored, stored, bufferedStored, layPart, laySession, layBuffered}
+use Rattle.storing.specs.Stored.{entryWidth, fileWidth, heldWidth, filesAt, sessionSize, bufferedSize, entryStored, placeStored, fileStored, holdStored, heldStored, stored, bufferedStored, layPart, layState, laySession, layBuffered}
 
 -- ---- bytes written out
 
@@ -145,6 +147,33 @@ held-laid f b x y b₁ b₂ b₃ at h n ex ey e₁ e₂ e₃ =
     ∙ lay-append (lay b at x) (at + 30) y (f .buffer) (omega arith)
     ∙ ap (λ (k : ℕ). lay (lay (lay b at x) (at + 30) y) k (f .buffer)) z
     ∙ sym (e₃ ∙ ap (λ (r : List ℕ). lay r (at + 36) (f .buffer)) (e₂ ∙ ap (λ (r : List ℕ). lay r (at + 30) y) e₁)))
+
+-- ---- a state without its buffer, laid in two parts
+
+module _ (f : OpenFile) (holds : Bool) (held : ℕ) (changed : Bool) (b : List ℕ) (k : ℕ) where
+  pub length-state : length (fileStored f ++ holdStored holds held changed) ≡ 36
+  length-state = length-append (fileStored f) (holdStored holds held changed) ∙ rw (length-file f, length-hold holds held changed)
+
+  pub state-laid : k < mostOpen → filesAt + heldWidth * k + 36 ≤ length b → (x y b₁ b₂ : List ℕ) → x ≡ fileStored f → y ≡ holdStored holds held changed
+      → b₁ ≡ lay b (filesAt + heldWidth * k) x → b₂ ≡ lay b₁ (filesAt + heldWidth * k + 30) y → b₂ ≡ layState b k f holds held changed
+  state-laid n h x y b₁ b₂ ex ey e₁ e₂ =
+      let lx : length (fileStored f) ≡ 30 = length-file f in
+      let ly : length (holdStored holds held changed) ≡ 6 = length-hold holds held changed in
+      let at : ℕ = filesAt + heldWidth * k in
+      e₂
+      ∙ ap (λ (r : List ℕ). lay r (at + 30) y) (e₁ ∙ ap (lay b at) ex)
+      ∙ ap (lay (lay b at (fileStored f)) (at + 30)) ey
+      ∙ ap (λ (m : ℕ). lay (lay b at (fileStored f)) (at + m) (holdStored holds held changed)) (sym lx)
+      ∙ sym (lay-append b at (fileStored f) (holdStored holds held changed) (omega arith))
+      ∙ sym (part-there mostOpen filesAt heldWidth b k _ at refl n)
+
+  pub state-short : length b < filesAt + heldWidth * k + 36 → b ≡ layState b k f holds held changed
+  state-short h = go (decLt k mostOpen)
+    where
+      go : Dec (k < mostOpen) → b ≡ layState b k f holds held changed
+      go (yes n) =
+          sym (part-there mostOpen filesAt heldWidth b k _ (filesAt + heldWidth * k) refl n ∙ lay-short b (filesAt + heldWidth * k) _ (omega (arith, length-state)))
+      go (no n) = sym (part-not mostOpen filesAt heldWidth b k _ (omega arith))
 
 -- ---- a whole session, laid in two parts
 

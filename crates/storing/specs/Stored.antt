@@ -171,6 +171,10 @@ layFile b k f = layPart mostOpen filesAt fileWidth b k (fileStored f)
 abbrev pub layHeld : List ℕ → ℕ → BufferedFile → List ℕ
 layHeld b k f = layPart mostOpen filesAt heldWidth b k (heldStored f)
 
+-- and one whose buffer stays
+abbrev pub layState : List ℕ → ℕ → OpenFile → Bool → ℕ → Bool → List ℕ
+layState b k f holds held changed = layPart mostOpen filesAt heldWidth b k (fileStored f ++ holdStored holds held changed)
+
 -- ---- laying a whole session, over bytes that are as many as it takes
 
 unfoldable pub laySession : List ℕ → Session → List ℕ

@@ -28,7 +28,7 @@ ghost use Rattle.geometry.specs.Bytes as Bytes;
 ghost use Rattle.geometry.specs.Lists.{all, every};
 ghost use Rattle.storing.specs.Numbers.{bytesOf, numberIn, flagOf, isSet, isFlag, isByte};
 ghost use Rattle.storing.specs.Rows.{rowOf, rowIn};
-ghost use Rattle.storing.specs.Stored.{entryStored, entryIn, placeStored, placeIn, fileStored, fileIn, fileFlags, holdStored, heldStored, heldIn, heldFlags, isStored, isBufferedStored, tableIn, unlawfulEntry, unlawful, sessionIn, bufferedIn, layEntry, layFile, layHeld, laySession, layBuffered};
+ghost use Rattle.storing.specs.Stored.{entryStored, entryIn, placeStored, placeIn, fileStored, fileIn, fileFlags, holdStored, heldStored, heldIn, heldFlags, isStored, isBufferedStored, tableIn, unlawfulEntry, unlawful, sessionIn, bufferedIn, layEntry, layFile, layHeld, layState, laySession, layBuffered};
 
 // The places and sizes of a session's parts.
 pub struct Form {}
@@ -540,6 +540,21 @@ pub fn put_held(b: &mut [u8], k: usize, f: BufferedFile)
 {
     if k < 4 {
         lay_held(b, Form::FILES + Form::HELD * k, f);
+    }
+}
+
+// Lays a state without its buffer over the first bytes of state k, if a session with buffers has one of that number.
+pub fn put_state(b: &mut [u8], k: usize, f: OpenFile, holds: bool, held: u32, changed: bool)
+    ensures { λ _. ⌜ now (b .exit) ≡ layState (now (b .entry)) k f holds held changed ⌝ }
+{
+    let x = file_bytes(f);
+    let y = hold_bytes(holds, held, changed);
+    if k < 4 {
+        let at = Form::FILES + Form::HELD * k;
+        if at + 36 <= b.len() {
+            lay(b, at, &x);
+            lay(b, at + 30, &y);
+        }
     }
 }
 

@@ -1,13 +1,11 @@
 -- The entry, the state and what is held are those of the session that the bytes are.
 use mathlib.Core.Path.{ap, _∙_}
-use mathlib.Core.List.{List, []}
+use mathlib.Core.List.{[]}
 use lib.Seq.{sets}
-use Prim.Native.Nat.{ℕ}
 use Rattle.straight.specs.Straight.{codeGiven}
-use Rattle.storing.specs.Lent.{lentBy, ownState, seenIn, seenBufferedIn}
-use Rattle.storing.specs.Stored.{bufferedIn}
+use Rattle.storing.specs.Lent.{seenIn}
 use Rattle.storing.specs.declared.lawful.Seen.{Seen}
-use Rattle.judging.proofs.Entered.{part-none, plain-stands, buffered-lent, fits, judged}
+use Rattle.judging.proofs.Entered.{part-none, plain-stands, fits, judged}
 use borrow.Author.Needs.{needs}
 use Rattle.judging.proofs.verdict_in.Statement.{statement}
 use Rattle.judging.proofs.verdict_in.Tie as tie

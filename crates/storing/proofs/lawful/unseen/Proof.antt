@@ -1,5 +1,4 @@
 -- No file is open, so that state 0 is the first that is not in use.
-use mathlib.Core.Path.{_∙_}
 use Rattle.storing.proofs.Lent.{none-seen}
 use borrow.Author.Needs.{needs}
 use Rattle.storing.proofs.lawful.unseen.Statement.{statement}
