@@ -32,6 +32,7 @@ use Rattle.storing.proofs.Laws.{buffered-kept}
 use Rattle.storing.proofs.Lent.{bare-none}
 use Rattle.storing.proofs.Read.{length-table, buffered-is}
 use Rattle.storing.proofs.Rows.{length-row}
+use Rattle.judging.proofs.Lent.{laid, unlaid}
 use Rattle.judging.specs.Judged.{judgedBy, bufferBy}
 use Rattle.judging.specs.Lent.{afterIn, lentAfter}
 use Rattle.storing.specs.Lent.{inUse, stateAt, lentBy, holdOf, seenOf, seenBufferedIn}
@@ -58,35 +59,6 @@ use Rattle.judging.specs.declared.Judged.{Judged}
 -- a legal session's bytes are one
 told : (image b : List ℕ) → bufferedLegal image (bufferedIn b) ≡ true → isBufferedStored b ≡ true
 told image b ok = either (isBufferedStored b) (λ h. h) (λ h. both-ways (bufferedLegal image (bufferedIn b)) ok (none-legal-buffered image b h))
-
--- the step behind bytes that are a session, and behind bytes that are none
-module _ (b : List ℕ) (w : After BufferedSession) where
-  lent-told : isBufferedStored b ≡ true → lentAfter (isBufferedStored b) bufferedStored b w ≡ afterIn (w .answer) (w .image) (bufferedStored (w .session)) (w .buffer)
-  unfolding lentAfter
-  lent-told t = rw t
-
-  lent-none : isBufferedStored b ≡ false → lentAfter (isBufferedStored b) bufferedStored b w ≡ afterIn (w .answer) (w .image) b (w .buffer)
-  unfolding lentAfter
-  lent-none t = rw t
-
--- the next session is laid
-laid : (b : List ℕ) → isBufferedStored b ≡ true → (x w : After BufferedSession) → x ≡ w → (lent : List ℕ) → lent ≡ bufferedStored (x .session)
-    → afterIn (x .answer) (x .image) lent (x .buffer) ≡ lentAfter (isBufferedStored b) bufferedStored b w
-laid b t x w h lent l =
-    ap (λ (z : List ℕ). afterIn (x .answer) (x .image) z (x .buffer)) l ∙ sym (lent-told b x t) ∙ ap (lentAfter (isBufferedStored b) bufferedStored b) h
-
--- nothing is laid
-unlaid : (b : List ℕ) (a : Answer) (image moved : List ℕ) (w : After BufferedSession) → record { answer = a; image = image; session = bufferedIn b; buffer = moved } ≡ w
-    → afterIn a image b moved ≡ lentAfter (isBufferedStored b) bufferedStored b w
-unlaid b a image moved w h = go ∙ ap (lentAfter (isBufferedStored b) bufferedStored b) h
-  where
-    old : After BufferedSession
-    old = record { answer = a; image = image; session = bufferedIn b; buffer = moved }
-
-    go : afterIn a image b moved ≡ lentAfter (isBufferedStored b) bufferedStored b old
-    go = either (isBufferedStored b)
-        (λ (t : isBufferedStored b ≡ true). ap (λ (z : List ℕ). afterIn a image z moved) (sym (buffered-kept b t)) ∙ sym (lent-told b old t))
-        (λ (t : isBufferedStored b ≡ false). sym (lent-none b old t))
 
 -- ---- an answer tells that there is a state for the file
 
@@ -273,10 +245,10 @@ module _ (image b : List ℕ) (i : ℕ) (q : Request) (given buffer : List ℕ) 
             } in
             let goes = act-told image s i q given buffer (answer-told Done d) table-long e e-is (stateWith f h old) (own-told old old-is) (v .file .here .sector) (ap (λ (r : Verdict). r .file .here .sector) v-is) room room-size filled filled-is m m-is code code-is in
             let does = acts (sceneWith image i e (stateWith f h old) given) q code (v .file .here .sector) image h old goes (ap (λ (c : List ℕ). length c) old-is ∙ own-whole b there k slot) (p .0) in
-            laid b there y stepped
+            laid isBufferedStored bufferedStored b there y stepped
             (done-told image s i q given buffer v v-is moved moved-is k refl (stateWith f h old) (own-told old old-is) (kept (v .file) x) (set (s .files) k (kept (v .file) x)) refl d e e-is new x does (set (s .table) i (v .entry)) refl refl)
             last
-            (l ∙ ap (λ (c : List ℕ). layNext c i k v g) (p .1) ∙ next-laid b there k slot (f .used) used-told (w .file .buffer) (p .2) i v g f el)
+            (l ∙ ap (λ (c : List ℕ). layNext c i k v g) (p .1) ∙ next-laid isBufferedStored bufferedStored b there k slot (f .used) used-told (w .file .buffer) (p .2) i v g f el)
 
         done-served : (n : ℕ) → n ≡ k → (new lent′ : List ℕ) (g : Holding)
             → Acted image (readied b n (f .used)) n h (heldAll (scene i e) (effectsWith q e f given code (v .file .here .sector))) new lent′ g
@@ -309,11 +281,11 @@ module _ (image b : List ℕ) (i : ℕ) (q : Request) (given buffer : List ℕ) 
               session = record { table = s .table; files = set (s .files) k (kept (v .file) x) };
               buffer = moved;
             } in
-            laid b there z stepped
+            laid isBufferedStored bufferedStored b there z stepped
             (met-told image s i q given buffer v v-is moved moved-is k refl x (own-told (own .buffer) refl) (kept (v .file) x) (set (s .files) k (kept (v .file) x)) refl y d refl)
             last
             (l ∙ ap (λ (c : List ℕ). layNext c i k v h) (used-stays b there k slot used)
-            ∙ next-laid b there k slot true (sym used) (own .buffer) (own-whole b there k slot) i v h f el
+            ∙ next-laid isBufferedStored bufferedStored b there k slot true (sym used) (own .buffer) (own-whole b there k slot) i v h f el
             ∙ ap (λ (t : List Entry). bufferedStored (record { table = t; files = set (s .files) k (kept (v .file) x) })) same-entry)
 
         met-served : (n : ℕ) → n ≡ k → (last : List ℕ) → last ≡ layNext b i n v h → length (entryStored (v .entry)) ≡ entryWidth
@@ -322,7 +294,7 @@ module _ (image b : List ℕ) (i : ℕ) (q : Request) (given buffer : List ℕ) 
 
     refused-served : (moved : List ℕ) → moved ≡ bufferNext answered q (bufferedScene image s i given) buffer → (y : Refusal) → v .answer ≡ Refused y
         → afterIn (v .answer) image b moved ≡ lentAfter (isBufferedStored b) bufferedStored b stepped
-    refused-served moved moved-is y d = unlaid b (v .answer) image moved stepped (refused-told image s i q given buffer v v-is moved moved-is y d)
+    refused-served moved moved-is y d = unlaid isBufferedStored bufferedStored b s (buffered-kept b) (v .answer) image moved stepped (refused-told image s i q given buffer v v-is moved moved-is y d)
 
   -- by what was judged
   module _ (r : Judged) (r-is : r ≡ judgedBy image (seenBufferedIn image b i) (lentBy own) i q given (length buffer))

@@ -333,11 +333,11 @@ fn serve_in(
     let f = seen.file;
     let k = seen.slot;
     let h = seen.hold;
-    let v = r.verdict;
-    let a = v.answer;
+    let w = r.verdict;
+    let a = w.answer;
     match a {
         Answer::Done => {
-            let next = v.file;
+            let next = w.file;
             let here = next.here;
             let held = act_in(
                 image,
@@ -352,11 +352,11 @@ fn serve_in(
                 here.sector,
                 h,
             );
-            put_next(session, i, k, v, held);
+            put_next(session, i, k, w, held);
             a
         }
         Answer::Met(_) => {
-            put_next(session, i, k, v, h);
+            put_next(session, i, k, w, h);
             a
         }
         Answer::Refused(_) => a,

@@ -4,3 +4,4 @@ pub mod Fixed
 pub mod Here
 pub mod Entered
 pub mod Looks
+pub mod Lent

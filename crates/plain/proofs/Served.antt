@@ -24,6 +24,7 @@ use Rattle.storing.specs.Stored.{entryWidth, entryStored, isStored, unlawful, s
 use Rattle.storing.proofs.Illegal.{none-legal}
 use Rattle.storing.proofs.Laws.{stored-kept, stored-laid}
 use Rattle.storing.proofs.Read.{length-table, session-is, session-none}
+use Rattle.judging.proofs.Lent.{laid, unlaid}
 use Rattle.judging.specs.Judged.{judgedBy, bufferBy}
 use Rattle.judging.specs.Lent.{afterIn, lentAfter}
 use Rattle.plain.specs.Plain.{sceneIn}
@@ -42,40 +43,18 @@ use Rattle.judging.specs.declared.Judged.{Judged}
 told : (image b : List ℕ) → legal image (sessionIn b) ≡ true → isStored b ≡ true
 told image b ok = either (isStored b) (λ h. h) (λ h. both-ways (legal image (sessionIn b)) ok (none-legal image b h))
 
--- the step behind bytes that are a session, and behind bytes that are none
-lent-told : (b : List ℕ) (w : After Session) → isStored b ≡ true → lentAfter (isStored b) stored b w ≡ afterIn (w .answer) (w .image) (stored (w .session)) (w .buffer)
-unfolding lentAfter
-lent-told b w t = rw t
-
-lent-none : (b : List ℕ) (w : After Session) → isStored b ≡ false → lentAfter (isStored b) stored b w ≡ afterIn (w .answer) (w .image) b (w .buffer)
-unfolding lentAfter
-lent-none b w t = rw t
-
 module _ (image b : List ℕ) (i : ℕ) (w : After Session) where
   abbrev next : Verdict → Session
   next v = record { table = set (sessionIn b .table) i (v .entry); files = set (sessionIn b .files) (slotOf (sessionIn b .files) i) (v .file) }
 
   -- the verdict's entry and state are laid
-  pub laid : legal image (sessionIn b) ≡ true → (v : Verdict) (a : Answer) (to moved lent : List ℕ) → length (entryStored (v .entry)) ≡ entryWidth
+  pub next-laid : legal image (sessionIn b) ≡ true → (v : Verdict) (a : Answer) (to moved lent : List ℕ) → length (entryStored (v .entry)) ≡ entryWidth
       → lent ≡ layFile (layEntry b i (v .entry)) (slotOf (sessionIn b .files) i) (v .file)
       → record { answer = a; image = to; session = next v; buffer = moved } ≡ w
       → afterIn a to lent moved ≡ lentAfter (isStored b) stored b w
-  laid ok v a to moved lent long l h =
-      ap (λ (z : List ℕ). afterIn a to z moved) (l ∙ sym (stored-laid b (told image b ok) i (slotOf (sessionIn b .files) i) (v .entry) (v .file) long))
-      ∙ sym (lent-told b (record { answer = a; image = to; session = next v; buffer = moved }) (told image b ok)) ∙ ap (lentAfter (isStored b) stored b) h
-
-  -- nothing is laid
-  pub unlaid : (a : Answer) (moved : List ℕ) → record { answer = a; image = image; session = sessionIn b; buffer = moved } ≡ w
-      → afterIn a image b moved ≡ lentAfter (isStored b) stored b w
-  unlaid a moved h = go ∙ ap (lentAfter (isStored b) stored b) h
-    where
-      old : After Session
-      old = record { answer = a; image = image; session = sessionIn b; buffer = moved }
-
-      go : afterIn a image b moved ≡ lentAfter (isStored b) stored b old
-      go = either (isStored b)
-          (λ (t : isStored b ≡ true). ap (λ (z : List ℕ). afterIn a image z moved) (sym (stored-kept b t)) ∙ sym (lent-told b old t))
-          (λ (t : isStored b ≡ false). sym (lent-none b old t))
+  next-laid ok v a to moved lent long l h =
+      laid isStored stored b (told image b ok) (record { answer = a; image = to; session = next v; buffer = moved }) w h lent
+      (l ∙ sym (stored-laid b (told image b ok) i (slotOf (sessionIn b .files) i) (v .entry) (v .file) long))
 
 -- the table of a session in lent bytes has 18 entries
 pub table-long : (b : List ℕ) → length (sessionIn b .table) ≡ entries
@@ -144,15 +123,15 @@ module _ (image b : List ℕ) (i : ℕ) (q : Request) (given buffer : List ℕ) 
           → afterIn (r .verdict .answer) to lent moved ≡ lentAfter (isStored b) stored b stepped
       unfolding judgedBy seenIn seenOf plainScene
       done-served d to t lent long l =
-          laid image b i stepped (done-legal (answer-told Done d)) (r .verdict) (r .verdict .answer) to moved lent long (l ∙ ap (λ (x : Seen). layFile (layEntry b i (r .verdict .entry)) (x .slot) (r .verdict .file)) found)
+          next-laid image b i stepped (done-legal (answer-told Done d)) (r .verdict) (r .verdict .answer) to moved lent long (l ∙ ap (λ (x : Seen). layFile (layEntry b i (r .verdict .entry)) (x .slot) (r .verdict .file)) found)
           (rw (verdict-told, t, found, buffer-told) (done-after image s i q given buffer (answer-told Done d)))
 
       pub met-served : (y : Edge) → r .verdict .answer ≡ Met y → (lent : List ℕ) → length (entryStored (r .verdict .entry)) ≡ entryWidth
           → lent ≡ layFile (layEntry b i (r .verdict .entry)) (r .seen .slot) (r .verdict .file) → afterIn (r .verdict .answer) image lent moved ≡ lentAfter (isStored b) stored b stepped
       unfolding judgedBy seenIn seenOf
       met-served y d lent long l =
-          laid image b i stepped (met-legal y (answer-told (Met y) d)) (r .verdict) (r .verdict .answer) image moved lent long (l ∙ ap (λ (x : Seen). layFile (layEntry b i (r .verdict .entry)) (x .slot) (r .verdict .file)) found)
+          next-laid image b i stepped (met-legal y (answer-told (Met y) d)) (r .verdict) (r .verdict .answer) image moved lent long (l ∙ ap (λ (x : Seen). layFile (layEntry b i (r .verdict .entry)) (x .slot) (r .verdict .file)) found)
           (rw (verdict-told, buffer-told) (met-after image s i q given buffer y (answer-told (Met y) d)))
 
       pub refused-served : (y : Refusal) → r .verdict .answer ≡ Refused y → afterIn (r .verdict .answer) image b moved ≡ lentAfter (isStored b) stored b stepped
-      refused-served y d = unlaid image b i stepped (r .verdict .answer) moved (rw (verdict-told, buffer-told) (refused-after image s i q given buffer y (answer-told (Refused y) d)))
+      refused-served y d = unlaid isStored stored b s (stored-kept b) (r .verdict .answer) image moved stepped (rw (verdict-told, buffer-told) (refused-after image s i q given buffer y (answer-told (Refused y) d)))
