@@ -248,7 +248,7 @@ module _ (image b : List ℕ) (i : ℕ) (q : Request) (given buffer : List ℕ) 
             laid isBufferedStored bufferedStored b there y stepped
             (done-told image s i q given buffer v v-is moved moved-is k refl (stateWith f h old) (own-told old old-is) (kept (v .file) x) (set (s .files) k (kept (v .file) x)) refl d e e-is new x does (set (s .table) i (v .entry)) refl refl)
             last
-            (l ∙ ap (λ (c : List ℕ). layNext c i k v g) (p .1) ∙ next-laid isBufferedStored bufferedStored b there k slot (f .used) used-told (w .file .buffer) (p .2) i v g f el)
+            (l ∙ ap (λ (c : List ℕ). layNext c i k v g) (p .1) ∙ next-laid b there k slot (f .used) used-told (w .file .buffer) (p .2) i v g f el)
 
         done-served : (n : ℕ) → n ≡ k → (new lent′ : List ℕ) (g : Holding)
             → Acted image (readied b n (f .used)) n h (heldAll (scene i e) (effectsWith q e f given code (v .file .here .sector))) new lent′ g
@@ -285,7 +285,7 @@ module _ (image b : List ℕ) (i : ℕ) (q : Request) (given buffer : List ℕ) 
             (met-told image s i q given buffer v v-is moved moved-is k refl x (own-told (own .buffer) refl) (kept (v .file) x) (set (s .files) k (kept (v .file) x)) refl y d refl)
             last
             (l ∙ ap (λ (c : List ℕ). layNext c i k v h) (used-stays b there k slot used)
-            ∙ next-laid isBufferedStored bufferedStored b there k slot true (sym used) (own .buffer) (own-whole b there k slot) i v h f el
+            ∙ next-laid b there k slot true (sym used) (own .buffer) (own-whole b there k slot) i v h f el
             ∙ ap (λ (t : List Entry). bufferedStored (record { table = t; files = set (s .files) k (kept (v .file) x) })) same-entry)
 
         met-served : (n : ℕ) → n ≡ k → (last : List ℕ) → last ≡ layNext b i n v h → length (entryStored (v .entry)) ≡ entryWidth
