@@ -144,7 +144,8 @@ pub extern "C" fn board_request(
         Asked::For(q) => serve(image, session, entry, q, given, buffer),
         Asked::Unknown => {
             let seen = look_in(image, session, entry, 0);
-            unknown(seen.answer)
+            let a = seen.answer;
+            unknown(a)
         }
     }
 }
@@ -228,7 +229,8 @@ pub extern "C" fn board_buffered_request(
         Asked::For(q) => serve_held(image, session, entry, q, given, buffer),
         Asked::Unknown => {
             let seen = look_buffered_in(image, session, entry, 0);
-            unknown(seen.answer)
+            let a = seen.answer;
+            unknown(a)
         }
     }
 }

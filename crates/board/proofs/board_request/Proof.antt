@@ -1,7 +1,7 @@
 -- By the code: a request that there is, or none.
 use mathlib.Core.Path.{sym, ap, _∙_}
-use Rattle.board.specs.Board.{plainEngine, requested}
 use Rattle.requests.specs.declared.Asked.{Asked}
+use Rattle.board.specs.Board.{plainEngine, requested}
 use Rattle.board.proofs.Served.{answers-unknown}
 use borrow.Author.Needs.{needs}
 use Rattle.board.proofs.board_request.Statement.{statement}
@@ -19,11 +19,8 @@ serve-requires c κs = search needs
 enum-told : tie.Need-enum-told
 enum-told c = search needs
 
-read-session-requires : tie.Need-read-session-requires
-read-session-requires c κs = search needs
-
-look-number-requires : tie.Need-look-number-requires
-look-number-requires c κs = search needs
+look-in-requires : tie.Need-look-in-requires
+look-in-requires c κs = search needs
 
 unknown-requires : tie.Need-unknown-requires
 unknown-requires c κs = search needs
@@ -39,8 +36,11 @@ same-length-3 c = search needs
 
 returns : tie.Need-returns
 returns c =
-    let a = c .before .before .before .before .before .before .before .before .before .before .before .before .before .before .before .before .before .before .args in
-    c .before .before .before .before .before .before .serve .ensures ∙ ap (λ (x : Asked). requested plainEngine (a .image .now) (a .session .now) (a .entry) x (a .given .now) (a .buffer .now)) (sym (c .before .before .before .before .before .before .before .before .before .before .before .q .given .1) ∙ c .before .before .before .before .before .before .before .before .before .before .before .before .before .by-code .ensures)
+    let s = c .before .before .before .before .before .before in
+    let q = s .before .before .before .before .before in
+    let d = q .before .before in
+    let a = d .before .before .before .before .before .args in
+    s .serve .ensures ∙ ap (λ (x : Asked). requested plainEngine (a .image .now) (a .session .now) (a .entry) x (a .given .now) (a .buffer .now)) (sym (q .q .given .1) ∙ d .by-code .ensures)
 
 same-length-4 : tie.Need-same-length-4
 same-length-4 c = search needs
@@ -50,8 +50,11 @@ same-length-5 c = search needs
 
 returns-2 : tie.Need-returns-2
 returns-2 c =
-    let a = c .before .before .before .before .before .before .before .before .before .before .before .before .args in
-    answers-unknown plainEngine (a .image .now) (a .session .now) (a .entry) _ (a .given .now) (a .buffer .now) (c .before .before .before .read-session .result) (c .before .look-number .result) (c .unknown .result) (sym (c .before .before .before .before .before .before .before .by-code .ensures) ∙ c .before .before .before .before .before .enum-told .given .1) (c .before .before .before .read-session .ensures) (c .before .look-number .ensures) (c .unknown .ensures)
+    let l = c .before in
+    let e = l .before .before .before in
+    let d = e .before .before in
+    let a = d .before .before .before .before .before .args in
+    answers-unknown plainEngine (a .image .now) (a .session .now) (a .entry) (a .given .now) (a .buffer .now) _ (l .look-in .result .answer) (c .unknown .result) (sym (d .by-code .ensures) ∙ e .enum-told .given .1) (l .look-in .ensures .0) (c .unknown .ensures)
 
 pub board-request-spec : {M : Type 1} → statement M
 board-request-spec =
@@ -61,8 +64,7 @@ board-request-spec =
     enum-known-q
     serve-requires
     enum-told
-    read-session-requires
-    look-number-requires
+    look-in-requires
     unknown-requires
     same-length
     same-length-2

@@ -1,4 +1,6 @@
 -- The engine does the request on the lent bytes; its answer's number is told.
+use Rattle.plain.specs.Plain.{served}
+use Rattle.board.specs.Board.{plainEngine}
 use Rattle.board.proofs.Served.{answers-lent}
 use borrow.Author.Needs.{needs}
 use Rattle.board.proofs.serve.Statement.{statement}
@@ -20,9 +22,11 @@ same-length-3 : tie.Need-same-length-3
 same-length-3 c = search needs
 
 returns : tie.Need-returns
+unfolding served
 returns c =
-    let a = c .before .before .before .before .before .before .before .before .before .before .before .before .before .before .before .args in
-    answers-lent (a .image .now) (a .b .now) (a .i) (a .q) (a .given .now) (a .buffer .now) (c .before .before .before .before .before .before .before .serve .result) _ _ _ (c .number .result) (c .before .before .before .before .before .before .before .serve .ensures) (c .number .ensures)
+    let s = c .before .before .before .before .before .before .before in
+    let a = s .before .before .before .before .before .before .before .before .args in
+    answers-lent plainEngine (a .image .now) (a .b .now) (a .i) (a .given .now) (a .buffer .now) (a .q) (s .serve .result) _ _ _ (c .number .result) (s .serve .ensures) (c .number .ensures)
 
 pub serve-spec : {M : Type 1} → statement M
 serve-spec = tie.close (tie.spec serve-requires number-requires same-length same-length-2 same-length-3 returns)
