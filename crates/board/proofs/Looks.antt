@@ -1,19 +1,27 @@
 -- Where a granule lies, and what a look leaves: a granule's sector is at most 183 times its number, and the part told is the part shown.
-use mathlib.Core.Path.{_≡_, sym, ap, _∙_}
+use mathlib.Core.Path.{_≡_, refl, sym, ap, _∙_}
+use mathlib.Core.Bool.{true, false}
 use mathlib.Core.Logic.{_≢_}
-use mathlib.Core.List.{List}
+use mathlib.Core.List.{List, []}
 use Prim.Native.Nat.{ℕ, _+_, _*_, _≤_, _<_}
 use native.Mathlib.Nat.{mul-le-mul-right}
 use native.Mathlib.Omega.{arith}
-use borrow.Author.Tests.{eq-eqb, ne-eqb}
+use lib.Dec.{eqb}
+use borrow.Author.Tests.{eq-eqb, ne-eqb, eqb-true, eqb-false}
+use Rattle.geometry.specs.Bytes.{part}
 use Rattle.geometry.specs.Places.{sectorsFor, placeOf, byteOf}
 use Rattle.geometry.specs.Sizes.{sector, random}
 use Rattle.geometry.proofs.Places.{place-whole}
+use Rattle.geometry.proofs.Tests.{either}
 use Rattle.directory.specs.Entries.{entryAt}
 use Rattle.directory.specs.declared.Entry.{Entry}
 use Rattle.requests.specs.Numbers.{numberOf}
 use Rattle.requests.specs.declared.Answer.{Answer}
-use Rattle.board.specs.Board.{Engine, lookSize, lookPlace}
+use Rattle.requests.specs.declared.Answer.the-variants.{Done, Met, Refused}
+use Rattle.steps.specs.Look.{shown, plainLook, bufferedLook}
+use Rattle.storing.specs.Stored.{sessionIn, bufferedIn}
+use Rattle.judging.proofs.Turns.{done-is}
+use Rattle.board.specs.Board.{Engine, plainEngine, bufferedEngine, lookSize, lookPlace}
 
 module _ (R g : ℕ) where
   whole : placeOf random R g ≡ record { sector = sectorsFor R * g; byte = 0 }
@@ -63,3 +71,32 @@ module _ {S : Type 0} (E : Engine S) (image b : List ℕ) (i g : ℕ) where
     look-refused z =
         let w : number ≢ 0 = λ (y : number ≡ 0). z (number-is ∙ y) in
         (sym (refused-size w), sym (refused-place old w))
+
+-- the part of the image that is told is the part that a look shows
+module _ {S : Type 0} (E : Engine S) (image b : List ℕ) (i g old : ℕ) where
+  tells : part image (lookPlace E image b i g old) (lookSize E image b i g) ≡ shown (E .look image (E .read b) i g) (entryAt (E .table (E .read b)) i) g image
+  unfolding shown
+  tells = either (eqb (number E image b i g) 0)
+      (λ (t : eqb (number E image b i g) 0 ≡ true).
+      let z : number E image b i g ≡ 0 = eqb-true (number E image b i g) 0 t in
+      rw (shown-place E image b i g old z, shown-size E image b i g z, done-is (E .look image (E .read b) i g) z))
+      (λ (t : eqb (number E image b i g) 0 ≡ false).
+      let n : number E image b i g ≢ 0 = eqb-false (number E image b i g) 0 t in
+      ap (part image (lookPlace E image b i g old)) (refused-size E image b i g n) ∙ part-empty image (lookPlace E image b i g old) ∙ none (E .look image (E .read b) i g) n)
+    where
+      part-empty : (img : List ℕ) (at : ℕ) → part img at 0 ≡ []
+      part-empty img at = unfold part in refl
+
+      none : (a : Answer) → numberOf a ≢ 0 → [] ≡ shown a (entryAt (E .table (E .read b)) i) g image
+      none Done n = absurd (n refl)
+      none (Met x) n = refl
+      none (Refused x) n = refl
+
+module _ (image b : List ℕ) (i g old : ℕ) where
+  pub plain-shows : part image (lookPlace plainEngine image b i g old) (lookSize plainEngine image b i g) ≡ plainLook image (sessionIn b) i g
+  unfolding plainLook
+  plain-shows = tells plainEngine image b i g old
+
+  pub buffered-shows : part image (lookPlace bufferedEngine image b i g old) (lookSize bufferedEngine image b i g) ≡ bufferedLook image (bufferedIn b) i g
+  unfolding bufferedLook
+  buffered-shows = tells bufferedEngine image b i g old

@@ -67,7 +67,7 @@ fn serve(
     ensures { λ r. ⌜ left r (now (image .exit)) (now (b .exit)) (now (buffer .exit))
         ≡ requested plainEngine (now (image .entry)) (now (b .entry)) i (For q) (now (given .entry)) (now (buffer .entry)) ⌝ }
 {
-    number(plain::serve(image, b, i, q, given, buffer))
+    number(plain::request(image, b, i, q, given, buffer))
 }
 
 // ---- the engine with buffers
@@ -84,7 +84,7 @@ fn serve_held(
     ensures { λ r. ⌜ left r (now (image .exit)) (now (b .exit)) (now (buffer .exit))
         ≡ requested bufferedEngine (now (image .entry)) (now (b .entry)) i (For q) (now (given .entry)) (now (buffer .entry)) ⌝ }
 {
-    number(buffered::serve(image, b, i, q, given, buffer))
+    number(buffered::request(image, b, i, q, given, buffer))
 }
 
 // ---- a granule in the image
@@ -116,7 +116,7 @@ pub extern "C" fn board_mount(image: &[u8], session: &mut [u8]) -> u16
     if session.len() != Form::SESSION {
         return 12;
     }
-    let m = plain::mount(image);
+    let m = mounting::mount(image);
     let a = m.answer;
     let n = number(a);
     if n == 0 {
@@ -201,7 +201,7 @@ pub extern "C" fn board_buffered_mount(image: &[u8], session: &mut [u8]) -> u16
     if session.len() != Form::BUFFERED {
         return 12;
     }
-    let m = buffered::mount(image);
+    let m = mounting::mount_buffered(image);
     let a = m.answer;
     let n = number(a);
     if n == 0 {

@@ -24,6 +24,8 @@ use Rattle.straight.specs.Straight.{Encoded}
 use Rattle.held.specs.Held.{bench, stateWith, lent, scene, heldAll, readWith, writeWith}
 use Rattle.held.proofs.Agree.{held-same, held-all}
 use Rattle.buffered.specs.Buffered.{effectsWith}
+use Rattle.sessions.specs.Session.{extentWith}
+use Rattle.sessions.specs.declared.BufferedFile.{BufferedFile}
 use Rattle.requests.proofs.Request as request
 use Rattle.requests.specs.declared.Order.{Order}
 use Rattle.requests.specs.declared.Order.the-variants.{WriteMark, RewindOnline, RewindOffline, RecordForward, RecordBack, FileForward, FileBack}
@@ -32,6 +34,14 @@ use Rattle.requests.specs.declared.Request.the-variants.{Open, Read, Write, Gra
 use Rattle.directory.specs.declared.Entry.{Entry}
 use Rattle.sessions.specs.declared.Holding.{Holding}
 use Rattle.sessions.specs.declared.OpenFile.{OpenFile}
+
+-- the scene of a request, from its parts
+abbrev pub sceneWith : List ℕ → ℕ → Entry → BufferedFile → List ℕ → Scene
+sceneWith image i e b given = record { number = i; entry = e; file = b .file; bytes = extentWith e b image; given = given }
+
+-- k is the sector that a record read of a compressed file lies in
+abbrev pub Found : List ℕ → Request → Entry → BufferedFile → ℕ → Type 0
+Found image q e b k = q ≡ Read → isKind compressed e ≡ true → k ≡ startOf (extentWith e b image) (b .file .here) .sector
 
 goes-elsewhere : (bytes : List ℕ) (p : Place) → not (eqb (p .sector) (startOf bytes p .sector)) ≡ goesOn bytes p
 unfolding startOf

@@ -1,4 +1,4 @@
--- Laying an entry and a state over the bytes of a session is storing the session with them, buffer and all: the layings of entries lie apart from those of
+-- Laying a count, flags and a state over the bytes of a session is storing the session with them, buffer and all: the layings of entries lie apart from those of
 -- states, and what is laid last in a state's bytes is what stands there.
 use mathlib.Core.Path.{_≡_, refl, sym, ap, _∙_}
 use mathlib.Core.Bool.{Bool, true, false}
@@ -19,14 +19,15 @@ use Rattle.steps.specs.Step.{kept}
 use Rattle.steps.proofs.Standing.{kept-used, kept-unused}
 use Rattle.held.specs.Held.{stateWith, lent}
 use Rattle.storing.specs.Rows.{rowIn}
-use Rattle.storing.specs.Stored.{entryWidth, heldWidth, filesAt, bufferedSize, entryStored, fileStored, holdStored, heldStored, heldIn, heldFlags, isBufferedStored, bufferedIn, bufferedStored, layEntry, layHeld, layState}
+use Rattle.storing.specs.Stored.{entryWidth, heldWidth, filesAt, bufferedSize, fileStored, holdStored, heldStored, heldIn, heldFlags, isBufferedStored, bufferedIn, bufferedStored, layCounts, layHeld, layState}
 use Rattle.storing.proofs.Back.{held-same}
 use Rattle.storing.proofs.Laid.{part-there, part-not, length-held, length-state}
-use Rattle.storing.proofs.Laws.{buffered-laid}
+use Rattle.storing.proofs.Counts.{recounted, back, back-long, buffered-counted}
 use Rattle.storing.proofs.Read.{buffered-is, formed-bytes, formed-size, formed-flags}
 use Rattle.storing.proofs.Rows.{getD-row, length-laid}
-use Rattle.storing.specs.Lent.{inUse, stateAt}
-use Rattle.buffered.specs.Buffered.{bufferAt, readied, Acted, layNext}
+use Rattle.storing.specs.Lent.{inUse, stateAt, bufferAt}
+use Rattle.buffered.specs.Buffered.{readied, Acted, layNext}
+use Rattle.directory.specs.Entries.{entryAt}
 use Rattle.directory.specs.declared.Entry.{Entry}
 use Rattle.sessions.specs.declared.Holding.{Holding}
 use Rattle.sessions.specs.declared.BufferedFile.{BufferedFile}
@@ -34,18 +35,18 @@ use Rattle.sessions.specs.declared.BufferedSession.{BufferedSession}
 use Rattle.sessions.specs.declared.OpenFile.{OpenFile}
 use Rattle.steps.specs.declared.Verdict.{Verdict}
 
--- an entry is laid apart from the states
-entry-past : (b : List ℕ) (i : ℕ) (e : Entry) (p : ℕ) (x : List ℕ) → length (entryStored e) ≡ entryWidth → filesAt ≤ p
-    → layEntry (lay b p x) i e ≡ lay (layEntry b i e) p x
-entry-past b i e p x l h = go (decLt i entries)
+-- a count and flags are laid apart from the states
+counts-past : (b : List ℕ) (i count flags p : ℕ) (x : List ℕ) → filesAt ≤ p → layCounts (lay b p x) i count flags ≡ lay (layCounts b i count flags) p x
+counts-past b i count flags p x h = go (decLt i entries)
   where
-    go : Dec (i < entries) → layEntry (lay b p x) i e ≡ lay (layEntry b i e) p x
+    go : Dec (i < entries) → layCounts (lay b p x) i count flags ≡ lay (layCounts b i count flags) p x
     go (yes n) =
-        part-there entries 0 entryWidth (lay b p x) i (entryStored e) (entryWidth * i) (omega arith) n
-        ∙ lay-lay-apart b p x (entryWidth * i) (entryStored e) (omega arith)
-        ∙ ap (λ (r : List ℕ). lay r p x) (sym (part-there entries 0 entryWidth b i (entryStored e) (entryWidth * i) (omega arith) n))
+        let l : length (back count flags) ≡ 6 = back-long count flags in
+        part-there entries 16 entryWidth (lay b p x) i (back count flags) (16 + entryWidth * i) refl n
+        ∙ lay-lay-apart b p x (16 + entryWidth * i) (back count flags) (omega arith)
+        ∙ ap (λ (r : List ℕ). lay r p x) (sym (part-there entries 16 entryWidth b i (back count flags) (16 + entryWidth * i) refl n))
     go (no n) =
-        part-not entries 0 entryWidth (lay b p x) i (entryStored e) (omega arith) ∙ ap (λ (r : List ℕ). lay r p x) (sym (part-not entries 0 entryWidth b i (entryStored e) (omega arith)))
+        part-not entries 16 entryWidth (lay b p x) i (back count flags) (omega arith) ∙ ap (λ (r : List ℕ). lay r p x) (sym (part-not entries 16 entryWidth b i (back count flags) (omega arith)))
 
 pub fresh-size : (f : OpenFile) → length (fresh f .buffer) ≡ sector
 fresh-size f = length-replicate {A = ℕ} sector 0
@@ -82,46 +83,46 @@ module _ (b : List ℕ) (long : length b ≡ bufferedSize) (k : ℕ) (n : k < mo
       let l : length (lay b at (first f)) ≡ length b = length-lay b at (first f) in
       ap (λ (c : List ℕ). part c (bufferAt k) sector) (held-there b f ∙ laid-in-two b long f w) ∙ part-lay-same (lay b at (first f)) (bufferAt k) (f .buffer) sector w (omega arith)
 
-  module _ (old : BufferedFile) (whole : length (old .buffer) ≡ sector) (room : List ℕ) (size : length room ≡ sector) (i : ℕ) (e : Entry) (el : length (entryStored e) ≡ entryWidth) where
+  module _ (old : BufferedFile) (whole : length (old .buffer) ≡ sector) (room : List ℕ) (size : length room ≡ sector) (i count flags : ℕ) where
     abbrev worked : List ℕ
     worked = lay (layHeld b k old) (bufferAt k) room
 
     abbrev c : List ℕ
-    c = layEntry b i e
+    c = layCounts b i count flags
 
-    -- the entry, before the state
-    entry-first : layEntry worked i e ≡ lay (lay c at (heldStored old)) (bufferAt k) room
-    entry-first =
-        entry-past (layHeld b k old) i e (bufferAt k) room el (omega arith)
-        ∙ ap (λ (r : List ℕ). lay r (bufferAt k) room) (ap (λ (r : List ℕ). layEntry r i e) (held-there b old) ∙ entry-past b i e at (heldStored old) el (omega arith))
+    -- the count and flags, before the state
+    counts-first : layCounts worked i count flags ≡ lay (lay c at (heldStored old)) (bufferAt k) room
+    counts-first =
+        counts-past (layHeld b k old) i count flags (bufferAt k) room (omega arith)
+        ∙ ap (λ (r : List ℕ). lay r (bufferAt k) room) (ap (λ (r : List ℕ). layCounts r i count flags) (held-there b old) ∙ counts-past b i count flags at (heldStored old) (omega arith))
 
     c-long : length c ≡ bufferedSize
-    c-long = length-laid entries 0 entryWidth b i (entryStored e) ∙ long
+    c-long = length-laid entries 16 entryWidth b i (back count flags) ∙ long
 
     old-size : length (heldStored old) ≡ heldWidth
     old-size = length-held old whole
 
     -- one that keeps its buffer
-    open-laid : (f : OpenFile) (h : Holding) → layState (layEntry worked i e) k f (h .holds) (h .held) (h .changed) ≡ layHeld c k (stateWith f h room)
+    open-laid : (f : OpenFile) (h : Holding) → layState (layCounts worked i count flags) k f (h .holds) (h .held) (h .changed) ≡ layHeld c k (stateWith f h room)
     open-laid f h =
         let y : BufferedFile = stateWith f h room in
         let s : length (first y) ≡ 36 = first-size y in
         let z : length (heldStored y) ≡ heldWidth = length-held y size in
         let l : length (lay c at (heldStored old)) ≡ length c = length-lay c at (heldStored old) in
-        part-there mostOpen filesAt heldWidth (layEntry worked i e) k (first y) at refl n
-        ∙ ap (λ (r : List ℕ). lay r at (first y)) entry-first
+        part-there mostOpen filesAt heldWidth (layCounts worked i count flags) k (first y) at refl n
+        ∙ ap (λ (r : List ℕ). lay r at (first y)) counts-first
         ∙ lay-lay-apart (lay c at (heldStored old)) (bufferAt k) room at (first y) (omega arith)
         ∙ sym (laid-in-two (lay c at (heldStored old)) (l ∙ c-long) y size)
         ∙ lay-lay-same c at (heldStored old) (heldStored y) (old-size ∙ sym z)
         ∙ sym (held-there c y)
 
     -- one that is laid with its buffer
-    whole-laid : (y : BufferedFile) → length (y .buffer) ≡ sector → layHeld (layEntry worked i e) k y ≡ layHeld c k y
+    whole-laid : (y : BufferedFile) → length (y .buffer) ≡ sector → layHeld (layCounts worked i count flags) k y ≡ layHeld c k y
     whole-laid y w =
         let z : length (heldStored y) ≡ heldWidth = length-held y w in
         let l : length (lay c at (heldStored old)) ≡ length c = length-lay c at (heldStored old) in
-        held-there (layEntry worked i e) y
-        ∙ ap (λ (r : List ℕ). lay r at (heldStored y)) entry-first
+        held-there (layCounts worked i count flags) y
+        ∙ ap (λ (r : List ℕ). lay r at (heldStored y)) counts-first
         ∙ lay-lay-over (lay c at (heldStored old)) (bufferAt k) room at (heldStored y) (omega (arith, c-long)) (omega arith) (omega arith)
         ∙ lay-lay-same c at (heldStored old) (heldStored y) (old-size ∙ sym z)
         ∙ sym (held-there c y)
@@ -185,29 +186,31 @@ module _ (b : List ℕ) (ok : isBufferedStored b ≡ true) (k : ℕ) (n : k < mo
   unfolding readied
   used-stays u = sym (ap (lay b (bufferAt k)) (sym (readied-buffer true (sym u))) ∙ lay-part b (bufferAt k) sector)
 
-  -- the next entry and state, behind another buffer
+  -- the next count, flags and state, behind another buffer
   pub next-laid : (u : Bool) → u ≡ state .file .used → (room : List ℕ) → length room ≡ sector → (i : ℕ) (v : Verdict) (h : Holding) (f : OpenFile)
-      → length (entryStored (v .entry)) ≡ entryWidth
+      → v .entry ≡ recounted (entryAt (bufferedIn b .table) i) (v .entry .count) (v .entry .flags)
       → layNext (lay (readied b k u) (bufferAt k) room) i k v h
       ≡ bufferedStored (record { table = set (bufferedIn b .table) i (v .entry); files = set (bufferedIn b .files) k (kept (v .file) (stateWith f h room)) })
   unfolding layNext
-  next-laid u t room size i v h f el =
+  next-laid u t room size i v h f same =
       ap (λ (c : List ℕ). layNext (lay c (bufferAt k) room) i k v h) (readied-is u t)
       ∙ either (v .file .used)
       (λ (z : v .file .used ≡ true).
       chosen (v .file .used) _ _ z
-      ∙ open-laid b long k n own own-whole room size i (v .entry) el (v .file) h
+      ∙ open-laid b long k n own own-whole room size i (v .entry .count) (v .entry .flags) (v .file) h
       ∙ stores (stateWith (v .file) h room) size (kept-used (v .file) (stateWith f h room) z))
       (λ (z : v .file .used ≡ false).
       not-chosen (v .file .used) _ _ z
-      ∙ whole-laid b long k n own own-whole room size i (v .entry) el (fresh (v .file)) (fresh-size (v .file))
+      ∙ whole-laid b long k n own own-whole room size i (v .entry .count) (v .entry .flags) (fresh (v .file)) (fresh-size (v .file))
       ∙ stores (fresh (v .file)) (fresh-size (v .file)) (kept-unused (v .file) (stateWith f h room) z))
     where
-      stores : (y : BufferedFile) → length (y .buffer) ≡ sector → kept (v .file) (stateWith f h room) ≡ y → layHeld (layEntry b i (v .entry)) k y
-          ≡ bufferedStored (record { table = set (bufferedIn b .table) i (v .entry); files = set (bufferedIn b .files) k (kept (v .file) (stateWith f h room)) })
+      next : Entry → BufferedFile → List ℕ
+      next e y = bufferedStored (record { table = set (bufferedIn b .table) i e; files = set (bufferedIn b .files) k y })
+
+      stores : (y : BufferedFile) → length (y .buffer) ≡ sector → kept (v .file) (stateWith f h room) ≡ y
+          → layHeld (layCounts b i (v .entry .count) (v .entry .flags)) k y ≡ next (v .entry) (kept (v .file) (stateWith f h room))
       stores y l e =
-          sym (buffered-laid b ok i k (v .entry) y el (length-held y l))
-          ∙ ap (λ (x : BufferedFile). bufferedStored (record { table = set (bufferedIn b .table) i (v .entry); files = set (bufferedIn b .files) k x })) (sym e)
+          sym (buffered-counted b i k (v .entry .count) (v .entry .flags) ok y (length-held y l)) ∙ ap (λ (x : Entry). next x y) (sym same) ∙ ap (next (v .entry)) (sym e)
 
 -- ---- a buffer lent from the bytes
 

@@ -4,7 +4,7 @@ use mathlib.Core.Path.{_≡_, refl, sym, ap, subst, _∙_}
 use mathlib.Core.Logic.{_⊎_, inl, inr}
 use mathlib.Core.Bool.{true, false}
 use mathlib.Core.List.{List}
-use Prim.Native.Nat.{ℕ, _+_, _*_, _<_}
+use Prim.Native.Nat.{ℕ, _<_}
 use native.Mathlib.Omega.{arith}
 use lib.ListN.{length, getD, set, length-map}
 use lib.Seq.{sets, set-getD}
@@ -14,6 +14,7 @@ use Rattle.geometry.specs.Sizes.{sector, entries, mostOpen}
 use Rattle.geometry.proofs.Tests.{either, both-ways, not-chosen, many-room}
 use Rattle.directory.specs.Entries.{entryAt, freeEntry}
 use Rattle.requests.specs.Judge.{judge}
+use Rattle.requests.proofs.First.{not-legal}
 use Rattle.requests.proofs.Done.{Live, done-allows, met-meets}
 use Rattle.requests.proofs.Live.{Real, done-real, done-place, met-live}
 use Rattle.sessions.specs.Session.{idle, fresh, bare, isOf, fileOf, slotOf, openFiles, bufferedLegal}
@@ -26,25 +27,27 @@ use Rattle.steps.proofs.Standing.{held-file}
 use Rattle.straight.specs.Straight.{codeGiven}
 use Rattle.straight.proofs.Judged.{judgement}
 use Rattle.held.specs.Held.{stateWith, lent, scene, heldAll}
-use Rattle.storing.specs.Stored.{entryWidth, heldWidth, filesAt, bufferedSize, entryStored, heldIn, isBufferedStored, unlawful, bufferedIn, bufferedStored}
+use Rattle.storing.specs.Stored.{heldWidth, filesAt, bufferedSize, heldIn, heldFlags, isBufferedStored, unlawful, bufferedIn, bufferedStored}
 use Rattle.storing.proofs.Illegal.{none-legal-buffered}
+use Rattle.storing.proofs.Counts.{recounted}
 use Rattle.storing.proofs.Laws.{buffered-kept}
 use Rattle.storing.proofs.Lent.{bare-none}
-use Rattle.storing.proofs.Read.{length-table, buffered-is}
+use Rattle.storing.proofs.Read.{length-table, formed-size, buffered-is}
 use Rattle.storing.proofs.Rows.{length-row}
-use Rattle.judging.proofs.Lent.{laid, unlaid}
+use Rattle.judging.proofs.Lent.{laid, unlaid, entry-kept}
 use Rattle.judging.specs.Judged.{judgedBy, bufferBy}
 use Rattle.judging.specs.Lent.{afterIn, lentAfter}
-use Rattle.storing.specs.Lent.{inUse, stateAt, lentBy, holdOf, seenOf, seenBufferedIn}
-use Rattle.buffered.specs.Buffered.{sceneWith, effectsWith, bufferAt, readied, Acted, layNext}
-use Rattle.buffered.proofs.Acts.{acts}
-use Rattle.buffered.proofs.Laid.{fresh-size, long, own-used, own-whole, readied-buffer, used-stays, next-laid}
+use Rattle.storing.specs.Lent.{inUse, stateAt, lentBy, holdOf, bufferAt, seenOf, seenBufferedIn}
+use Rattle.buffered.specs.Buffered.{effectsWith, readied, Acted, layNext}
+use Rattle.buffered.proofs.Acts.{sceneWith, acts}
+use Rattle.buffered.proofs.Laid.{fresh-size, long, own-whole, readied-buffer, used-stays, next-laid}
 use Rattle.buffered.proofs.Stepped.{in-use, state-is, verdict-is, buffer-is, act-told, done-told, met-told, refused-told}
 use Rattle.requests.specs.declared.Answer.{Answer}
 use Rattle.requests.specs.declared.Answer.the-variants.{Done, Met, Refused}
 use Rattle.requests.specs.declared.Edge.{Edge}
 use Rattle.requests.specs.declared.Facts.{Facts}
 use Rattle.requests.specs.declared.Refusal.{Refusal}
+use Rattle.requests.specs.declared.Refusal.the-variants.{NotLegal}
 use Rattle.requests.specs.declared.Request.{Request}
 use Rattle.directory.specs.declared.Entry.{Entry}
 use Rattle.sessions.specs.declared.Holding.{Holding}
@@ -131,9 +134,6 @@ module _ (image b : List ℕ) (i : ℕ) (q : Request) (given buffer : List ℕ) 
   used-slot : fileOf (bare s .files) i .used ≡ true → k < mostOpen
   used-slot u = slot-there (used-stored u) (inl u)
 
-  used-own : fileOf (bare s .files) i .used ≡ true → own ≡ heldIn b (filesAt + heldWidth * k)
-  used-own u = own-used b (used-stored u) k (used-slot u) (sym (in-use s i) ∙ u)
-
   unused-own : fileOf (bare s .files) i .used ≡ false → own ≡ fresh idle
   unfolding stateAt inUse
   unused-own u = not-chosen (getD (s .files) k (fresh idle) .file .used) (getD (s .files) k (fresh idle)) (fresh idle) (sym (in-use s i) ∙ u)
@@ -193,6 +193,10 @@ module _ (image b : List ℕ) (i : ℕ) (q : Request) (given buffer : List ℕ) 
   -- ---- as the program goes: the verdict, what is found of the file, and each answer
 
   module _ (v : Verdict) (v-is : v ≡ judged) where
+    -- its entry is the session's, but for count and flags
+    same-but : v .entry ≡ recounted (entryAt (s .table) i) (v .entry .count) (v .entry .flags)
+    same-but = rw v-is (unfold bufferedScene in entry-kept answered q (bufferedScene image s i given))
+
     answer-told : (a : Answer) → v .answer ≡ a → answered ≡ a
     answer-told a h = sym (ap (λ (w : Verdict). w .answer) v-is) ∙ h
 
@@ -232,9 +236,9 @@ module _ (image b : List ℕ) (i : ℕ) (q : Request) (given buffer : List ℕ) 
 
         done-here : (new lent′ : List ℕ) (g : Holding)
             → Acted image (readied b k (f .used)) k h (heldAll (scene i e) (effectsWith q e f given code (v .file .here .sector))) new lent′ g
-            → (last : List ℕ) → last ≡ layNext lent′ i k v g → length (entryStored (v .entry)) ≡ entryWidth
+            → (last : List ℕ) → last ≡ layNext lent′ i k v g
             → afterIn (v .answer) new last moved ≡ lentAfter (isBufferedStored b) bufferedStored b stepped
-        done-here new lent′ g p last l el =
+        done-here new lent′ g p last l =
             let w : Bench = heldAll (scene i e) (effectsWith q e f given code (v .file .here .sector)) (lent image h old) in
             let x : BufferedFile = stateWith f g (w .file .buffer) in
             let y : After BufferedSession = record {
@@ -248,16 +252,16 @@ module _ (image b : List ℕ) (i : ℕ) (q : Request) (given buffer : List ℕ) 
             laid isBufferedStored bufferedStored b there y stepped
             (done-told image s i q given buffer v v-is moved moved-is k refl (stateWith f h old) (own-told old old-is) (kept (v .file) x) (set (s .files) k (kept (v .file) x)) refl d e e-is new x does (set (s .table) i (v .entry)) refl refl)
             last
-            (l ∙ ap (λ (c : List ℕ). layNext c i k v g) (p .1) ∙ next-laid b there k slot (f .used) used-told (w .file .buffer) (p .2) i v g f el)
+            (l ∙ ap (λ (c : List ℕ). layNext c i k v g) (p .1) ∙ next-laid b there k slot (f .used) used-told (w .file .buffer) (p .2) i v g f same-but)
 
         done-served : (n : ℕ) → n ≡ k → (new lent′ : List ℕ) (g : Holding)
             → Acted image (readied b n (f .used)) n h (heldAll (scene i e) (effectsWith q e f given code (v .file .here .sector))) new lent′ g
-            → (last : List ℕ) → last ≡ layNext lent′ i n v g → length (entryStored (v .entry)) ≡ entryWidth
+            → (last : List ℕ) → last ≡ layNext lent′ i n v g
             → afterIn (v .answer) new last moved ≡ lentAfter (isBufferedStored b) bufferedStored b stepped
         done-served n n-is =
             subst (λ (n : ℕ). (new lent′ : List ℕ) (g : Holding)
             → Acted image (readied b n (f .used)) n h (heldAll (scene i e) (effectsWith q e f given code (v .file .here .sector))) new lent′ g
-            → (last : List ℕ) → last ≡ layNext lent′ i n v g → length (entryStored (v .entry)) ≡ entryWidth
+            → (last : List ℕ) → last ≡ layNext lent′ i n v g
             → afterIn (v .answer) new last moved ≡ lentAfter (isBufferedStored b) bufferedStored b stepped) (sym n-is) done-here
 
       module _ (y : Edge) (d : v .answer ≡ Met y) where
@@ -268,9 +272,9 @@ module _ (image b : List ℕ) (i : ℕ) (q : Request) (given buffer : List ℕ) 
             ∙ ap (λ (a : Answer). set (s .table) i (entryNext a q (bufferedScene image s i given))) (answer-told (Met y) d)
             ∙ set-getD (s .table) i freeEntry
 
-        met-here : (last : List ℕ) → last ≡ layNext b i k v h → length (entryStored (v .entry)) ≡ entryWidth
+        met-here : (last : List ℕ) → last ≡ layNext b i k v h
             → afterIn (v .answer) image last moved ≡ lentAfter (isBufferedStored b) bufferedStored b stepped
-        met-here last l el =
+        met-here last l =
             let there : isBufferedStored b ≡ true = met-stored y (answer-told (Met y) d) in
             let slot : k < mostOpen = met-slot y (answer-told (Met y) d) in
             let used : getD (s .files) k (fresh idle) .file .used ≡ true = sym (in-use s i) ∙ met-used y (answer-told (Met y) d) in
@@ -285,10 +289,10 @@ module _ (image b : List ℕ) (i : ℕ) (q : Request) (given buffer : List ℕ) 
             (met-told image s i q given buffer v v-is moved moved-is k refl x (own-told (own .buffer) refl) (kept (v .file) x) (set (s .files) k (kept (v .file) x)) refl y d refl)
             last
             (l ∙ ap (λ (c : List ℕ). layNext c i k v h) (used-stays b there k slot used)
-            ∙ next-laid b there k slot true (sym used) (own .buffer) (own-whole b there k slot) i v h f el
+            ∙ next-laid b there k slot true (sym used) (own .buffer) (own-whole b there k slot) i v h f same-but
             ∙ ap (λ (t : List Entry). bufferedStored (record { table = t; files = set (s .files) k (kept (v .file) x) })) same-entry)
 
-        met-served : (n : ℕ) → n ≡ k → (last : List ℕ) → last ≡ layNext b i n v h → length (entryStored (v .entry)) ≡ entryWidth
+        met-served : (n : ℕ) → n ≡ k → (last : List ℕ) → last ≡ layNext b i n v h
             → afterIn (v .answer) image last moved ≡ lentAfter (isBufferedStored b) bufferedStored b stepped
         met-served n n-is last l = met-here last (l ∙ ap (λ (n : ℕ). layNext b i n v h) n-is)
 
@@ -309,16 +313,25 @@ module _ (image b : List ℕ) (i : ℕ) (q : Request) (given buffer : List ℕ) 
         → (code : List ℕ) → code ≡ part filled 0 (r .size) → (new lent′ : List ℕ) (g : Holding)
         → Acted image (readied b (r .seen .slot) (r .seen .file .used)) (r .seen .slot) (r .seen .hold)
         (heldAll (scene i (r .seen .entry)) (effectsWith q (r .seen .entry) (r .seen .file) given code (r .verdict .file .here .sector))) new lent′ g
-        → (last : List ℕ) → (last ≡ layNext lent′ i (r .seen .slot) (r .verdict) g) × (length (entryStored (r .verdict .entry)) ≡ entryWidth) → Ends new last
+        → (last : List ℕ) → last ≡ layNext lent′ i (r .seen .slot) (r .verdict) g → Ends new last
     done-in d room filled l e code c new lent′ g a last z =
         done-served (r .verdict) (verdict-judged r r-is) (r .seen .entry) (entry-told r r-is) (r .seen .file) (file-told r r-is) (r .seen .hold) (hold-told r r-is) moved (buffer-judged r r-is moved moved-is) d
-        room l filled (code-told r r-is room filled e) (r .size) (size-told r r-is) code c (r .seen .slot) (slot-told r r-is) new lent′ g a last (z .0) (z .1)
+        room l filled (code-told r r-is room filled e) (r .size) (size-told r r-is) code c (r .seen .slot) (slot-told r r-is) new lent′ g a last z
 
     pub met-in : (y : Edge) → r .verdict .answer ≡ Met y → (last : List ℕ)
-        → (last ≡ layNext b i (r .seen .slot) (r .verdict) (r .seen .hold)) × (length (entryStored (r .verdict .entry)) ≡ entryWidth) → Ends image last
+        → last ≡ layNext b i (r .seen .slot) (r .verdict) (r .seen .hold) → Ends image last
     met-in y d last z =
         met-served (r .verdict) (verdict-judged r r-is) (r .seen .entry) (entry-told r r-is) (r .seen .file) (file-told r r-is) (r .seen .hold) (hold-told r r-is) moved (buffer-judged r r-is moved moved-is) y d
-        (r .seen .slot) (slot-told r r-is) last (z .0) (z .1)
+        (r .seen .slot) (slot-told r r-is) last z
 
     pub refused-in : (y : Refusal) → r .verdict .answer ≡ Refused y → Ends image b
     refused-in = refused-served (r .verdict) (verdict-judged r r-is) moved (buffer-judged r r-is moved moved-is)
+
+  -- bytes that are not as many as a session takes
+  pub other-size : (length b ≡ bufferedSize → ⊥) → afterIn (Refused NotLegal) image b buffer ≡ lentAfter (isBufferedStored b) bufferedStored b stepped
+  unfolding bufferNext factsOf
+  other-size h =
+      let none : isBufferedStored b ≡ false = either (isBufferedStored b) (λ t. absurd (h (formed-size heldFlags heldWidth bufferedSize b t))) (λ t. t) in
+      let d : answered ≡ Refused NotLegal = not-legal q _ (none-legal-buffered image b none) in
+      unlaid isBufferedStored bufferedStored b s (buffered-kept b) (Refused NotLegal) image buffer stepped
+      (rw d at (refused-told image s i q given buffer judged refl (bufferNext answered q (bufferedScene image s i given) buffer) refl NotLegal d))

@@ -1,7 +1,6 @@
 -- A request is what its verdict says: in a legal session the scene that is judged, with the held sector lent, is the engine's own; and each answer
 -- is its own case of the step.
 use mathlib.Core.Path.{_≡_, refl, sym, ap, _∙_}
-use mathlib.Core.Logic.{_⊎_, inl, inr}
 use mathlib.Core.Bool.{Bool, true, false, _&&_, _||_, not}
 use mathlib.Core.List.{List, []}
 use Prim.Native.Nat.{ℕ, _+_, _*_, _≤_, _<_}
@@ -14,10 +13,8 @@ use borrow.Author.Tests.{eq-eqb, not-true}
 use Rattle.geometry.specs.Bytes.{part, lay}
 use Rattle.geometry.specs.Lists.{every, firstWith}
 use Rattle.geometry.specs.Sizes.{sector, entries, blocked, compressed}
-use Rattle.geometry.proofs.Bytes.{part-all}
 use Rattle.geometry.proofs.Tests.{either, both-ways, chosen, not-chosen, and-both, first-holds}
 use Rattle.directory.specs.Entries.{entryAt, isKind}
-use Rattle.directory.proofs.Table.{getD-any}
 use Rattle.packing.specs.Reading.{overlaid, startOf}
 use Rattle.requests.specs.Judge.{judge}
 use Rattle.sessions.specs.Session.{idle, fresh, bare, fileOf, slotOf, openFiles, extent, extentWith, heldGood, legal, bufferedLegal}
@@ -33,7 +30,7 @@ use Rattle.straight.specs.Straight.{codeGiven, Encoded}
 use Rattle.straight.proofs.Judged.{judgement, judged, buffer-judged}
 use Rattle.held.specs.Held.{bench}
 use Rattle.storing.specs.Lent.{inUse, stateAt, lentBy}
-use Rattle.buffered.specs.Buffered.{sceneWith, Found}
+use Rattle.buffered.proofs.Acts.{sceneWith, Found}
 use Rattle.straight.proofs.Goes.{right, there, room, suits, lies-in, encoded}
 use Rattle.directory.specs.declared.Entry.{Entry}
 use Rattle.requests.specs.declared.Request.{Request}
@@ -44,15 +41,7 @@ use Rattle.requests.specs.declared.Refusal.{Refusal}
 use Rattle.sessions.specs.declared.BufferedFile.{BufferedFile}
 use Rattle.sessions.specs.declared.BufferedSession.{BufferedSession}
 use Rattle.sessions.specs.declared.OpenFile.{OpenFile}
-use Rattle.sessions.specs.declared.Session.{Session}
 use Rattle.steps.specs.declared.Verdict.{Verdict}
-
--- ---- what is lent
-
-pub lent : (b : BufferedFile) (n : ℕ) → length (b .buffer) ≡ sector → ((b .holds ≡ true) × (n ≡ sector)) ⊎ ((b .holds ≡ false) × (n ≡ 0)) → part (b .buffer) 0 n ≡ lentBy b
-unfolding lentBy part
-lent b n l (inl h) = rw (h .0, h .1, lentBy) (part-all (b .buffer) sector l)
-lent b n l (inr h) = rw (h .0, h .1, lentBy)
 
 -- the held sector is seen where it is held, if only a file that has a buffer holds one
 seen-held : (e : Entry) (f : OpenFile) (b : BufferedFile) (image : List ℕ) → length (b .buffer) ≡ sector
@@ -72,22 +61,6 @@ seen-held e f b image l h = either (b .holds)
     ∙ sym (not-chosen (b .holds) (lay (extent e image) (sector * b .held) (b .buffer)) (extent e image) t))
 
 -- ---- the state of an entry
-
--- whatever is put past the end of the states, if it is not in use
-module _ (files : List BufferedFile) (k : ℕ) (d : BufferedFile) where
-  pub state-used : k < length files → getD files k d .file .used ≡ true → getD files k d ≡ stateAt files k
-  unfolding stateAt inUse
-  state-used l h =
-      let p : getD files k d ≡ getD files k (fresh idle) = getD-any files k d (fresh idle) l in
-      p ∙ sym (chosen (getD files k (fresh idle) .file .used) (getD files k (fresh idle)) (fresh idle) (rw p at h))
-
-  pub state-unused : d .file .used ≡ false → getD files k d .file .used ≡ false → fresh idle ≡ stateAt files k
-  unfolding stateAt inUse
-  state-unused z h = sym (not-chosen (getD files k (fresh idle) .file .used) (getD files k (fresh idle)) (fresh idle) (go (decLt k (length files))))
-    where
-      go : Dec (k < length files) → getD files k (fresh idle) .file .used ≡ false
-      go (yes l) = rw (getD-any files k (fresh idle) d l) h
-      go (no l) = ap (λ (b : BufferedFile). b .file .used) (List·getD-eq-default files (fresh idle) (omega arith))
 
 module _ (s : BufferedSession) (i : ℕ) where
   abbrev k : ℕ
@@ -114,12 +87,6 @@ module _ (s : BufferedSession) (i : ℕ) where
   pub state-is : stateAt (s .files) k ≡ heldOf s i
   unfolding stateAt inUse heldOf
   state-is = ap (λ (t : Bool). elim t [ true ↦ b | false ↦ fresh idle ]) (sym in-use)
-
-  pub slot-told : (bares : List OpenFile) (n : ℕ) → bares ≡ bare s .files → n ≡ slotOf bares i → n ≡ k
-  slot-told bares n o h = h ∙ ap (λ (fs : List OpenFile). slotOf fs i) o
-
-  pub state-told : (n : ℕ) (x : BufferedFile) → n ≡ k → x ≡ stateAt (s .files) n → x ≡ heldOf s i
-  state-told n x h z = z ∙ ap (stateAt (s .files)) h ∙ state-is
 
   -- only an open blocked or compressed file holds a sector
   only-buffers : (image : List ℕ) → bufferedLegal image s ≡ true → heldOf s i .holds ≡ true
@@ -175,23 +142,6 @@ module _ (image : List ℕ) (s : BufferedSession) (i : ℕ) (q : Request) (given
       → bufferNext (answerOf (legal image (bare s) && every (heldGood (s .table)) (s .files)) files (length buffer) n q found) q found buffer ≡ bufferNext a q c buffer
   unfolding seenScene bufferedScene bufferedLegal bare
   buffer-is l = buffer-judged files (length buffer) q ok n found c (seen l) right-code buffer
-
-  -- the same, of what the program has found
-  module _ (bares : List OpenFile) (o : bares ≡ bare s .files) (sound : Bool) (t : sound ≡ every (heldGood (s .table)) (s .files)) (e : Entry) (x : e ≡ entryAt (s .table) i)
-      (b : BufferedFile) (h : b ≡ heldOf s i) (l : length (b .buffer) ≡ sector) (m : ℕ) (z : m ≡ length (codeGiven e given)) where
-    abbrev plain : Session
-    plain = record { table = s .table; files = bares }
-
-    abbrev met : Scene
-    met = seenScene image plain (b .held) (lentBy b) i given
-
-    pub verdict-told : verdictOf (legal image plain && sound) (openFiles bares) (length buffer) m q met ≡ j
-    unfolding bare
-    verdict-told = rw (o, t, h, z, x) (verdict-is (rw h at l))
-
-    pub buffer-told : bufferNext (answerOf (legal image plain && sound) (openFiles bares) (length buffer) m q met) q met buffer ≡ bufferNext a q c buffer
-    unfolding bare
-    buffer-told = rw (o, t, h, z, x) (buffer-is (rw h at l))
 
   -- the scene that the effects go by
   pub scene-is : sceneWith image i (entryAt (s .table) i) held given ≡ c

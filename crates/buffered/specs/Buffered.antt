@@ -1,39 +1,26 @@
--- What the functions of this crate hand on to each other. Definitions only.
+-- What a request comes to, and what the functions of this crate hand on to each other. Definitions only.
 use mathlib.Core.Path.{_≡_}
 use mathlib.Core.Bool.{Bool, true, false, not}
 use mathlib.Core.List.{List, [], _∷_}
-use Prim.Native.Nat.{ℕ, _+_, _*_}
+use Prim.Native.Nat.{ℕ}
 use lib.Dec.{eqb}
 use lib.ListN.{length}
 use Rattle.geometry.specs.Bytes.{part, lay}
-use Rattle.geometry.specs.Sizes.{sector, compressed}
-use Rattle.directory.specs.Entries.{isKind}
-use Rattle.packing.specs.Reading.{startOf}
-use Rattle.sessions.specs.Session.{idle, fresh, extentWith}
+use Rattle.geometry.specs.Sizes.{sector}
+use Rattle.sessions.specs.Session.{idle, fresh}
 use Rattle.steps.specs.Effects.{Effect, Bench, storeEffect, effects}
-use Rattle.steps.specs.Next.{Scene}
 use Rattle.steps.specs.Step.{After, bufferedStep}
 use Rattle.straight.specs.Straight.{writing}
 use Rattle.held.specs.Held.{lent, scene, readWith, writeWith}
-use Rattle.storing.specs.Stored.{heldWidth, filesAt, isBufferedStored, bufferedIn, bufferedStored, layEntry, layHeld, layState}
+use Rattle.storing.specs.Stored.{isBufferedStored, bufferedIn, bufferedStored, layCounts, layHeld, layState}
+use Rattle.storing.specs.Lent.{bufferAt}
 use Rattle.judging.specs.Lent.{lentAfter}
 use Rattle.directory.specs.declared.Entry.{Entry}
 use Rattle.sessions.specs.declared.Holding.{Holding}
 use Rattle.requests.specs.declared.Request.{Request}
 use Rattle.requests.specs.declared.Request.the-variants.{Open, Read, Write, GranuleRead, GranuleWrite, GranuleLook, Position}
-use Rattle.sessions.specs.declared.BufferedFile.{BufferedFile}
-use Rattle.sessions.specs.declared.BufferedSession.{BufferedSession}
 use Rattle.sessions.specs.declared.OpenFile.{OpenFile}
 use Rattle.steps.specs.declared.Verdict.{Verdict}
-use Rattle.buffered.specs.declared.Reply.{Reply}
-
--- the scene of a request, from its parts
-abbrev pub sceneWith : List ℕ → ℕ → Entry → BufferedFile → List ℕ → Scene
-sceneWith image i e b given = record { number = i; entry = e; file = b .file; bytes = extentWith e b image; given = given }
-
--- k is the sector that a record read of a compressed file lies in
-abbrev pub Found : List ℕ → Request → Entry → BufferedFile → ℕ → Type 0
-Found image q e b k = q ≡ Read → isKind compressed e ≡ true → k ≡ startOf (extentWith e b image) (b .file .here) .sector
 
 -- as `effects`: the sector that a record read of a compressed file lies in, and the code of the bytes given, are given
 unfoldable pub effectsWith : Request → Entry → OpenFile → List ℕ → List ℕ → ℕ → List Effect
@@ -45,16 +32,6 @@ effectsWith (GranuleWrite g) e f given code k = storeEffect (writing e f given) 
 effectsWith (GranuleLook g) e f given code k = []
 effectsWith (Position o) e f given code k = effects (Position o) (scene 0 e)
 
--- a reply, with the image and the caller's buffer behind it
-abbrev pub after : Reply → List ℕ → List ℕ → After BufferedSession
-after r image buffer = record { answer = r .answer; image = image; session = r .session; buffer = buffer }
-
--- ---- a request on a session in lent bytes
-
--- where the buffer of state k begins
-abbrev pub bufferAt : ℕ → ℕ
-bufferAt k = filesAt + heldWidth * k + 36
-
 -- the bytes with a fresh state of number k, if that is not in use
 unfoldable pub readied : List ℕ → ℕ → Bool → List ℕ
 readied b k used = elim used [ true ↦ b | false ↦ layHeld b k (fresh idle) ]
@@ -65,14 +42,14 @@ Acted image b k h act image′ b′ h′ =
     let w : Bench = act (lent image h (part b (bufferAt k) sector)) in
     (lent image′ h′ (w .file .buffer) ≡ w) × (b′ ≡ lay b (bufferAt k) (w .file .buffer)) × (length (w .file .buffer) ≡ sector)
 
--- the bytes with a verdict's entry of number i and its state of number k: one that is open keeps its buffer, one that is closed gets a fresh one
+-- the bytes with the count and flags of a verdict's entry of number i and its state of number k: one that is open keeps its buffer, one that is closed gets a fresh one
 unfoldable pub layNext : List ℕ → ℕ → ℕ → Verdict → Holding → List ℕ
 layNext b i k v h = elim (v .file .used) [
-  | true ↦ layState (layEntry b i (v .entry)) k (v .file) (h .holds) (h .held) (h .changed)
-  | false ↦ layHeld (layEntry b i (v .entry)) k (fresh (v .file))
+  | true ↦ layState (layCounts b i (v .entry .count) (v .entry .flags)) k (v .file) (h .holds) (h .held) (h .changed)
+  | false ↦ layHeld (layCounts b i (v .entry .count) (v .entry .flags)) k (fresh (v .file))
 ]
 
 -- a request on the session that lent bytes are
-unfoldable pub served : List ℕ → List ℕ → ℕ → Request → List ℕ → List ℕ → After (List ℕ)
-served image session i q given buffer =
+unfoldable pub requested : List ℕ → List ℕ → ℕ → Request → List ℕ → List ℕ → After (List ℕ)
+requested image session i q given buffer =
     lentAfter (isBufferedStored session) bufferedStored session (bufferedStep image (bufferedIn session) i q given buffer)

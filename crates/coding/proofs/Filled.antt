@@ -11,10 +11,9 @@ use lib.ListN.{length, take, drop, getD, replicate, length-drop, length-replicat
 use lib.Seq.{take-at, drop-at, take-add, drop-drop, getD-drop, paste, length-paste, take-paste, drop-paste}
 use Rattle.geometry.specs.Sizes.{blank}
 use Rattle.geometry.specs.Bytes.{lay}
-use Rattle.geometry.proofs.Bytes.{length-lay}
 use Rattle.coding.specs.declared.Coded.{Coded}
 use Rattle.coding.specs.Decode.{Decoded, good, bad, before, decodeFrom, run, decode, answer, given, isGood, Awaited, filled}
-use Rattle.coding.proofs.Parts.{lay-all}
+use Rattle.geometry.proofs.Bytes.{lay-all, length-lay}
 use Rattle.coding.proofs.Reader.{at-end, at-stop, at-goOn, at-characters, at-full, at-blanks, run-short, run-full, run-on, answer-good, answer-bad}
 
 -- ---- good codes
@@ -167,7 +166,7 @@ unfolding decode isGood
 awaited s old out e is laid =
     let g = answer-good (decode (length old) s) e (sym is) in
     let long : length out ≡ length old = ap length laid ∙ length-lay old 0 _ in
-    let blanks : out ≡ replicate (length old) blank = laid ∙ lay-all old _ (length-replicate (length old) blank) in
+    let blanks : out ≡ replicate (length old) blank = laid ∙ lay-all (length old) old _ refl (length-replicate (length old) blank) in
     record { sound = rw (long, sub-zero, g .1); fits = omega arith; empty = rw (sub-zero, long) blanks }
 
 -- which is then in it

@@ -1,13 +1,12 @@
 -- Reading gives back what the writer coded: each run is read as its characters, and the blanks that the writer dropped come back with the 0.
 use mathlib.Core.Path.{_≡_, refl, sym, ap, ap₂, _∙_}
-use mathlib.Core.Logic.{_≢_}
 use mathlib.Core.Bool.{Bool, true, false}
 use mathlib.Core.List.{List, [], _∷_, _++_, append-assoc, append-nil}
 use Prim.Native.Nat.{ℕ, zero, suc, _+_, _-_, _≤_, _<_}
 use native.Mathlib.Nat.{le-refl, sub-zero, zero-add}
 use native.Mathlib.Numerals.{sub-one}
 use native.Mathlib.Omega.{arith}
-use lib.ListN.{length, take, drop, getD, replicate, length-append, length-drop, length-replicate, take-append-drop}
+use lib.ListN.{length, take, drop, replicate, length-append, length-drop, length-replicate, take-append-drop}
 use lib.Seq.{take-at, drop-at, length-take-le, take-length, take-append-le}
 use borrow.Author.Tests.{le-leb}
 use Rattle.geometry.specs.Sizes.{blank}
@@ -16,7 +15,6 @@ use Rattle.geometry.proofs.Bytes.{length-padded}
 use Rattle.coding.specs.Decode.{Control, control, good, before, obey, decodeFrom, decode}
 use Rattle.coding.specs.Encode.{keeps, inGap, runLength, runCode, runsCode, encode, codeOf}
 use Rattle.coding.proofs.Reader.{control-characters, control-blanks, skip}
-use Rattle.coding.proofs.Known.{decode-good, decode-128}
 use Rattle.coding.proofs.Runs.{run-le, run-own, gap-blank, run-blanks, keeps-le, keeps-trims, keeps-front, keeps-blanks}
 
 -- a run is read as its characters
@@ -94,17 +92,3 @@ decode-codeOf R given rest h = rw (length-padded blank R given h) at (decode-enc
 module _ (x : List ℕ) where
   alone : decode (length x) (encode x) ≡ good x (length (encode x))
   alone = rw append-nil at (decode-encode x [])
-
-  pub encode-some : 1 ≤ length (encode x)
-  encode-some = decode-good (length x) (encode x) x (length (encode x)) alone .1
-
-  pub encode-first : getD (encode x) 0 0 ≢ 128
-  encode-first = decode-128 (length x) (encode x) x (length (encode x)) alone
-
-pub codeOf-some : (R : ℕ) (given : List ℕ) → 1 ≤ length (codeOf R given)
-unfolding codeOf
-codeOf-some R given = encode-some (padded blank R given)
-
-pub codeOf-first : (R : ℕ) (given : List ℕ) → getD (codeOf R given) 0 0 ≢ 128
-unfolding codeOf
-codeOf-first R given = encode-first (padded blank R given)

@@ -1,7 +1,7 @@
 -- The writer's runs: how long they are, that a blank run has blanks alone, and that what the writer keeps of a record is the record without its
 -- trailing blanks. Each by induction on the characters.
 use mathlib.Core.Path.{_≡_, refl, sym, ap₂, _∙_}
-use mathlib.Core.Bool.{Bool, true, false, _&&_, _||_, Bool·beq}
+use mathlib.Core.Bool.{Bool, true, false, not, _&&_, _||_, Bool·beq}
 use mathlib.Core.List.{List, [], _∷_, _++_, append-assoc, append-nil}
 use Prim.Native.Nat.{ℕ, zero, suc, _+_, _-_, _≤_}
 use native.Mathlib.Omega.{arith}
@@ -16,7 +16,11 @@ pub same-self : (b : Bool) → Bool·beq b b ≡ true
 same-self true = refl
 same-self false = refl
 
-pub same-is : (a b : Bool) → Bool·beq a b ≡ true → a ≡ b
+pub same-not : (b : Bool) → Bool·beq (not b) b ≡ false
+same-not true = refl
+same-not false = refl
+
+same-is : (a b : Bool) → Bool·beq a b ≡ true → a ≡ b
 same-is true true h = refl
 same-is true false h = let z : _≡_ {A = ℕ} 0 1 = cc in absurd (omega arith)
 same-is false true h = let z : _≡_ {A = ℕ} 0 1 = cc in absurd (omega arith)

@@ -121,11 +121,3 @@ bytes-runs (c ∷ s) zero q b =
     let le = run-le 127 gap q (c ∷ s) in
     let l : length (take n (c ∷ s)) ≡ n = length-take-le n (c ∷ s) (le .1) in
     bytes-append (runCode gap (take n (c ∷ s))) (runsCode (n - 1) c s) (bytes-run gap (take n (c ∷ s)) (omega arith) (bytes-take n (c ∷ s) b)) (bytes-runs s (n - 1) c (λ i. b (suc i)))
-
-pub encode-bytes : (x : List ℕ) → ((i : ℕ) → getD x i 0 < 256) → (i : ℕ) → getD (encode x) i 0 < 256
-unfolding encode
-encode-bytes x b = bytes-runs (take (keeps (length x) x) x) 0 0 (bytes-take (keeps (length x) x) x b)
-
-pub codeOf-bytes : (R : ℕ) (given : List ℕ) → ((i : ℕ) → getD given i 0 < 256) → (i : ℕ) → getD (codeOf R given) i 0 < 256
-unfolding codeOf
-codeOf-bytes R given b = rw encode-padded (encode-bytes given b)

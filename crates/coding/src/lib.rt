@@ -4,14 +4,14 @@ use geometry::byte_at;
 use geometry::fill;
 use geometry::put;
 ghost use mathlib.Core.Path.{_≡_};
-ghost use mathlib.Core.Bool.{not, Bool·beq};
+ghost use mathlib.Core.Bool.{true, false};
 ghost use mathlib.Core.List.{_∷_};
 ghost use Prim.Native.Nat.{_+_, _-_, _≤_, _<_, _^_, min};
-ghost use lib.ListN.{length, drop, getD};
+ghost use lib.ListN.{length, take, drop, getD};
 ghost use lib.Seq.{sets, paste};
 ghost use Rattle.coding.specs.Decode.{decodeFrom, run, answer, given, Awaited, filled};
 ghost use Rattle.coding.specs.Decode as Decode;
-ghost use Rattle.coding.specs.Encode.{gapAt, runCode, runsCode};
+ghost use Rattle.coding.specs.Encode.{gapAt, runLength, runsCode};
 ghost use Rattle.coding.specs.Encode as Encode;
 
 // What decoding one record gives: the number of bytes of its code, or the offset of the control byte that cannot be obeyed.
@@ -111,32 +111,44 @@ fn before(x: &[u8], j: usize) -> u8
     if j == 0 { 0 } else { byte_at(x, j - 1) }
 }
 
-// Whether the character at the place j of x goes into a blank run: a blank with a blank beside it.
+// Whether the character at the place j of x goes into a blank run: a blank with a blank beside it. No blank is the last character of x.
 fn in_gap(x: &[u8], j: usize) -> bool
-    requires { ⌜ j < length (now x) ⌝ }
+    requires { ⌜ (j < length (now x)) × (Encode.keeps (length (now x)) (now x) ≡ length (now x)) ⌝ }
     ensures { λ r. ⌜ r ≡ gapAt (now (x .entry)) j ⌝ }
 {
     if x[j] != Geometry::BLANK {
         return false;
     }
-    if byte_at(x, j + 1) == Geometry::BLANK {
+    if x[j + 1] == Geometry::BLANK {
         return true;
     }
     before(x, j) == Geometry::BLANK
 }
 
-// Whether the character at the place j of x is of another sort than the one before it, which goes into a blank run as gap says.
-fn other(x: &[u8], j: usize, gap: bool) -> bool
-    requires { ⌜ (0 < j) × (j < length (now x)) × (gap ≡ gapAt (now x) (j - 1)) ⌝ }
-    ensures { λ r. ⌜ r ≡ not (Bool·beq (gapAt (now (x .entry)) j) gap) ⌝ }
+// The same, where the character before it does not go into one.
+fn begins_gap(x: &[u8], j: usize) -> bool
+    requires { ⌜ (0 < j) × (j < length (now x)) × (gapAt (now x) (j - 1) ≡ false) × (Encode.keeps (length (now x)) (now x) ≡ length (now x)) ⌝ }
+    ensures { λ r. ⌜ r ≡ gapAt (now (x .entry)) j ⌝ }
 {
     if x[j] != Geometry::BLANK {
-        return gap;
-    }
-    if gap {
         return false;
     }
-    byte_at(x, j + 1) == Geometry::BLANK
+    x[j + 1] == Geometry::BLANK
+}
+
+// The length of the blank run that begins at the place i of x, up to 127.
+fn gap_length(x: &[u8], i: usize) -> usize
+    requires { ⌜ (i < length (now x)) × (gapAt (now x) i ≡ true) × (Encode.keeps (length (now x)) (now x) ≡ length (now x)) ⌝ }
+    ensures { λ r. ⌜ r ≡ runLength 127 true (getD (0 ∷ now (x .entry)) i 0) (drop i (now (x .entry))) ⌝ }
+{
+    let mut n = 1;
+    while n < 127 {
+        if x[i + n] != Geometry::BLANK {
+            return n;
+        }
+        n += 1;
+    }
+    n
 }
 
 // The lesser of two numbers.
@@ -146,53 +158,48 @@ fn least(a: usize, b: usize) -> usize
     if a <= b { a } else { b }
 }
 
-// Puts xs at the place at of out and behind it, as far as there are such places.
-fn put_all(out: &mut [u8], at: usize, xs: &[u8])
-    ensures { λ _. ⌜ now (out .exit) ≡ sets (now (out .entry)) at (now (xs .entry)) ⌝ }
+// Puts the run of characters that begins at the place i of x, up to 127, at the place at of out and behind it, as far as there are such places.
+// Returns its length.
+fn put_characters(x: &[u8], i: usize, out: &mut [u8], at: usize) -> usize
+    requires { ⌜ (i < length (now x)) × (gapAt (now x) i ≡ false) × (Encode.keeps (length (now x)) (now x) ≡ length (now x)) × (at + (length (now x) - i) < 2 ^ 64) ⌝ }
+    ensures { λ r. ⌜ (r ≡ runLength 127 false (getD (0 ∷ now (x .entry)) i 0) (drop i (now (x .entry))))
+        × (now (out .exit) ≡ sets (now (out .entry)) at (take r (drop i (now (x .entry))))) ⌝ }
 {
-    if at < out.len() {
-        let n = least(xs.len(), out.len() - at);
-        copy(xs, 0, n, out, at);
+    let end = least(i + 127, x.len());
+    let mut j = i;
+    let mut to = at;
+    loop {
+        put(out, to, x[j]);
+        j += 1;
+        if j == end {
+            return j - i;
+        }
+        if begins_gap(x, j) {
+            return j - i;
+        }
+        to += 1;
     }
 }
 
-// Puts the code of the run xs, of blanks or of characters, at the place at of out. Returns the place behind it.
-fn put_run(out: &mut [u8], at: usize, gap: bool, xs: &[u8]) -> usize
-    requires { ⌜ (at + 1 + length (now xs) < 2 ^ 64) × (length (now xs) ≤ 127) ⌝ }
-    ensures { λ r. ⌜ (r ≡ at + length (runCode gap (now (xs .entry)))) × (now (out .exit) ≡ sets (now (out .entry)) at (runCode gap (now (xs .entry)))) ⌝ }
-{
-    let n = xs.len();
-    if gap {
-        put(out, at, (128 + n) as u8);
-        at + 1
-    } else {
-        put(out, at, n as u8);
-        put_all(out, at + 1, xs);
-        at + 1 + n
-    }
-}
-
-// Puts the code of all of x into out, run by run, each as long as it can be, up to 127. Returns the code's length.
+// Puts the code of all of x, whose last character is no blank, into out, run by run, each as long as it can be, up to 127. Returns the code's length.
 fn put_runs(x: &[u8], out: &mut [u8]) -> usize
+    requires { ⌜ Encode.keeps (length (now x)) (now x) ≡ length (now x) ⌝ }
     ensures { λ r. ⌜ (r ≡ length (runsCode 0 0 (now (x .entry)))) × (now (out .exit) ≡ sets (now (out .entry)) 0 (runsCode 0 0 (now (x .entry)))) ⌝ }
 {
     let mut i = 0;
     let mut at = 0;
     while i < x.len() {
-        let gap = in_gap(x, i);
-        let most = least(127, x.len() - i);
-        let mut k = 1;
-        let n = 'run: loop {
-            if k == most {
-                break 'run k;
-            }
-            if other(x, i + k, gap) {
-                break 'run k;
-            }
-            k += 1;
-        };
-        at = put_run(out, at, gap, &x[i..i + n]);
-        i += n;
+        if in_gap(x, i) {
+            let n = gap_length(x, i);
+            put(out, at, (128 + n) as u8);
+            i += n;
+            at += 1;
+        } else {
+            let n = put_characters(x, i, out, at + 1);
+            put(out, at, n as u8);
+            i += n;
+            at += 1 + n;
+        }
     }
     put(out, at, 0);
     at + 1
@@ -202,14 +209,18 @@ fn put_runs(x: &[u8], out: &mut [u8]) -> usize
 fn keeps(x: &[u8]) -> usize
     ensures { λ r. ⌜ r ≡ Encode.keeps (length (now (x .entry))) (now (x .entry)) ⌝ }
 {
-    let mut e = x.len();
-    while 0 < e {
-        if x[e - 1] != Geometry::BLANK {
-            return e;
+    let n = x.len();
+    if n == 0 {
+        return 0;
+    }
+    let mut e = n - 1;
+    while x[e] == Geometry::BLANK {
+        if e == 0 {
+            return 0;
         }
         e -= 1;
     }
-    0
+    e + 1
 }
 
 // Puts the code of the record x into out, as far as out has room. Returns the length of the whole code.

@@ -1,23 +1,22 @@
 -- What a used entry of a good directory keeps, and what two of them keep: each rule, read at those entries.
-use mathlib.Core.Path.{_≡_, refl, sym, ap}
+use mathlib.Core.Path.{_≡_, refl, ap}
 use mathlib.Core.Bool.{Bool, true, false, _&&_, _||_, not}
 use mathlib.Core.List.{List}
-use Prim.Native.Nat.{ℕ, zero, suc, _+_, _%_, _≤_, _<_}
+use Prim.Native.Nat.{ℕ, _+_, _%_, _≤_, _<_}
 use native.Mathlib.Omega.{arith}
 use native.Mathlib.Decide.{decLt}
-use lib.ListN.{length, getD, replicate, List·getD-eq-default}
+use lib.ListN.{length, getD, List·getD-eq-default}
 use lib.Dec.{leb, eqb}
 use borrow.Author.Tests.{leb-true, eqb-true, eqb-false, ne-eqb, eq-eqb, not-true}
-use Rattle.geometry.specs.Bytes.{word}
-use Rattle.geometry.specs.Lists.{all, every, pairwise, same}
+use Rattle.geometry.specs.Lists.{every}
 use Rattle.geometry.specs.Sizes.{unblocked, blocked, random, mostRecords, mostSectors}
 use Rattle.geometry.specs.Places.{capacity}
 use Rattle.directory.specs.declared.Entry.{Entry}
-use Rattle.directory.specs.Entries.{entryBytes, isFree, isKind, isMarked, entryAt, freeEntry}
-use Rattle.directory.specs.Rules.{kindKnown, freeIsZero, isName, nameGood, namesDiffer, extentInside, extentsApart, flagsKnown, longest, lengthGood, countGood, randomBare, tableRules, tableGood}
+use Rattle.directory.specs.Entries.{isFree, isKind, isMarked, entryAt, freeEntry}
+use Rattle.directory.specs.Rules.{kindKnown, isName, nameGood, extentInside, extentsApart, flagsKnown, longest, lengthGood, countGood, randomBare, tableRules, tableGood}
 use Rattle.geometry.proofs.Bytes.{Apart}
 use Rattle.geometry.proofs.Places.{capacity-word}
-use Rattle.geometry.proofs.Tests.{same-false, and-left, and-right, all-getD, every-getD, pairwise-getD}
+use Rattle.geometry.proofs.Tests.{and-left, and-right, all-getD, every-getD, pairwise-getD}
 
 -- what a used entry keeps, in an image of N sectors
 pub record Lies (N : ℕ) (e : Entry) : Type 0 where
@@ -118,10 +117,6 @@ no-shared a b u v e = go (leb (a .first + a .sectors) (b .first)) refl (rw (ne-e
     go true h q = let l = leb-true (a .first + a .sectors) (b .first) h in omega arith
     go false h q = let l = leb-true (b .first + b .sectors) (a .first) q in omega arith
 
-not-same : (a b : Entry) → ¬ (a .kind ≡ 0) → ¬ (b .kind ≡ 0) → namesDiffer a b ≡ true → ¬ (a .name ≡ b .name)
-unfolding namesDiffer
-not-same a b u v e = same-false (a .name) (b .name) (not-true (same (a .name) (b .name)) (rw (ne-eqb (a .kind) 0 u, ne-eqb (b .kind) 0 v) at e))
-
 module _ (N : ℕ) (t : List Entry) (ok : tableGood N t ≡ true) where
   rule : (k : ℕ) → getD (tableRules N t) k true ≡ true
   unfolding tableGood
@@ -152,28 +147,4 @@ module _ (N : ℕ) (t : List Entry) (ok : tableGood N t ≡ true) where
           let s = no-shared (entryAt t j) (entryAt t i) v u (two j i h u) in
           omega arith
 
-  -- and differ in their names
-  pub names-differ : (i j : ℕ) → ¬ (i ≡ j) → ¬ (entryAt t i .kind ≡ 0) → ¬ (entryAt t j .kind ≡ 0) → ¬ (entryAt t i .name ≡ entryAt t j .name)
-  unfolding tableRules
-  names-differ i j d u v = go (decLt i j)
-    where
-      two : (a b : ℕ) → a < b → ¬ (entryAt t a .kind ≡ 0) → ¬ (entryAt t b .kind ≡ 0) → ¬ (entryAt t a .name ≡ entryAt t b .name)
-      two a b l p q = not-same (entryAt t a) (entryAt t b) p q (pairwise-getD namesDiffer t a b freeEntry (rule 3) l (used-inside t b q))
-
-      go : Dec (i < j) → ¬ (entryAt t i .name ≡ entryAt t j .name)
-      go (yes l) = two i j l u v
-      go (no l) = λ e. two j i (omega (arith, d)) v u (sym e)
-
 -- ---- a table with no used entry
-
-pub empty-good : (N : ℕ) → tableGood N (replicate 18 freeEntry) ≡ true
-unfolding tableGood tableRules all every pairwise kindKnown freeIsZero entryBytes word nameGood namesDiffer extentInside extentsApart flagsKnown lengthGood countGood randomBare
-empty-good N = refl
-
-pub empty-free : (i : ℕ) → entryAt (replicate 18 freeEntry) i ≡ freeEntry
-empty-free i = at 18 i
-  where
-    at : (m k : ℕ) → getD (replicate m freeEntry) k freeEntry ≡ freeEntry
-    at zero k = refl
-    at (suc m) zero = refl
-    at (suc m) (suc k) = at m k

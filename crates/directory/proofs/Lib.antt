@@ -6,4 +6,5 @@ pub mod Grouped
 pub mod Good
 pub mod Stamped
 pub mod Restamp
+pub mod Sets
 pub mod Find

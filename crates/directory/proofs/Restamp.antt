@@ -1,8 +1,8 @@
 -- A count and flags within the rules keep a good directory good: no other rule looks at them.
-use mathlib.Core.Path.{_≡_, refl, ap, _∙_}
+use mathlib.Core.Path.{_≡_, refl, _∙_}
 use mathlib.Core.Bool.{Bool, true, false, _&&_, _||_, not}
 use mathlib.Core.List.{List}
-use Prim.Native.Nat.{ℕ, _≤_, _<_}
+use Prim.Native.Nat.{ℕ, _≤_}
 use native.Mathlib.Omega.{arith}
 use lib.ListN.{length, getD, set}
 use lib.Dec.{leb, eqb}
@@ -11,13 +11,10 @@ use Rattle.geometry.specs.Lists.{all, every, pairwise}
 use Rattle.geometry.specs.Sizes.{unblocked, blocked, random, mostRecords}
 use Rattle.geometry.specs.Places.{capacity}
 use Rattle.directory.specs.declared.Entry.{Entry}
-use Rattle.directory.specs.Entries.{tableOf, isKind, isMarked, entryAt, freeEntry}
+use Rattle.directory.specs.Entries.{isKind, isMarked, entryAt, freeEntry}
 use Rattle.directory.specs.Rules.{kindKnown, freeIsZero, nameGood, namesDiffer, extentInside, extentsApart, flagsKnown, lengthGood, countGood, randomBare, tableRules, tableGood}
-use Rattle.directory.specs.Stamp.{stamped, restamped}
+use Rattle.directory.specs.Stamp.{restamped}
 use Rattle.geometry.proofs.Tests.{all-getD, every-set, every-set-same, pairwise-set-same}
-use Rattle.directory.proofs.Table.{length-table}
-use Rattle.directory.proofs.Good.{used-inside}
-use Rattle.directory.proofs.Stamped.{stamp-table}
 
 -- a count and flags that the rules allow an entry
 pub record Stampable (e : Entry) (count flags : ℕ) : Type 0 where
@@ -84,11 +81,3 @@ module _ (N : ℕ) (t : List Entry) (i count flags : ℕ) (ok : tableGood N t �
   unfolding tableGood tableRules all kindKnown nameGood namesDiffer extentInside extentsApart lengthGood
   restamp-good used s =
       rw (same-one kindKnown (rule 0) refl, kept freeIsZero (rule 1) (new-free e used count flags s), same-one nameGood (rule 2) refl, same-two namesDiffer (rule 3) (λ y. refl) (λ y. refl), same-one (extentInside N) (rule 4) refl, same-two extentsApart (rule 5) (λ y. refl) (λ y. refl), kept flagsKnown (rule 6) (new-flags e used count flags s), same-one lengthGood (rule 7) refl, kept countGood (rule 8) (new-count e used count flags s), kept randomBare (rule 9) (new-bare e used count flags s))
-
--- so closing a file keeps the directory good
-pub stamp-good : (N : ℕ) (image : List ℕ) (i count flags : ℕ) → 360 ≤ length image → tableGood N (tableOf image) ≡ true
-    → ¬ (entryAt (tableOf image) i .kind ≡ 0) → Stampable (entryAt (tableOf image) i) count flags → tableGood N (tableOf (stamped image i count flags)) ≡ true
-stamp-good N image i count flags long ok used s =
-    let l : length (tableOf image) ≡ 18 = length-table image in
-    let h : i < length (tableOf image) = used-inside (tableOf image) i used in
-    ap (tableGood N) (stamp-table image i count flags (omega arith) (s .counted) long) ∙ restamp-good N (tableOf image) i count flags ok used s

@@ -8,7 +8,7 @@ use lib.ListN.{length, set, length-set}
 use lib.Seq.{getD-set-same, getD-set-other, ext-getD}
 use borrow.Author.Tests.{lt-ltb, le-ltb}
 use Rattle.geometry.specs.Bytes.{part, lay, word, wordAt}
-use Rattle.geometry.proofs.Bytes.{Outside, outside-lay, outside-same, outside-part, outside-wider, length-lay, lay-append, part-lay-apart, part-lay-within, wordAt-lay, wordAt-apart, length-part, length-word}
+use Rattle.geometry.proofs.Bytes.{Outside, outside-lay, outside-same, outside-part, length-lay, lay-append, part-lay-apart, part-lay-within, wordAt-lay, wordAt-apart, length-part, length-word}
 use Rattle.directory.specs.declared.Entry.{Entry}
 use Rattle.directory.specs.Entries.{entryFrom, tableOf, freeEntry, entryAt}
 use Rattle.directory.specs.Stamp.{stampBytes, stamped, restamped}
@@ -75,13 +75,6 @@ module _ (image : List ℕ) (i count flags : ℕ) where
           let l : length (stampBytes count flags) ≡ 4 = length-stampBytes count flags in
           subst (λ (x : List ℕ). Outside x image (20 * i + 16) 4) (sym (stamped-in h)) (outside-lay image (20 * i + 16) (stampBytes count flags) (20 * i + 16) 4 (omega arith) (omega arith))
       go (no h) = subst (λ (x : List ℕ). Outside x image (20 * i + 16) 4) (sym (stamped-none (omega arith))) (outside-same image (20 * i + 16) 4)
-
-  pub length-stamped : length (stamped image i count flags) ≡ length image
-  length-stamped = stamped-outside .size
-
-  -- and so is every byte behind the directory
-  pub stamped-behind : i < 18 → Outside (stamped image i count flags) image 0 360
-  stamped-behind h = outside-wider (stamped image i count flags) image (20 * i + 16) 4 0 360 stamped-outside (omega arith) (omega arith)
 
   -- the table changes at that entry alone
   pub stamp-table : i < 18 → count ≤ 65535 → 360 ≤ length image

@@ -8,8 +8,8 @@ use native.Mathlib.Omega.{arith}
 use native.Mathlib.Decide.{decLt}
 use lib.ListN.{length, take, drop, getD, set, replicate, length-replicate, getD-replicate, List·getD-eq-default}
 use lib.Seq.{drop-drop, length-take-le, take-suc, drop-cons, set-at, append-snoc, ext-getD}
-use Rattle.geometry.specs.Bytes.{part, lay, padded, wordAt}
-use Rattle.geometry.proofs.Bytes.{where-is, same-bytes, length-lay, length-part-min, length-padded, getD-lay-in, getD-lay-behind, getD-padded-in, getD-padded-behind, part-lay-apart, part-part, wordAt-small, wordAt-part}
+use Rattle.geometry.specs.Bytes.{part, lay, padded}
+use Rattle.geometry.proofs.Bytes.{where-is, same-bytes, length-lay, length-part-min, length-padded, getD-lay-in, getD-lay-behind, getD-padded-in, getD-padded-behind, part-lay-apart, part-part}
 use Rattle.geometry.specs.Sizes.{entries, entrySize}
 use Rattle.directory.specs.declared.Entry.{Entry}
 use Rattle.directory.specs.Entries.{entryFrom, entriesFrom, tableOf, freeEntry, entryAt}
@@ -87,10 +87,6 @@ table-part image = same-tables (part image 0 360) image λ (i : ℕ) (p : i < 18
     let e : 0 + 20 * i ≡ 20 * i = omega arith in
     part-part image 0 360 (20 * i) 20 (omega arith) ∙ ap (λ (k : ℕ). part image k 20) e
 
-pub table-take : (a b : List ℕ) → take 360 a ≡ take 360 b → tableOf a ≡ tableOf b
-unfolding part
-table-take a b e = sym (table-part a) ∙ ap tableOf e ∙ table-part b
-
 pub table-lay : (image : List ℕ) (at : ℕ) (xs : List ℕ) → 360 ≤ at → tableOf (lay image at xs) ≡ tableOf image
 table-lay image at xs h = same-tables (lay image at xs) image λ (i : ℕ) (p : i < 18). part-lay-apart image at xs (20 * i) 20 (omega arith)
 
@@ -114,29 +110,3 @@ of-entry P image i f g = go (decLt i 18)
 
 pub table-name : (image : List ℕ) (i : ℕ) → length (entryAt (tableOf image) i .name) ≡ 8
 table-name image i = of-entry (λ (e : Entry). length (e .name) ≡ 8) image i (λ h. length-name (part image (20 * i) 20)) refl
-
--- the fields of an entry are words
-pub record Words (e : Entry) : Type 0 where
-  pub kind : e .kind < 65536
-  pub length : e .length < 65536
-  pub first : e .first < 65536
-  pub sectors : e .sectors < 65536
-  pub count : e .count < 65536
-  pub flags : e .flags < 65536
-
-words-from : (b : List ℕ) → ((k : ℕ) → k + 2 ≤ 20 → wordAt b k < 65536) → Words (entryFrom b)
-unfolding entryFrom
-words-from b small = record {
-  kind = small 8 (omega arith);
-  length = small 10 (omega arith);
-  first = small 12 (omega arith);
-  sectors = small 14 (omega arith);
-  count = small 16 (omega arith);
-  flags = small 18 (omega arith);
-}
-
-pub table-words : (image : List ℕ) (i : ℕ) → ((k : ℕ) → getD image k 0 < 256) → Words (entryAt (tableOf image) i)
-table-words image i bytes = of-entry Words image i (λ h. words-from (part image (20 * i) 20) word-small) (record { kind = omega arith; length = omega arith; first = omega arith; sectors = omega arith; count = omega arith; flags = omega arith })
-  where
-    word-small : (k : ℕ) → k + 2 ≤ 20 → wordAt (part image (20 * i) 20) k < 65536
-    word-small k h = rw (wordAt-part image (20 * i) 20 k h) (wordAt-small image (20 * i + k) (bytes (20 * i + k)) (bytes (20 * i + k + 1)))

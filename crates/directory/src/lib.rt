@@ -5,16 +5,16 @@ use geometry::part;
 use geometry::same;
 use geometry::word_at;
 ghost use mathlib.Core.Path.{_≡_};
+ghost use mathlib.Core.Bool.{_||_};
 ghost use mathlib.Core.List.{_++_};
 ghost use lib.Dec.{eqb};
-ghost use lib.ListN.{drop, replicate, set};
+ghost use lib.ListN.{replicate};
 ghost use Rattle.geometry.specs.Bytes.{padded, word};
 ghost use Rattle.geometry.specs.Bytes as Bytes;
 ghost use Rattle.geometry.specs.Lists.{every};
 ghost use Rattle.geometry.specs.Lists as Lists;
-ghost use Rattle.geometry.specs.Sizes.{blank};
 ghost use Rattle.directory.specs.Entries.{entryFrom, entryBytes, oneWord, freeEntry, tableOf, entryAt, isMarked, isProtected};
-ghost use Rattle.directory.specs.Rules.{capital, digit, restOfName, isName, extentFits, longest, lengthFits, countGood, randomBare, tableGood};
+ghost use Rattle.directory.specs.Rules.{capital, digit, isName, extentFits, longest, lengthFits, countGood, randomBare, tableGood};
 ghost use Rattle.directory.specs.Grouped.{entryGood, usedGood, twoGood};
 ghost use Rattle.directory.specs.Search.{matches};
 ghost use Rattle.directory.specs.Search as Search;
@@ -159,19 +159,6 @@ pub fn entry_of(t: [Entry; 18], i: usize) -> Entry
     }
 }
 
-// The table with another entry of number i, if it has one of that number.
-pub fn with_entry(table: [Entry; 18], i: usize, e: Entry) -> [Entry; 18]
-    ensures { λ r. ⌜ r ≡ set table i e ⌝ }
-{
-    if i < Geometry::ENTRIES {
-        let mut t = table;
-        t[i] = e;
-        t
-    } else {
-        table
-    }
-}
-
 // Entry i of an image's directory; a free one where there is none.
 pub fn entry_at(image: &[u8], i: usize) -> Entry
     ensures { λ r. ⌜ r ≡ entryAt (tableOf (now (image .entry))) i ⌝ }
@@ -213,46 +200,48 @@ pub fn is_protected(e: Entry) -> bool
 
 // ---- the rules of one entry
 
-// Whether c is a capital letter.
+// Whether c is a capital letter: a set of the bytes from C0 on has it, one bit for each.
 fn is_capital(c: u8) -> bool
     ensures { λ r. ⌜ r ≡ capital c ⌝ }
 {
-    ((0xC1 <= c) & (c <= 0xC9)) | (((0xD1 <= c) & (c <= 0xD9)) | ((0xE2 <= c) & (c <= 0xE9)))
-}
-
-// Whether c is a digit.
-fn is_digit(c: u8) -> bool
-    ensures { λ r. ⌜ r ≡ digit c ⌝ }
-{
-    (0xF0 <= c) & (c <= 0xF9)
-}
-
-// Where the capitals and digits behind a name's first byte end. Only blanks may stand from there on.
-fn name_end(x: &[u8]) -> usize
-    ensures { λ r. ⌜ restOfName (drop 1 (now (x .entry))) ≡ every (λ b. eqb b blank) (drop r (now (x .entry))) ⌝ }
-{
-    let mut k: usize = 1;
-    while k < x.len() {
-        let c = x[k];
-        if !(is_capital(c) | is_digit(c)) {
-            return k;
-        }
-        k += 1;
+    if c < 0xC0 {
+        return false;
     }
-    k
+    (0x000003FC03FE03FEu64 >> (c % 64)) % 2 == 1
 }
 
-// Whether x is a capital letter followed by capitals or digits, then only blanks.
+// Whether c is a capital letter or a digit, by another such set.
+fn is_capital_or_digit(c: u8) -> bool
+    ensures { λ r. ⌜ r ≡ (capital c || digit c) ⌝ }
+{
+    if c < 0xC0 {
+        return false;
+    }
+    (0x03FF03FC03FE03FEu64 >> (c % 64)) % 2 == 1
+}
+
+// Whether x is a capital letter followed by capitals or digits, then only blanks: behind the first blank no more capitals or digits.
 pub fn is_name(x: &[u8]) -> bool
     ensures { λ r. ⌜ r ≡ isName (now (x .entry)) ⌝ }
 {
     if x.len() == 0 {
         return false;
     }
-    let mut k = name_end(x);
+    let mut ended = false;
+    let mut k: usize = 1;
     while k < x.len() {
-        if x[k] != Geometry::BLANK {
-            return false;
+        let c = x[k];
+        if ended {
+            if c != Geometry::BLANK {
+                return false;
+            }
+        } else {
+            if !is_capital_or_digit(c) {
+                if c != Geometry::BLANK {
+                    return false;
+                }
+                ended = true;
+            }
         }
         k += 1;
     }
@@ -351,7 +340,7 @@ pub fn used_good(e: Entry, n: u32) -> bool
 }
 
 // Whether an entry keeps the rules of one entry, in an image of n sectors.
-pub fn entry_good(e: Entry, n: u32) -> bool
+fn entry_good(e: Entry, n: u32) -> bool
     ensures { λ r. ⌜ r ≡ entryGood n e ⌝ }
 {
     if e.kind == Geometry::FREE {
@@ -376,7 +365,7 @@ fn same_name(x: [u8; 8], y: [u8; 8]) -> bool
 
 // Whether two entries keep the rules of two. The extents are looked at before the names, since that is quick:
 // they share a sector where each starts before the other ends.
-pub fn two_good(a: Entry, b: Entry) -> bool
+fn two_good(a: Entry, b: Entry) -> bool
     ensures { λ r. ⌜ r ≡ twoGood a b ⌝ }
 {
     if (a.kind == Geometry::FREE) | (b.kind == Geometry::FREE) {

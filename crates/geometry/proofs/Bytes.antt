@@ -6,7 +6,7 @@ use native.Mathlib.Omega.{arith}
 use native.Mathlib.Decide.{decLt, decLe}
 use borrow.Author.Tests.{le-leb, lt-leb}
 use lib.ListN.{length, take, drop, getD, set, replicate, length-append, length-take, length-drop, length-replicate, getD-replicate, List·getD-append}
-use lib.Seq.{getD-take, getD-drop, getD-append-add, length-take-le, ext-getD, take-all, take-add, drop-cons, drop-drop, set-split, set-out, paste, paste-suc}
+use lib.Seq.{getD-take, getD-drop, getD-append-add, length-take-le, ext-getD, take-all, take-add, drop-cons, drop-drop, paste, paste-suc}
 use Rattle.geometry.specs.Bytes.{part, lay, wordAt, word, padded}
 
 -- ---- ranges of places, and a place among them
@@ -141,18 +141,6 @@ same-parts a b at n e h =
     let p : i < n = omega arith in
     getD-part a at n i 0 p ∙ h i p ∙ sym (getD-part b at n i 0 p)
 
--- what is left from a place on
-pub part-rest : (img : List ℕ) (at : ℕ) → part img at (length img - at) ≡ drop at img
-unfolding part
-part-rest img at = take-all (length img - at) (drop at img) (simp length-drop (omega arith))
-
--- parts that are the same have the same bytes, and the same parts of their own
-pub part-byte : (a b : List ℕ) (at n : ℕ) → part a at n ≡ part b at n → (i : ℕ) → i < n → getD a (at + i) 0 ≡ getD b (at + i) 0
-part-byte a b at n e i h = sym (getD-part a at n i 0 h) ∙ ap (λ (x : List ℕ). getD x i 0) e ∙ getD-part b at n i 0 h
-
-pub part-narrower : (a b : List ℕ) (at n k m : ℕ) → part a at n ≡ part b at n → k + m ≤ n → part a (at + k) m ≡ part b (at + k) m
-part-narrower a b at n k m e h = sym (part-part a at n k m h) ∙ ap (λ (x : List ℕ). part x k m) e ∙ part-part b at n k m h
-
 -- a part whose place and size were clipped first
 pub part-clip : (img : List ℕ) (at n : ℕ) → part img (min at (length img)) (min n (length img - min at (length img))) ≡ part img at n
 part-clip img at n =
@@ -186,6 +174,10 @@ pub part-lay-same : (img : List ℕ) (at : ℕ) (xs : List ℕ) (n : ℕ) → le
 part-lay-same img at xs n e h =
     let z : at + 0 ≡ at = omega arith in
     ap (λ (a : ℕ). part (lay img at xs) a n) (sym z) ∙ part-lay-inside img at xs (omega arith) 0 n (omega arith) ∙ part-all xs n e
+
+-- bytes laid over as many
+pub lay-all : (n : ℕ) (old xs : List ℕ) → length old ≡ n → length xs ≡ n → lay old 0 xs ≡ xs
+lay-all n old xs h k = sym (part-all (lay old 0 xs) n (length-lay old 0 xs ∙ h)) ∙ part-lay-same old 0 xs n k (omega arith)
 
 -- ---- laying what is there, or nothing
 
@@ -349,13 +341,6 @@ lay-append img at xs ys h =
     getD-lay-behind img at (xs ++ ys) i 0 (omega arith) ∙ sym (getD-lay-behind img at xs i 0 u)
     ∙ sym (getD-lay-behind (lay img at xs) (at + length xs) ys i 0 v)))
 
-pub lay-set : (img : List ℕ) (i a : ℕ) → set img i a ≡ lay img i (a ∷ [])
-lay-set img i a = fits-or img i (a ∷ [])
-    (λ (h : i + 1 ≤ length img).
-    let e : i + 1 ≡ suc i = omega arith in
-    set-split img i a (omega arith) ∙ sym (lay-fits img i (a ∷ []) h ∙ ap (λ (n : ℕ). take i img ++ (a ∷ drop n img)) e))
-    (λ (h : length img < i + 1) (e : lay img i (a ∷ []) ≡ img). set-out img i a (omega arith) ∙ sym e)
-
 pub lay-more : (img : List ℕ) (at : ℕ) (xs : List ℕ) (i : ℕ) → at + length xs ≤ length img → i < length xs
     → set (lay img at (take i xs)) (at + i) (getD xs i 0) ≡ lay img at (take (i + 1) xs)
 lay-more img at xs i h k =
@@ -366,6 +351,30 @@ lay-more img at xs i h k =
     as-paste n b =
         let l : length (take n xs) ≡ n = length-take-le n xs b in
         sym (lay-fits img at (take n xs) (omega arith) ∙ rw (l, append-assoc))
+
+-- the first j + n bytes: the first j, and then n
+lay-take : (img : List ℕ) (at : ℕ) (xs : List ℕ) (j n : ℕ) → at + length xs ≤ length img → j + n ≤ length xs
+    → lay img at (take (j + n) xs) ≡ lay (lay img at (take j xs)) (at + j) (part xs j n)
+unfolding part
+lay-take img at xs j n h d =
+    let l : length (take j xs) ≡ j = length-take-le j xs (omega arith) in
+    let m : length (take n (drop j xs)) ≡ n = length-part xs j n d in
+    ap (λ (x : List ℕ). lay img at x) (take-add j n xs)
+    ∙ lay-append img at (take j xs) (take n (drop j xs)) (omega arith)
+    ∙ ap (λ (p : ℕ). lay (lay img at (take j xs)) (at + p) (take n (drop j xs))) l
+
+-- a turn that lays k bytes of xs from byte j on, where the first i are laid: what is laid twice is the same
+pub lay-again : (img : List ℕ) (at : ℕ) (xs : List ℕ) (i j k : ℕ) → at + length xs ≤ length img → j ≤ i → i ≤ j + k → j + k ≤ length xs
+    → lay (lay img at (take i xs)) (at + j) (part xs j k) ≡ lay img at (take (j + k) xs)
+lay-again img at xs i j k h a b c =
+    let e : i ≡ j + (i - j) = omega arith in
+    let l : length (lay img at (take j xs)) ≡ length img = length-lay img at (take j xs) in
+    let l₁ : length (part xs j (i - j)) ≡ i - j = length-part xs j (i - j) (omega arith) in
+    let l₂ : length (part xs j k) ≡ k = length-part xs j k c in
+    ap (λ (n : ℕ). lay (lay img at (take n xs)) (at + j) (part xs j k)) e
+    ∙ ap (λ (x : List ℕ). lay x (at + j) (part xs j k)) (lay-take img at xs j (i - j) h (omega arith))
+    ∙ lay-lay-over (lay img at (take j xs)) (at + j) (part xs j (i - j)) (at + j) (part xs j k) (omega arith) (omega arith) (omega arith)
+    ∙ sym (lay-take img at xs j k h c)
 
 -- ---- two lists that agree outside a range
 
@@ -382,9 +391,6 @@ outside-part a b at n p m o k = same-parts a b p m (o .size) λ (i : ℕ) (h : i
 
 pub outside-same : (a : List ℕ) (at n : ℕ) → Outside a a at n
 outside-same a at n = record { size = refl; byte = λ i k. refl }
-
-pub outside-then : (a b c : List ℕ) (at n : ℕ) → Outside a b at n → Outside b c at n → Outside a c at n
-outside-then a b c at n o p = record { size = o .size ∙ p .size; byte = λ i k. o .byte i k ∙ p .byte i k }
 
 pub outside-wider : (a b : List ℕ) (at n p m : ℕ) → Outside a b at n → p ≤ at → at + n ≤ p + m → Outside a b p m
 outside-wider a b at n p m o h k = record { size = o .size; byte = λ (i : ℕ) (q : Apart i 1 p m). o .byte i (omega arith) }
@@ -441,9 +447,6 @@ pub length-word : (n : ℕ) → length (word n) ≡ 2
 unfolding word
 length-word n = refl
 
-pub lay-two : (img : List ℕ) (at a b : ℕ) → at + 2 ≤ length img → set (set img at a) (at + 1) b ≡ lay img at (a ∷ b ∷ [])
-lay-two img at a b h = rw (lay-set img at a, lay-set (lay img at (a ∷ [])) (at + 1) b) (sym (lay-append img at (a ∷ []) (b ∷ []) h))
-
 -- a word that was laid
 pub wordAt-lay : (img : List ℕ) (at n : ℕ) → at + 2 ≤ length img → wordAt (lay img at (word n)) at ≡ n
 unfolding wordAt word
@@ -465,12 +468,6 @@ wordAt-part img at n k h =
     let e : at + (k + 1) ≡ (at + k) + 1 = omega arith in
     rw (getD-part img at n k 0 (omega arith), getD-part img at n (k + 1) 0 (omega arith), e)
 
--- where the two bytes are the same
-pub wordAt-alike : (a b : List ℕ) (at : ℕ) → part a at 2 ≡ part b at 2 → wordAt a at ≡ wordAt b at
-wordAt-alike a b at e =
-    let z : at + 0 ≡ at = omega arith in
-    ap (wordAt a) (sym z) ∙ sym (wordAt-part a at 2 0 (omega arith)) ∙ ap (λ (x : List ℕ). wordAt x 0) e ∙ wordAt-part b at 2 0 (omega arith) ∙ ap (wordAt b) z
-
 -- a word of bytes is below 65,536
 pub wordAt-small : (img : List ℕ) (at : ℕ) → getD img at 0 < 256 → getD img (at + 1) 0 < 256 → wordAt img at < 65536
 unfolding wordAt
@@ -486,9 +483,3 @@ word-wordAt img at h l =
     let hi : (256 * getD img at 0 + getD img (at + 1) 0) / 256 ≡ getD img at 0 = omega arith in
     let lo : (256 * getD img at 0 + getD img (at + 1) 0) % 256 ≡ getD img (at + 1) 0 = omega arith in
     rw (hi, lo, d)
-
-pub lay-wordAt : (img : List ℕ) (at : ℕ) → getD img (at + 1) 0 < 256 → lay img at (word (wordAt img at)) ≡ img
-lay-wordAt img at l = fits-or img at (word (wordAt img at))
-    (λ (h : at + length (word (wordAt img at)) ≤ length img).
-    ap (λ (x : List ℕ). lay img at x) (word-wordAt img at (rw length-word at h) l) ∙ lay-part img at 2)
-    (λ (h : length img < at + length (word (wordAt img at))) (e : lay img at (word (wordAt img at)) ≡ img). e)

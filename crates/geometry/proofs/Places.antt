@@ -104,11 +104,6 @@ module _ (kind R : ℕ) (pos : 0 < R) (small : kind ≡ blocked → R ≤ sector
   pub byte-blocked : kind ≡ blocked → (k : ℕ) → placeOf kind R k .byte + R ≤ sector
   byte-blocked e k = rw (place-blocked kind R k e) (ends-inside R pos (small e) k)
 
-  pub byte-inside : (k : ℕ) → placeOf kind R k .byte < sector
-  byte-inside k = by-kind kind
-      (λ (e : kind ≡ blocked). omega (arith, byte-blocked e k))
-      (λ (n : ¬ (kind ≡ blocked)). rw (place-whole kind R k n) (omega arith))
-
   -- two records in order
   pub record-order : (j k : ℕ) → j < k → byteOf (placeOf kind R j) + R ≤ byteOf (placeOf kind R k)
   record-order j k h = by-kind kind
@@ -136,14 +131,6 @@ module _ (kind R : ℕ) (pos : 0 < R) (small : kind ≡ blocked → R ≤ sector
   pub sector-below : (k sectors : ℕ) → k < capacity kind R sectors → placeOf kind R k .sector < sectors
   sector-below k sectors h = omega (arith, record-inside k sectors h)
 
-  -- two different records share no byte
-  pub records-apart : (j k : ℕ) → ¬ (j ≡ k) → Apart (byteOf (placeOf kind R j)) R (byteOf (placeOf kind R k)) R
-  records-apart j k n = go (decLt j k)
-    where
-      go : Dec (j < k) → Apart (byteOf (placeOf kind R j)) R (byteOf (placeOf kind R k)) R
-      go (yes l) = omega (arith, record-order j k l)
-      go (no l) = omega (arith, record-order k j (omega arith))
-
   -- a write of a record touches no earlier record
   pub earlier-apart : (j k : ℕ) → j < k → Apart (byteOf (placeOf kind R j)) R (byteOf (placeOf kind R k)) (spanOf kind R k)
   earlier-apart j k h = omega (arith, record-order j k h)
@@ -164,21 +151,6 @@ capacity-word kind R sectors h = by-kind kind
     (λ (n : ¬ (kind ≡ blocked)). rw (capacity-whole kind R sectors n) (omega (arith, div-le-self sectors (sectorsFor R))))
 
 -- ---- sectors of extents that share none
-
-pub sectors-apart : (f s g t : ℕ) → Apart f s g t → Apart (sector * f) (sector * s) (sector * g) (sector * t)
-sectors-apart f s g t h = omega arith
-
--- a range inside each of two
-pub inside-apart : (a n b m a′ n′ b′ m′ : ℕ) → Apart a n b m → a ≤ a′ → a′ + n′ ≤ a + n → b ≤ b′ → b′ + m′ ≤ b + m → Apart a′ n′ b′ m′
-inside-apart a n b m a′ n′ b′ m′ h p q r s = omega arith
-
--- one sector of each
-pub sector-apart : (f s g t i j : ℕ) → Apart f s g t → i < s → j < t → Apart (sector * (f + i)) sector (sector * (g + j)) sector
-sector-apart f s g t i j h p q = omega arith
-
--- two sectors
-pub two-sectors : (i j : ℕ) → ¬ (i ≡ j) → Apart (sector * i) sector (sector * j) sector
-two-sectors i j h = omega arith
 
 -- ---- an image of lawful length
 
@@ -207,12 +179,3 @@ lawful-from image N e l m =
       and-both (eqb (length image % 360) 0) (leb 1 (length image / 360) && leb (length image / 360) 4096) (eq-eqb (length image % 360) 0 (omega arith))
           (and-both (leb 1 (length image / 360)) (leb (length image / 360) 4096) (le-leb 1 (length image / 360) (omega arith)) (le-leb (length image / 360) 4096 (omega arith))),
     )
-
--- only the length counts
-pub sectorsOf-alike : (a b : List ℕ) → length a ≡ length b → sectorsOf a ≡ sectorsOf b
-unfolding sectorsOf
-sectorsOf-alike a b e = rw e
-
-pub lawful-alike : (a b : List ℕ) → length a ≡ length b → lawfulLength a ≡ lawfulLength b
-unfolding lawfulLength sectorsOf
-lawful-alike a b e = rw e

@@ -6,7 +6,6 @@ use mathlib.Core.List.{List, [], _∷_}
 use Prim.Native.Nat.{ℕ, zero, suc, _+_, _≤_, _<_}
 use native.Mathlib.Numerals.{add-one}
 use native.Mathlib.Omega.{arith}
-use native.Mathlib.Decide.{decLt}
 use lib.Dec.{eqb}
 use lib.ListN.{length, take, drop, getD, set, replicate}
 use lib.Seq.{drop-cons, drop-length}
@@ -42,11 +41,6 @@ and-right false b h = absurd (true≢false (sym h))
 
 pub and-both : (a b : Bool) → a ≡ true → b ≡ true → a && b ≡ true
 and-both a b h k = rw (h, k)
-
--- of two tests of which one holds, the first does not
-pub or-second : (a b : Bool) → a || b ≡ true → a ≡ false → b ≡ true
-or-second true b h k = absurd (true≢false k)
-or-second false b h k = h
 
 pub or-either : {P : Type 0} (a b : Bool) → a || b ≡ true → (a ≡ true → P) → (b ≡ true → P) → P
 or-either true b h f g = f refl
@@ -165,15 +159,6 @@ module _ {A : Type 0} where
   pairwise-getD r (x ∷ xs) (suc i) (suc j) d h l k =
       pairwise-getD r xs i j d (and-right (every (r x) xs) (pairwise r xs) h) (omega arith) (omega arith)
 
-  -- in either order, where r is one that tells no order
-  pub pairwise-two : (r : A → A → Bool) (xs : List A) (i j : ℕ) (d : A) → ((x y : A) → r x y ≡ r y x) → pairwise r xs ≡ true → ¬ (i ≡ j) → i < length xs → j < length xs
-      → r (getD xs i d) (getD xs j d) ≡ true
-  pairwise-two r xs i j d s h n l k = go (decLt i j)
-    where
-      go : Dec (i < j) → r (getD xs i d) (getD xs j d) ≡ true
-      go (yes u) = pairwise-getD r xs i j d h u k
-      go (no u) = s (getD xs i d) (getD xs j d) ∙ pairwise-getD r xs j i d h (omega arith) l
-
   pub pairwise-from : (r : A → A → Bool) (xs : List A) (d : A)
       → ((i j : ℕ) → i < j → j < length xs → r (getD xs i d) (getD xs j d) ≡ true) → pairwise r xs ≡ true
   unfolding pairwise
@@ -277,9 +262,6 @@ module _ {A : Type 0} where
   unfolding howMany
   one-no p x h = many-no p x [] h
 
-  one-alike : (p : A → Bool) (x y : A) → p x ≡ p y → howMany p (x ∷ []) ≡ howMany p (y ∷ [])
-  one-alike p x y e = either (p y) (λ (h : p y ≡ true). one-yes p x (e ∙ h) ∙ sym (one-yes p y h)) (λ (h : p y ≡ false). one-no p x (e ∙ h) ∙ sym (one-no p y h))
-
   many-cons : (p : A → Bool) (x : A) (xs : List A) → howMany p (x ∷ xs) ≡ howMany p (x ∷ []) + howMany p xs
   many-cons p x xs =
       either (p x) (λ (h : p x ≡ true). rw (many-yes p x xs h, one-yes p x h) (omega arith)) (λ (h : p x ≡ false). rw (many-no p x xs h, one-no p x h) (omega arith))
@@ -296,18 +278,6 @@ module _ {A : Type 0} where
   many-set p [] i a d l = absurd (omega arith)
   many-set p (x ∷ xs) zero a d l = omega (arith, many-cons p a xs, many-cons p x xs)
   many-set p (x ∷ xs) (suc i) a d l = omega (arith, many-set p xs i a d (omega arith), many-cons p x xs, many-cons p x (set xs i a))
-
-  pub many-set-same : (p : A → Bool) (xs : List A) (i : ℕ) (a d : A) → i < length xs → p a ≡ p (getD xs i d) → howMany p (set xs i a) ≡ howMany p xs
-  unfolding howMany
-  many-set-same p xs i a d l e = omega (arith, many-set p xs i a d l, one-alike p a (getD xs i d) e)
-
-  pub many-set-more : (p : A → Bool) (xs : List A) (i : ℕ) (a d : A) → i < length xs → p (getD xs i d) ≡ false → p a ≡ true
-      → howMany p (set xs i a) ≡ howMany p xs + 1
-  many-set-more p xs i a d l h k = omega (arith, many-set p xs i a d l, one-no p (getD xs i d) h, one-yes p a k)
-
-  pub many-set-less : (p : A → Bool) (xs : List A) (i : ℕ) (a d : A) → i < length xs → p (getD xs i d) ≡ true → p a ≡ false
-      → howMany p (set xs i a) + 1 ≡ howMany p xs
-  many-set-less p xs i a d l h k = omega (arith, many-set p xs i a d l, one-yes p (getD xs i d) h, one-no p a k)
 
   -- a turn of a loop from the front
   many-more : (p : A → Bool) (xs : List A) (i : ℕ) (d : A) → i < length xs → howMany p (take (suc i) xs) ≡ howMany p (take i xs) + howMany p (getD xs i d ∷ [])
@@ -376,11 +346,5 @@ same-refl (x ∷ a) = and-both (eqb x x) (same a a) (eq-eqb x x refl) (same-refl
 pub eq-same : (a b : List ℕ) → a ≡ b → same a b ≡ true
 eq-same a b e = rw e (same-refl b)
 
-pub ne-same : (a b : List ℕ) → ¬ (a ≡ b) → same a b ≡ false
-ne-same a b n = either (same a b) (λ (h : same a b ≡ true). absurd (n (same-true a b h))) (λ (h : same a b ≡ false). h)
-
 pub same-false : (a b : List ℕ) → same a b ≡ false → ¬ (a ≡ b)
 same-false a b h e = both-ways (same a b) (eq-same a b e) h
-
-pub same-comm : (a b : List ℕ) → same a b ≡ same b a
-same-comm a b = alike (same a b) (same b a) (λ (h : same a b ≡ true). eq-same b a (sym (same-true a b h))) (λ (h : same b a ≡ true). eq-same a b (sym (same-true b a h)))

@@ -1,6 +1,6 @@
 // Sizes, places and bytes: document 01's "Sizes and the directory" and "Where a record lies".
 ghost use mathlib.Core.Path.{_≡_};
-ghost use Prim.Native.Nat.{_+_, _/_, _%_, min};
+ghost use Prim.Native.Nat.{_+_, _/_, _%_, _≤_, min};
 ghost use lib.Dec.{leb};
 ghost use lib.ListN.{length, getD, set, replicate};
 ghost use Rattle.geometry.specs.Lists as Lists;
@@ -198,15 +198,50 @@ pub fn put(out: &mut [u8], at: usize, b: u8)
     }
 }
 
+// Lays the bytes xs, which fit, over those from byte at on, byte by byte.
+fn lay_bytes(out: &mut [u8], at: usize, xs: &[u8])
+    requires { ⌜ at + length (now xs) ≤ length (now out) ⌝ }
+    ensures { λ _. ⌜ now (out .exit) ≡ Bytes.lay (now (out .entry)) at (now (xs .entry)) ⌝ }
+{
+    let mut i = 0;
+    while i < xs.len() {
+        out[at + i] = xs[i];
+        i += 1;
+    }
+}
+
+// Lays the 32 bytes of xs from byte i on over those from byte at + i on. All of them are read before one is written, so that they can be moved at once.
+fn lay_piece(out: &mut [u8], at: usize, xs: &[u8], i: usize)
+    requires { ⌜ (i + 32 ≤ length (now xs)) × (at + length (now xs) ≤ length (now out)) ⌝ }
+    ensures { λ _. ⌜ now (out .exit) ≡ Bytes.lay (now (out .entry)) (at + i) (Bytes.part (now (xs .entry)) i 32) ⌝ }
+{
+    let mut piece = [0u8; 32];
+    lay_bytes(&mut piece, 0, &xs[i..i + 32]);
+    lay_bytes(out, at + i, &piece);
+}
+
+// Lays the bytes xs, 32 or more, which fit, over those from byte at on, 32 a turn. The last turn lays the last 32, some of which may be laid already.
+fn lay_pieces(out: &mut [u8], at: usize, xs: &[u8])
+    requires { ⌜ (32 ≤ length (now xs)) × (at + length (now xs) ≤ length (now out)) ⌝ }
+    ensures { λ _. ⌜ now (out .exit) ≡ Bytes.lay (now (out .entry)) at (now (xs .entry)) ⌝ }
+{
+    let mut i = 0;
+    while i < xs.len() {
+        let from = least(i, xs.len() - 32);
+        lay_piece(out, at, xs, from);
+        i = from + 32;
+    }
+}
+
 // Lays the bytes xs over those from byte at on, if they fit there.
 pub fn lay(out: &mut [u8], at: usize, xs: &[u8])
     ensures { λ _. ⌜ now (out .exit) ≡ Bytes.lay (now (out .entry)) at (now (xs .entry)) ⌝ }
 {
     if fits(at, xs.len(), out.len()) {
-        let mut i = 0;
-        while i < xs.len() {
-            out[at + i] = xs[i];
-            i += 1;
+        if xs.len() < 32 {
+            lay_bytes(out, at, xs);
+        } else {
+            lay_pieces(out, at, xs);
         }
     }
 }

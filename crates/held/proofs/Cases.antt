@@ -1,9 +1,8 @@
 -- What each definition of the buffer's work comes to, case by case: the tests of its definition, one way each.
-use mathlib.Core.Path.{_≡_, refl, sym, _∙_}
+use mathlib.Core.Path.{_≡_, refl, sym}
 use mathlib.Core.Bool.{Bool, true, false, _&&_}
 use mathlib.Core.List.{List, [], _∷_, map}
 use Prim.Native.Nat.{ℕ, _+_, _-_, _≤_, _<_}
-use native.Mathlib.Omega.{arith}
 use lib.ListN.{length}
 use lib.Dec.{eqb, ltb, leb}
 use borrow.Author.Tests.{eq-eqb, ne-eqb, le-leb, lt-leb, ltb-true, leb-true, eqb-true}
@@ -12,7 +11,6 @@ use denote.Enum.Declared.{tagOf}
 use Rattle.geometry.specs.Bytes.{lay, padded}
 use Rattle.geometry.specs.Places.{placeOf}
 use Rattle.geometry.specs.Sizes.{sector, entries, blocked, compressed}
-use Rattle.geometry.proofs.Bytes.{length-lay, part-all, part-lay-same}
 use Rattle.geometry.proofs.Tests.{either, and-left, and-right}
 use Rattle.directory.specs.Stamp.{stampBytes, stamped}
 use Rattle.packing.specs.Placing.{fitsHere, filled, changes}
@@ -28,12 +26,6 @@ use Rattle.requests.specs.declared.Request.the-variants.{Position}
 use Rattle.sessions.specs.declared.OpenFile.{OpenFile}
 use Rattle.sessions.specs.declared.Holding.{Holding}
 use Rattle.held.specs.Held.{bench, lent, scene, isThere, isWhole, canDo, heldDo, heldAll, readWith, writeWith}
-
--- bytes laid over all that there is
-pub lay-all : (n : ℕ) (old xs : List ℕ) → length old ≡ n → length xs ≡ n → lay old 0 xs ≡ xs
-lay-all n old xs h k =
-    let l : length (lay old 0 xs) ≡ length old = length-lay old 0 xs in
-    sym (part-all (lay old 0 xs) n (l ∙ h)) ∙ part-lay-same old 0 xs n k (omega arith)
 
 -- ---- the buffer
 

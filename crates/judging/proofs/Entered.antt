@@ -2,7 +2,7 @@
 use mathlib.Core.Path.{_≡_, refl, sym, ap, _∙_}
 use mathlib.Core.Bool.{Bool, true, false, not}
 use mathlib.Core.List.{List, []}
-use Prim.Native.Nat.{ℕ, _+_, _*_, _<_, _^_}
+use Prim.Native.Nat.{ℕ, _+_, _*_, _≤_, _<_, _^_}
 use native.Mathlib.Omega.{arith}
 use lib.Dec.{eqb}
 use lib.ListN.{length}
@@ -16,10 +16,10 @@ use Rattle.directory.specs.Entries.{entryAt, isFree}
 use Rattle.directory.proofs.Good.{Lies, lies}
 use Rattle.requests.specs.Numbers.{numberOf}
 use Rattle.requests.proofs.First.{not-legal, not-there}
-use Rattle.sessions.specs.Session.{bare, fileOf, openFiles, extent, legal}
+use Rattle.sessions.specs.Session.{bare, fileOf, extent, legal}
 use Rattle.sessions.proofs.Legal.{lawful-length, good-table, bare-legal}
 use Rattle.steps.specs.Next.{Scene, factsWith}
-use Rattle.steps.specs.Verdict.{seenBytes, seenScene, entryNext, fileWith, bufferNext, answerOf, verdictOf}
+use Rattle.steps.specs.Verdict.{seenBytes, entryNext, fileWith, bufferNext, answerOf, verdictOf}
 use Rattle.steps.proofs.Lawful.{Lawful}
 use Rattle.steps.proofs.Inside.{lawful}
 use Rattle.storing.specs.Lent.{lentBy, lentIn, ownState, seenOf, seenIn, seenBufferedIn}
@@ -52,12 +52,11 @@ module _ (lawful : Bool) (files buffer code : ℕ) (q : Request) (c : Scene) (x 
   refused-buffer old = rw h
 
 -- an entry's extent lies in the image
-extent-long : (image : List ℕ) (s : Session) (i : ℕ) → legal image s ≡ true → isFree (entryAt (s .table) i) ≡ false
-    → length (extent (entryAt (s .table) i) image) ≡ sector * entryAt (s .table) i .sectors
-unfolding extent
-extent-long image s i ok used =
+extent-in : (image : List ℕ) (s : Session) (i : ℕ) → legal image s ≡ true → isFree (entryAt (s .table) i) ≡ false
+    → sector * (entryAt (s .table) i .first + entryAt (s .table) i .sectors) ≤ length image
+extent-in image s i ok used =
     let l : Lies (sectorsOf image) (entryAt (s .table) i) = lies (sectorsOf image) (s .table) (good-table image s ok) i (eqb-false (entryAt (s .table) i .kind) 0 used) in
-    length-part image _ _ (omega (arith, l .ends, lawful-whole image (lawful-length image s ok)))
+    omega (arith, l .ends, lawful-whole image (lawful-length image s ok))
 
 -- as the program goes: the session is legal or not, the entry is used or not
 module _ (image : List ℕ) (ok : Bool) (files : ℕ) (e : Entry) (f : OpenFile) (held : ℕ) (over : List ℕ) (i : ℕ) (q : Request) (given : List ℕ) (code : ℕ) (buffer : List ℕ) where
@@ -80,8 +79,13 @@ module _ (image : List ℕ) (ok : Bool) (files : ℕ) (e : Entry) (f : OpenFile)
     pub eight : e .kind ≡ 0 → (p : Place) → Rules (Refused NotThere) p buffer
     eight k = refused NotThere (not-there q (factsWith ok files (length buffer) code q scene) (not-false ok h) (eq-eqb (e .kind) 0 k))
 
-    pub enters : Stands image ok e f → (e .kind ≡ 0 → ⊥) → (bytes : List ℕ) → bytes ≡ extent e image → (Lawful e f) × (length bytes ≡ sector * e .sectors)
-    enters s k bytes eb = rw eb (s (not-false ok h) (ne-eqb (e .kind) 0 k))
+    module _ (s : Stands image ok e f) (k : e .kind ≡ 0 → ⊥) where
+      pub inside : sector * (e .first + e .sectors) ≤ length image
+      inside = s (not-false ok h) (ne-eqb (e .kind) 0 k) .1
+
+      pub enters : (bytes : List ℕ) → bytes ≡ extent e image → (Lawful e f) × (length bytes ≡ sector * e .sectors)
+      unfolding extent
+      enters bytes eb = (s (not-false ok h) (ne-eqb (e .kind) 0 k) .0, rw eb (length-part image _ _ (omega (arith, inside))))
 
     pub ruled : (bytes : List ℕ) (a : Answer) (p : Place) (b : List ℕ) → bytes ≡ extent e image
         → (a ≡ answerOf true files (length buffer) code q (sceneOf i e f (seenBytes e f bytes held over) given))
@@ -116,16 +120,7 @@ pub stands : (image : List ℕ) (s : Session) (i : ℕ) (e : Entry) (f : OpenFil
     → e ≡ entryAt (s .table) i → f ≡ fileOf (s .files) i → (ok ≡ true → legal image s ≡ true) → Stands image ok e f
 stands image s i e f ok ee ef el l used =
     let u : isFree (entryAt (s .table) i) ≡ false = rw ee at used in
-    rw (ee, ef) (lawful image s (el l) i u, extent-long image s i (el l) u)
-
--- what a session's entry and state are judged to be is the session's verdict
-pub by-session : (image : List ℕ) (s : Session) (held : ℕ) (over : List ℕ) (i : ℕ) (q : Request) (given : List ℕ) (code : ℕ) (buffer : List ℕ)
-    (ok l : Bool) (files : ℕ) (e : Entry) (f : OpenFile) → l ≡ ok → files ≡ openFiles (s .files) → e ≡ entryAt (s .table) i → f ≡ fileOf (s .files) i
-    → (v : Verdict) (b : List ℕ) → Comes image l files e f held over i q given code buffer v b
-    → (v ≡ verdictOf ok (openFiles (s .files)) (length buffer) code q (seenScene image s held over i given))
-    × (b ≡ bufferNext (answerOf ok (openFiles (s .files)) (length buffer) code q (seenScene image s held over i given)) q (seenScene image s held over i given) buffer)
-unfolding seenScene
-by-session image s held over i q given code buffer ok l files e f el en ee ef v b h = rw (el, en, ee, ef) at h
+    rw (ee, ef) (lawful image s (el l) i u, extent-in image s i (el l) u)
 
 -- ---- a session in lent bytes
 

@@ -1,11 +1,18 @@
 -- A step on the session that lent bytes are: the bytes behind it are those of the next session, and bytes that are no session stay. One argument for both engines.
-use mathlib.Core.Path.{_≡_, sym, ap, _∙_}
+use mathlib.Core.Path.{_≡_, refl, sym, ap, _∙_}
 use mathlib.Core.Bool.{Bool, true, false}
 use mathlib.Core.List.{List}
 use Prim.Native.Nat.{ℕ}
 use Rattle.geometry.proofs.Tests.{either}
+use Rattle.steps.specs.Next.{Scene, counted, entryDone}
 use Rattle.steps.specs.Step.{After}
+use Rattle.steps.specs.Verdict.{entryNext}
+use Rattle.storing.proofs.Counts.{recounted}
 use Rattle.requests.specs.declared.Answer.{Answer}
+use Rattle.requests.specs.declared.Answer.the-variants.{Done, Met, Refused}
+use Rattle.requests.specs.declared.Order.the-variants.{WriteMark, RewindOnline, RewindOffline, RecordForward, RecordBack, FileForward, FileBack}
+use Rattle.requests.specs.declared.Request.{Request}
+use Rattle.requests.specs.declared.Request.the-variants.{Open, Read, Write, GranuleRead, GranuleWrite, GranuleLook, Position}
 use Rattle.judging.specs.Lent.{afterIn, lentAfter}
 
 module _ {S : Type 0} (told : List ℕ → Bool) (stored : S → List ℕ) (b : List ℕ) where
@@ -35,3 +42,26 @@ module _ {S : Type 0} (told : List ℕ → Bool) (stored : S → List ℕ) (b : 
       go = either (told b)
           (λ (t : told b ≡ true). ap (λ (z : List ℕ). afterIn a image z moved) (sym (back t)) ∙ sym (lent-told old t))
           (λ (t : told b ≡ false). sym (lent-none old t))
+
+-- a request changes nothing of an entry but its count and flags
+entry-done : (q : Request) (c : Scene) → entryDone q c ≡ recounted (c .entry) (entryDone q c .count) (entryDone q c .flags)
+unfolding entryDone counted
+entry-done Open c = refl
+entry-done Read c = refl
+entry-done Write c = refl
+entry-done (GranuleRead g) c = refl
+entry-done (GranuleWrite g) c = refl
+entry-done (GranuleLook g) c = refl
+entry-done (Position WriteMark) c = refl
+entry-done (Position RewindOnline) c = refl
+entry-done (Position RewindOffline) c = refl
+entry-done (Position RecordForward) c = refl
+entry-done (Position RecordBack) c = refl
+entry-done (Position FileForward) c = refl
+entry-done (Position FileBack) c = refl
+
+pub entry-kept : (a : Answer) (q : Request) (c : Scene) → entryNext a q c ≡ recounted (c .entry) (entryNext a q c .count) (entryNext a q c .flags)
+unfolding entryNext
+entry-kept Done q c = entry-done q c
+entry-kept (Met x) q c = refl
+entry-kept (Refused x) q c = refl

@@ -166,9 +166,6 @@ buffer-kept Done q c old h = absurd (h refl)
 buffer-kept (Met x) q c old h = refl
 buffer-kept (Refused x) q c old h = refl
 
-bad-not-done : (a : Answer) → isBad a ≡ true → a ≡ Done → ⊥
-bad-not-done a h d = false≢true (sym (ap isBad d) ∙ h)
-
 -- the number 0 is "done", the number 11 a bad code
 pub done-is : (a : Answer) → numberOf a ≡ 0 → a ≡ Done
 done-is Done h = refl

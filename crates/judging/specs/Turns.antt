@@ -13,7 +13,7 @@ use Rattle.directory.specs.Entries.{isFree, isKind, isMarked, isProtected}
 use Rattle.packing.specs.Placing.{behindNew}
 use Rattle.packing.specs.Reading.{overlaid, Got, got, lost, walkedTo, ledTo}
 use Rattle.mounting.specs.Mounting.{countedWalk}
-use Rattle.sessions.specs.Session.{idle, extent}
+use Rattle.sessions.specs.Session.{idle}
 use Rattle.steps.specs.Next.{Scene, recordHere, fixedAt, moved, fileMet}
 use Rattle.steps.specs.Verdict.{entryNext}
 use Rattle.steps.proofs.Lawful.{Lawful}
@@ -86,7 +86,7 @@ pub record Ready (e : Entry) (f : OpenFile) (n : ℕ) : Type 0 where
 
 -- a used entry of a legal session and its state are lawful, and its extent lies in the image
 abbrev pub Stands : List ℕ → Bool → Entry → OpenFile → Type 0
-Stands image legal e f = legal ≡ true → isFree e ≡ false → (Lawful e f) × (length (extent e image) ≡ sector * e .sectors)
+Stands image legal e f = legal ≡ true → isFree e ≡ false → (Lawful e f) × (sector * (e .first + e .sectors) ≤ length image)
 
 -- the place behind the records counted
 unfoldable pub endLed : Entry → List ℕ → Led

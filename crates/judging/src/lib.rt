@@ -1,7 +1,6 @@
 // One request, judged once for both engines: document 01's "The tape a file is" and "Answer numbers".
 // Decoding happens only in its turn: a request is first judged as if a bad code were met, and only where that gives 11 is anything decoded.
 use directory::Entry;
-use directory::entry_of;
 use directory::is_marked;
 use directory::is_protected;
 use geometry::Geometry;
@@ -25,11 +24,7 @@ use requests::judge_granule_look;
 use requests::number;
 use requests::past_code;
 use sessions::OpenFile;
-use sessions::Session;
-use sessions::file_of;
 use sessions::idle;
-use sessions::is_legal;
-use sessions::open_files;
 use steps::Verdict;
 use storing::Seen;
 use storing::find_buffered_in;
@@ -48,16 +43,16 @@ ghost use Rattle.geometry.specs.Places.{origin};
 ghost use Rattle.geometry.specs.Sizes.{blocked, compressed, random};
 ghost use Rattle.geometry.specs.Sizes as Sizes;
 ghost use Rattle.directory.specs.Entries.{entryAt, isKind};
-ghost use Rattle.sessions.specs.Session.{openFiles, extent, legal};
-ghost use Rattle.steps.specs.Look.{shown, plainLookAnswer, bufferedLookAnswer};
+ghost use Rattle.sessions.specs.Session.{extent};
+ghost use Rattle.steps.specs.Look.{plainLookAnswer, bufferedLookAnswer};
 ghost use Rattle.requests.specs.declared.Answer.the-variants.{Done};
 ghost use Rattle.storing.specs.Stored.{sessionIn, bufferedIn};
 ghost use Rattle.storing.specs.Lent.{lentBy, ownState, seenIn, seenBufferedIn};
 ghost use Rattle.straight.specs.Straight.{codeGiven};
-ghost use Rattle.judging.specs.Judged.{judgedBy, bufferBy};
-ghost use Rattle.judging.specs.Looks.{lookNumber, lookPart, lookedBy};
+ghost use Rattle.judging.specs.Judged.{sceneSeen, judgedBy, bufferBy};
+ghost use Rattle.judging.specs.Looks.{lookedBy};
 ghost use Rattle.steps.specs.Next.{moved, counted, fileMet, entryDone};
-ghost use Rattle.steps.specs.Verdict.{seenBytes, seenScene, bufferNext, answerOf, verdictOf};
+ghost use Rattle.steps.specs.Verdict.{seenBytes, bufferNext, answerOf, verdictOf};
 ghost use Rattle.steps.proofs.Lawful.{Lawful};
 ghost use Rattle.judging.specs.Turns.{factsBut, sight, Ready, Stands, endLed, hereLed, hereInto, turnLed, turnInto, TurnOf, writtenAt, Reaches, carriedTo, carriedInto, CarryOf, Fixed, recordIn, blockedBytes, orderFrom, doneFrom, sceneOf, verdictFrom};
 
@@ -386,15 +381,14 @@ fn carry(
     }
 }
 
-// The bytes of an entry's extent.
+// The bytes of an entry's extent, which lies in the image.
 fn extent_of(image: &[u8], e: Entry) -> &[u8]
+    requires { ⌜ Sizes.sector * (e .first + e .sectors) ≤ length (now image) ⌝ }
     ensures { λ r. ⌜ now r ≡ extent e (now (image .entry)) ⌝ }
 {
-    part(
-        image,
-        Geometry::SECTOR * (e.first as usize),
-        Geometry::SECTOR * (e.sectors as usize),
-    )
+    let at = Geometry::SECTOR * (e.first as usize);
+    let end = at + Geometry::SECTOR * (e.sectors as usize);
+    &image[at..end]
 }
 
 // ---- what a request is answered
@@ -457,15 +451,11 @@ fn lawful_ruling(
     }
 }
 
-// The ruling on a request on entry i, and the caller's buffer behind it, where it is known whether the session is legal: e is the entry, f its
-// state, and so many files are open. The held sector of this file, if there is one, is lent as over; code is the length of the code of the bytes given.
+// The ruling on a request on entry i, by what is seen of it, and the caller's buffer behind it. The held sector of its file, if there is one, is
+// lent as over; code is the length of the code of the bytes given.
 fn ruling_on(
     image: &[u8],
-    lawful: bool,
-    files: u32,
-    e: Entry,
-    f: OpenFile,
-    held: u32,
+    seen: Seen,
     over: &[u8],
     i: usize,
     q: Request,
@@ -473,78 +463,45 @@ fn ruling_on(
     code: usize,
     buffer: &mut [u8],
 ) -> Ruling
-    requires { ⌜ Stands (now image) lawful e f ⌝ }
-    ensures { λ r. ⌜ (r .answer ≡ answerOf lawful files (length (now (buffer .entry))) code q
-        (sceneOf i e f (seenBytes e f (extent e (now (image .entry))) held (now (over .entry))) (now (given .entry))))
-        × (verdictFrom (r .answer) q i e f (r .place) ≡ verdictOf lawful files (length (now (buffer .entry))) code q
-        (sceneOf i e f (seenBytes e f (extent e (now (image .entry))) held (now (over .entry))) (now (given .entry))))
-        × (now (buffer .exit) ≡ bufferNext (answerOf lawful files (length (now (buffer .entry))) code q
-        (sceneOf i e f (seenBytes e f (extent e (now (image .entry))) held (now (over .entry))) (now (given .entry)))) q
-        (sceneOf i e f (seenBytes e f (extent e (now (image .entry))) held (now (over .entry))) (now (given .entry))) (now (buffer .entry))) ⌝ }
+    requires { ⌜ Stands (now image) (seen .lawful) (seen .entry) (seen .file) ⌝ }
+    ensures { λ r. ⌜ (r .answer ≡ answerOf (seen .lawful) (seen .opened) (length (now (buffer .entry))) code q (sceneSeen (now (image .entry)) seen (now (over .entry)) i q (now (given .entry))))
+        × (verdictFrom (r .answer) q i (seen .entry) (seen .file) (r .place)
+        ≡ verdictOf (seen .lawful) (seen .opened) (length (now (buffer .entry))) code q (sceneSeen (now (image .entry)) seen (now (over .entry)) i q (now (given .entry))))
+        × (now (buffer .exit) ≡ bufferNext (answerOf (seen .lawful) (seen .opened) (length (now (buffer .entry))) code q (sceneSeen (now (image .entry)) seen (now (over .entry)) i q (now (given .entry)))) q
+        (sceneSeen (now (image .entry)) seen (now (over .entry)) i q (now (given .entry))) (now (buffer .entry))) ⌝ }
 {
-    if !lawful {
+    if !seen.lawful {
         return Ruling {
             answer: Answer::Refused(Refusal::NotLegal),
             place: start(),
         };
     }
+    let e = seen.entry;
     if e.kind == Geometry::FREE {
         return Ruling {
             answer: Answer::Refused(Refusal::NotThere),
             place: start(),
         };
     }
+    let f = seen.file;
+    let h = seen.hold;
     let bytes = extent_of(image, e);
-    lawful_ruling(bytes, held, over, files, i, e, f, q, given, code, buffer)
-}
-
-// ---- the verdict
-
-// The verdict on a request, the session being given by value. sound: what an engine asks of its sessions beyond the rules of every session.
-pub fn verdict(
-    image: &[u8],
-    s: Session,
-    sound: bool,
-    held: u32,
-    over: &[u8],
-    i: usize,
-    q: Request,
-    given: &[u8],
-    code: usize,
-    buffer: &mut [u8],
-) -> Verdict
-    ensures { λ r. ⌜ (r ≡ verdictOf (legal (now (image .entry)) s && sound) (openFiles (s .files)) (length (now (buffer .entry))) code q
-        (seenScene (now (image .entry)) s held (now (over .entry)) i (now (given .entry))))
-        × (now (buffer .exit) ≡ bufferNext (answerOf (legal (now (image .entry)) s && sound) (openFiles (s .files)) (length (now (buffer .entry))) code q
-        (seenScene (now (image .entry)) s held (now (over .entry)) i (now (given .entry)))) q
-        (seenScene (now (image .entry)) s held (now (over .entry)) i (now (given .entry))) (now (buffer .entry))) ⌝ }
-{
-    let table = s.table;
-    let files = s.files;
-    let e = entry_of(table, i);
-    let f = file_of(files, i);
-    let lawful = is_legal(image, s) & sound;
-    let n = open_files(files);
-    let r = ruling_on(
-        image,
-        lawful,
-        n,
+    lawful_ruling(
+        bytes,
+        h.held,
+        over,
+        seen.opened,
+        i,
         e,
         f,
-        held,
-        over,
-        i,
         q,
         given,
         code,
         buffer,
-    );
-    let a = r.answer;
-    let p = r.place;
-    next(a, q, i, e, f, p)
+    )
 }
 
-// ---- a session in lent bytes
+// ---- the verdict
 
 // A verdict, what was seen of the session, and the length of the code of the bytes given.
 pub struct Judged {
@@ -569,26 +526,12 @@ pub fn verdict_in(
 {
     let seen = find_in(image, session, i);
     let e = seen.entry;
-    let f = seen.file;
-    let h = seen.hold;
     let size = encode_given(e, given, code);
     let none = part(given, 0, 0);
-    let r = ruling_on(
-        image,
-        seen.lawful,
-        seen.opened,
-        e,
-        f,
-        h.held,
-        none,
-        i,
-        q,
-        given,
-        size,
-        buffer,
-    );
+    let r = ruling_on(image, seen, none, i, q, given, size, buffer);
     let a = r.answer;
     let p = r.place;
+    let f = seen.file;
     let v = next(a, q, i, e, f, p);
     Judged {
         verdict: v,
@@ -613,26 +556,13 @@ pub fn verdict_buffered_in(
 {
     let seen = find_buffered_in(image, session, i);
     let e = seen.entry;
-    let f = seen.file;
-    let h = seen.hold;
     let size = encode_given(e, given, code);
+    let h = seen.hold;
     let over = lent_in(session, seen.slot, h.holds);
-    let r = ruling_on(
-        image,
-        seen.lawful,
-        seen.opened,
-        e,
-        f,
-        h.held,
-        over,
-        i,
-        q,
-        given,
-        size,
-        buffer,
-    );
+    let r = ruling_on(image, seen, over, i, q, given, size, buffer);
     let a = r.answer;
     let p = r.place;
+    let f = seen.file;
     let v = next(a, q, i, e, f, p);
     Judged {
         verdict: v,
@@ -642,46 +572,6 @@ pub fn verdict_buffered_in(
 }
 
 // ---- looks
-
-// The answer to a look at granule g of entry i.
-pub fn look_answer(image: &[u8], s: Session, sound: bool, i: usize, g: u32) -> Answer
-    ensures { λ r. ⌜ r ≡ lookNumber (now (image .entry)) s sound i g ⌝ }
-{
-    let table = s.table;
-    let files = s.files;
-    let e = entry_of(table, i);
-    let f = file_of(files, i);
-    let n = open_files(files);
-    let all = is_legal(image, s) & sound;
-    judge(Request::GranuleLook(g), facts(false, all, n, e, f, 0, 0, 0))
-}
-
-// Granule g of an entry, in place.
-fn granule(image: &[u8], e: Entry, g: u32) -> &[u8]
-    requires { ⌜ (Fixed e g (Sizes.sector * e .sectors)) × (e .kind ≡ random) × (Sizes.sector * (e .first + e .sectors) ≤ length (now image)) ⌝ }
-    ensures { λ r. ⌜ now r ≡ shown Done e g (now (image .entry)) ⌝ }
-{
-    let k = Geometry::sector_of_record(e.kind, e.length, g);
-    let n = e.length as usize;
-    let at = Geometry::SECTOR * ((e.first as usize) + k);
-    &image[at..at + n]
-}
-
-// Granule g of entry i, in place in the image; an empty part where the look is refused.
-pub fn look(image: &[u8], s: Session, sound: bool, i: usize, g: u32) -> &[u8]
-    ensures { λ r. ⌜ now r ≡ lookPart (now (image .entry)) s sound i g ⌝ }
-{
-    let a = look_answer(image, s, sound, i, g);
-    if number(a) == 0 {
-        let table = s.table;
-        let e = entry_of(table, i);
-        granule(image, e, g)
-    } else {
-        &image[..0]
-    }
-}
-
-// ---- looks on a session in lent bytes
 
 // The answer to a look, and the entry looked at.
 pub struct Looked {

@@ -9,7 +9,7 @@ use lib.Dec.{eqb, leb}
 use borrow.Author.Tests.{eq-eqb, ne-eqb, eqb-true, eqb-false, leb-true, leb-false}
 use Rattle.geometry.specs.Bytes.{part, lay}
 use Rattle.geometry.specs.Sizes.{sector}
-use Rattle.geometry.proofs.Bytes.{length-lay, lay-short, part-lay-same, part-lay-apart}
+use Rattle.geometry.proofs.Bytes.{lay-short, part-lay-same, part-lay-apart}
 use Rattle.geometry.proofs.Tests.{either, and-left, and-right, and-both, both-ways}
 use Rattle.packing.specs.Reading.{overlaid}
 
@@ -22,10 +22,6 @@ module _ (bytes : List ℕ) (held : ℕ) (over : List ℕ) where
   pub overlaid-held : length over ≡ sector → overlaid bytes held over ≡ lay bytes (sector * held) over
   unfolding overlaid
   overlaid-held h = rw (eq-eqb (length over) sector h, overlaid)
-
-  pub length-overlaid : length (overlaid bytes held over) ≡ length bytes
-  length-overlaid =
-      either (eqb (length over) sector) (λ h. ap length (overlaid-held (eqb-true _ _ h)) ∙ length-lay bytes (sector * held) over) (λ h. ap length (overlaid-none (eqb-false _ _ h)))
 
   -- whether the n-th sector is the held one, and there is such a sector
   abbrev pub isHeld : ℕ → Bool

@@ -223,9 +223,6 @@ module _ (R : ℕ) (given : List ℕ) (short : length given ≤ R) (most : R ≤
 
   module _ (sectors : ℕ) (bytes : List ℕ) (p : Place) (size : length bytes ≡ sector * sectors) (within : Within sectors p)
       (room : hasRoom sectors p (length (codeOf R given)) ≡ true) where
-    pub put-given : readBehind R sectors (laid (changes p (codeOf R given)) bytes) p ≡ got (newAt R given p)
-    put-given = put-read R sectors bytes p (codeOf R given) (padded blank R given) size within code-small (λ rest. decode-codeOf R given rest short) room
-
     pub put-given-walk : (n : ℕ) (o : Place) (rs : List Recorded) → o .byte ≤ sector → walk R sectors bytes n o ≡ walked rs → behindFrom o rs n ≡ p
         → walk R sectors (laid (changes p (codeOf R given)) bytes) (suc n) o ≡ walked (rs ++ (newAt R given p ∷ []))
     put-given-walk = put-walk R sectors bytes p (codeOf R given) (padded blank R given) size within code-small (λ rest. decode-codeOf R given rest short) room

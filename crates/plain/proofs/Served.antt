@@ -10,8 +10,11 @@ use Rattle.geometry.specs.Bytes.{part}
 use Rattle.geometry.specs.Sizes.{entries}
 use Rattle.geometry.proofs.Tests.{either, both-ways}
 use Rattle.requests.specs.Judge.{judge}
+use Rattle.requests.proofs.First.{not-legal}
 use Rattle.requests.proofs.Done.{Live, done-allows, met-meets}
 use Rattle.requests.proofs.Live.{Real, done-real, met-live}
+use Rattle.directory.specs.Entries.{entryAt}
+use Rattle.directory.specs.declared.Entry.{Entry}
 use Rattle.sessions.specs.Session.{slotOf, openFiles, legal}
 use Rattle.steps.specs.Effects.{effects, plainAll}
 use Rattle.steps.specs.Next.{factsOf}
@@ -20,11 +23,12 @@ use Rattle.steps.specs.Verdict.{seenScene, bufferNext}
 use Rattle.straight.specs.Straight.{codeGiven, Encoded}
 use Rattle.straight.proofs.Judged.{judgement}
 use Rattle.storing.specs.Lent.{seenOf, seenIn}
-use Rattle.storing.specs.Stored.{entryWidth, entryStored, isStored, unlawful, sessionIn, stored, layEntry, layFile}
+use Rattle.storing.specs.Stored.{fileWidth, sessionSize, fileFlags, isStored, unlawful, sessionIn, stored, layCounts, layFile}
+use Rattle.storing.proofs.Counts.{recounted, stored-counted}
 use Rattle.storing.proofs.Illegal.{none-legal}
-use Rattle.storing.proofs.Laws.{stored-kept, stored-laid}
-use Rattle.storing.proofs.Read.{length-table, session-is, session-none}
-use Rattle.judging.proofs.Lent.{laid, unlaid}
+use Rattle.storing.proofs.Laws.{stored-kept}
+use Rattle.storing.proofs.Read.{length-table, formed-size, session-is, session-none}
+use Rattle.judging.proofs.Lent.{laid, unlaid, entry-kept}
 use Rattle.judging.specs.Judged.{judgedBy, bufferBy}
 use Rattle.judging.specs.Lent.{afterIn, lentAfter}
 use Rattle.plain.specs.Plain.{sceneIn}
@@ -33,6 +37,7 @@ use Rattle.requests.specs.declared.Answer.{Answer}
 use Rattle.requests.specs.declared.Answer.the-variants.{Done, Met, Refused}
 use Rattle.requests.specs.declared.Edge.{Edge}
 use Rattle.requests.specs.declared.Refusal.{Refusal}
+use Rattle.requests.specs.declared.Refusal.the-variants.{NotLegal}
 use Rattle.requests.specs.declared.Request.{Request}
 use Rattle.sessions.specs.declared.Session.{Session}
 use Rattle.steps.specs.declared.Verdict.{Verdict}
@@ -47,14 +52,16 @@ module _ (image b : List ℕ) (i : ℕ) (w : After Session) where
   abbrev next : Verdict → Session
   next v = record { table = set (sessionIn b .table) i (v .entry); files = set (sessionIn b .files) (slotOf (sessionIn b .files) i) (v .file) }
 
-  -- the verdict's entry and state are laid
-  pub next-laid : legal image (sessionIn b) ≡ true → (v : Verdict) (a : Answer) (to moved lent : List ℕ) → length (entryStored (v .entry)) ≡ entryWidth
-      → lent ≡ layFile (layEntry b i (v .entry)) (slotOf (sessionIn b .files) i) (v .file)
+  -- the count and flags of the verdict's entry, and its state, are laid
+  pub next-laid : legal image (sessionIn b) ≡ true → (v : Verdict) (a : Answer) (to moved lent : List ℕ)
+      → v .entry ≡ recounted (entryAt (sessionIn b .table) i) (v .entry .count) (v .entry .flags)
+      → lent ≡ layFile (layCounts b i (v .entry .count) (v .entry .flags)) (slotOf (sessionIn b .files) i) (v .file)
       → record { answer = a; image = to; session = next v; buffer = moved } ≡ w
       → afterIn a to lent moved ≡ lentAfter (isStored b) stored b w
-  next-laid ok v a to moved lent long l h =
+  next-laid ok v a to moved lent same l h =
       laid isStored stored b (told image b ok) (record { answer = a; image = to; session = next v; buffer = moved }) w h lent
-      (l ∙ sym (stored-laid b (told image b ok) i (slotOf (sessionIn b .files) i) (v .entry) (v .file) long))
+      (l ∙ sym (stored-counted b i (slotOf (sessionIn b .files) i) (v .entry .count) (v .entry .flags) (told image b ok) (v .file))
+      ∙ ap (λ (e : Entry). stored (record { table = set (sessionIn b .table) i e; files = set (sessionIn b .files) (slotOf (sessionIn b .files) i) (v .file) })) (sym same))
 
 -- the table of a session in lent bytes has 18 entries
 pub table-long : (b : List ℕ) → length (sessionIn b .table) ≡ entries
@@ -101,8 +108,17 @@ module _ (image b : List ℕ) (i : ℕ) (q : Request) (given buffer : List ℕ) 
     unfolding judgedBy seenIn seenOf seenScene
     verdict-told = rw h (verdict-now image s i q given buffer)
 
+    -- its entry is the session's, but for count and flags
+    same-entry : r .verdict .entry ≡ recounted (entryAt (s .table) i) (r .verdict .entry .count) (r .verdict .entry .flags)
+    same-entry = rw verdict-told (unfold plainScene in entry-kept answered q (plainScene image s i given))
+
     answer-told : (a : Answer) → r .verdict .answer ≡ a → answered ≡ a
     answer-told a d = sym (ap (λ (w : Verdict). w .answer) verdict-told) ∙ d
+
+    placed : layFile (layCounts b i (r .verdict .entry .count) (r .verdict .entry .flags)) (r .seen .slot) (r .verdict .file)
+        ≡ layFile (layCounts b i (r .verdict .entry .count) (r .verdict .entry .flags)) (slotOf (s .files) i) (r .verdict .file)
+    unfolding seenIn seenOf
+    placed = ap (λ (x : Seen). layFile (layCounts b i (r .verdict .entry .count) (r .verdict .entry .flags)) (x .slot) (r .verdict .file)) found
 
     pub goes : (room code : List ℕ) → length room ≡ 135 → code ≡ sets room 0 (codeGiven (seenIn image b i .entry) given) → r .verdict .answer ≡ Done
         → (i < entries) × Encoded q (r .seen .entry) given (part code 0 (r .size))
@@ -119,19 +135,27 @@ module _ (image b : List ℕ) (i : ℕ) (q : Request) (given buffer : List ℕ) 
 
       pub done-served : r .verdict .answer ≡ Done → (to : List ℕ)
           → to ≡ plainAll (sceneIn image i (r .seen .entry) (r .seen .file) given) (effects q (sceneIn image i (r .seen .entry) (r .seen .file) given)) image
-          → (lent : List ℕ) → length (entryStored (r .verdict .entry)) ≡ entryWidth → lent ≡ layFile (layEntry b i (r .verdict .entry)) (r .seen .slot) (r .verdict .file)
+          → (lent : List ℕ) → lent ≡ layFile (layCounts b i (r .verdict .entry .count) (r .verdict .entry .flags)) (r .seen .slot) (r .verdict .file)
           → afterIn (r .verdict .answer) to lent moved ≡ lentAfter (isStored b) stored b stepped
       unfolding judgedBy seenIn seenOf plainScene
-      done-served d to t lent long l =
-          next-laid image b i stepped (done-legal (answer-told Done d)) (r .verdict) (r .verdict .answer) to moved lent long (l ∙ ap (λ (x : Seen). layFile (layEntry b i (r .verdict .entry)) (x .slot) (r .verdict .file)) found)
+      done-served d to t lent l =
+          next-laid image b i stepped (done-legal (answer-told Done d)) (r .verdict) (r .verdict .answer) to moved lent same-entry (l ∙ placed)
           (rw (verdict-told, t, found, buffer-told) (done-after image s i q given buffer (answer-told Done d)))
 
-      pub met-served : (y : Edge) → r .verdict .answer ≡ Met y → (lent : List ℕ) → length (entryStored (r .verdict .entry)) ≡ entryWidth
-          → lent ≡ layFile (layEntry b i (r .verdict .entry)) (r .seen .slot) (r .verdict .file) → afterIn (r .verdict .answer) image lent moved ≡ lentAfter (isStored b) stored b stepped
+      pub met-served : (y : Edge) → r .verdict .answer ≡ Met y → (lent : List ℕ)
+          → lent ≡ layFile (layCounts b i (r .verdict .entry .count) (r .verdict .entry .flags)) (r .seen .slot) (r .verdict .file) → afterIn (r .verdict .answer) image lent moved ≡ lentAfter (isStored b) stored b stepped
       unfolding judgedBy seenIn seenOf
-      met-served y d lent long l =
-          next-laid image b i stepped (met-legal y (answer-told (Met y) d)) (r .verdict) (r .verdict .answer) image moved lent long (l ∙ ap (λ (x : Seen). layFile (layEntry b i (r .verdict .entry)) (x .slot) (r .verdict .file)) found)
+      met-served y d lent l =
+          next-laid image b i stepped (met-legal y (answer-told (Met y) d)) (r .verdict) (r .verdict .answer) image moved lent same-entry (l ∙ placed)
           (rw (verdict-told, buffer-told) (met-after image s i q given buffer y (answer-told (Met y) d)))
 
       pub refused-served : (y : Refusal) → r .verdict .answer ≡ Refused y → afterIn (r .verdict .answer) image b moved ≡ lentAfter (isStored b) stored b stepped
       refused-served y d = unlaid isStored stored b s (stored-kept b) (r .verdict .answer) image moved stepped (rw (verdict-told, buffer-told) (refused-after image s i q given buffer y (answer-told (Refused y) d)))
+
+  -- bytes that are not as many as a session takes
+  pub other-size : (length b ≡ sessionSize → ⊥) → afterIn (Refused NotLegal) image b buffer ≡ lentAfter (isStored b) stored b stepped
+  unfolding bufferNext factsOf
+  other-size h =
+      let none : isStored b ≡ false = either (isStored b) (λ t. absurd (h (formed-size fileFlags fileWidth sessionSize b t))) (λ t. t) in
+      let d : answered ≡ Refused NotLegal = not-legal q _ (none-legal image b none) in
+      unlaid isStored stored b s (stored-kept b) (Refused NotLegal) image buffer stepped (rw d at (refused-after image s i q given buffer NotLegal d))

@@ -1,6 +1,6 @@
 -- A request is what its verdict says: nothing is held, so the scene that is judged is the engine's own; and each answer is its own case of the step.
-use mathlib.Core.Path.{_≡_, refl, ap, _∙_}
-use mathlib.Core.Bool.{Bool, true, _&&_, and-true}
+use mathlib.Core.Path.{_≡_, refl}
+use mathlib.Core.Bool.{true}
 use mathlib.Core.List.{List, []}
 use Prim.Native.Nat.{ℕ, _<_}
 use lib.ListN.{length, set}
@@ -63,15 +63,6 @@ module _ (image : List ℕ) (s : Session) (i : ℕ) (q : Request) (given buffer 
       ≡ bufferNext a q c buffer
   unfolding seenScene plainScene
   buffer-now = buffer-judged (openFiles (s .files)) (length buffer) q (legal image s) n (seenScene image s 0 [] i given) c (λ h. seen image s i given) right-code buffer
-
-  pub verdict-is : verdictOf (legal image s && true) (openFiles (s .files)) (length buffer) n q (seenScene image s 0 [] i given) ≡ j
-  unfolding seenScene plainScene
-  verdict-is = ap (λ (b : Bool). verdictOf b (openFiles (s .files)) (length buffer) n q (seenScene image s 0 [] i given)) (and-true (legal image s)) ∙ verdict-now
-
-  pub buffer-is : bufferNext (answerOf (legal image s && true) (openFiles (s .files)) (length buffer) n q (seenScene image s 0 [] i given)) q (seenScene image s 0 [] i given) buffer
-      ≡ bufferNext a q c buffer
-  unfolding seenScene plainScene
-  buffer-is = ap (λ (b : Bool). bufferNext (answerOf b (openFiles (s .files)) (length buffer) n q (seenScene image s 0 [] i given)) q (seenScene image s 0 [] i given) buffer) (and-true (legal image s)) ∙ buffer-now
 
   -- the session with the verdict's entry and state
   abbrev next : Verdict → Session

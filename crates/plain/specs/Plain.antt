@@ -1,4 +1,4 @@
--- What the functions of this crate hand on to each other, and what a reply comes to. Definitions only.
+-- What a request comes to, and what the functions of this crate hand on to each other. Definitions only.
 use mathlib.Core.List.{List}
 use Prim.Native.Nat.{ℕ}
 use Rattle.sessions.specs.Session.{extent}
@@ -9,17 +9,11 @@ use Rattle.storing.specs.Stored.{isStored, sessionIn, stored}
 use Rattle.requests.specs.declared.Request.{Request}
 use Rattle.directory.specs.declared.Entry.{Entry}
 use Rattle.sessions.specs.declared.OpenFile.{OpenFile}
-use Rattle.sessions.specs.declared.Session.{Session}
-use Rattle.plain.specs.declared.Reply.{Reply}
 
 -- the scene of a request, from its parts
 abbrev pub sceneIn : List ℕ → ℕ → Entry → OpenFile → List ℕ → Scene
 sceneIn image i e f given = record { number = i; entry = e; file = f; bytes = extent e image; given = given }
 
--- a reply, with the image and the caller's buffer behind it
-abbrev pub after : Reply → List ℕ → List ℕ → After Session
-after r image buffer = record { answer = r .answer; image = image; session = r .session; buffer = buffer }
-
 -- a request on the session that lent bytes are
-unfoldable pub served : List ℕ → List ℕ → ℕ → Request → List ℕ → List ℕ → After (List ℕ)
-served image session i q given buffer = lentAfter (isStored session) stored session (plainStep image (sessionIn session) i q given buffer)
+unfoldable pub requested : List ℕ → List ℕ → ℕ → Request → List ℕ → List ℕ → After (List ℕ)
+requested image session i q given buffer = lentAfter (isStored session) stored session (plainStep image (sessionIn session) i q given buffer)

@@ -2,17 +2,18 @@
 // and what is printed, no contract can say.
 use geometry::part;
 use libc::STDOUT_FILENO;
-use playing::Desk;
 use playing::Engine;
 use playing::Fault;
 use playing::Found;
 use playing::Row;
-use requests::Answer;
 ghost use Prim.Native.Nat.{_≤_};
 ghost use lib.ListN.{length};
 
 // The bytes of a row.
 const ROW: usize = 16;
+
+// The bytes of the longer of the two engines' sessions.
+const SESSION: usize = 1980;
 
 // What stands next in a script.
 enum Ahead {
@@ -76,9 +77,9 @@ fn next(script: i32, bytes: i32, given: &mut [u8]) -> Ahead
 
 // ---- printing. A line is shorter than the room for it.
 
-fn print_mount(a: Answer) {
+fn print_mount(number: u16) {
     let mut out = [0u8; 96];
-    let n = playing::write_mount(&mut out, a);
+    let n = playing::write_mount(&mut out, number);
     io::write_all(STDOUT_FILENO, part(&out, 0, n));
 }
 
@@ -97,20 +98,24 @@ pub fn print_image(image: &[u8]) {
 
 // ---- playing
 
-// Plays row k, and prints its line. The desk behind it.
-fn play_row(k: u32, image: &mut [u8], d: Desk, row: Row, given: &[u8], buffer: &mut [u8]) -> Desk
+// Plays row k, and prints its line.
+fn play_row(
+    engine: Engine,
+    k: u32,
+    image: &mut [u8],
+    session: &mut [u8],
+    row: Row,
+    given: &[u8],
+    buffer: &mut [u8],
+)
     requires { ⌜ 65536 ≤ length (now buffer) ⌝ }
 {
     let n = row.length as usize;
     let bytes = part(given, 0, row.uses as usize);
-    let p = playing::play_row(image, d, row, bytes, &mut buffer[..n]);
-    let a = p.answer;
-    let spot = p.spot;
+    let p = playing::play_row(engine, image, session, row, bytes, &mut buffer[..n]);
     let mut out = [0u8; 96];
-    let m = playing::write_row(&mut out, k, a, p.sum, spot);
+    let m = playing::write_row(&mut out, k, p);
     io::write_all(STDOUT_FILENO, part(&out, 0, m));
-    let next = p.desk;
-    next
 }
 
 // Whether the first rows of a script, as many as most, are in order. If not, it prints which is the first that is not, and why.
@@ -138,36 +143,68 @@ fn test_rows(script: i32, bytes: i32, most: u32, given: &mut [u8]) -> bool
     true
 }
 
-// Mounts an image, plays the first rows of a script, as many as most, and prints a line for each. Whether they were in order.
+// Mounts an image, plays the first rows of a script, as many as most, and prints a line for each. Whether they were in order. Behind a
+// refused mounting the session's bytes are zero: no entry is used, and nothing is open.
 pub fn play(engine: Engine, script: i32, bytes: i32, most: u32, image: &mut [u8]) -> bool {
-    let mut given = io::large_buffer();
-    let mut buffer = io::large_buffer();
-    let m = playing::mount(engine, image);
-    let a = m.answer;
-    let d = m.desk;
-    print_mount(a);
-    play_rows(script, bytes, most, image, d, &mut given, &mut buffer)
+    let mut room = [0u8; SESSION];
+    play_in(engine, script, bytes, most, image, &mut room)
 }
 
-fn play_rows(
+// The same with a session at the start of a room.
+fn play_in(
+    engine: Engine,
     script: i32,
     bytes: i32,
     most: u32,
     image: &mut [u8],
-    d: Desk,
+    room: &mut [u8],
+) -> bool
+    requires { ⌜ 1980 ≤ length (now room) ⌝ }
+{
+    let n = playing::session_size(engine);
+    play_session(engine, script, bytes, most, image, &mut room[..n])
+}
+
+fn play_session(
+    engine: Engine,
+    script: i32,
+    bytes: i32,
+    most: u32,
+    image: &mut [u8],
+    session: &mut [u8],
+) -> bool {
+    let mut given = io::large_buffer();
+    let mut buffer = io::large_buffer();
+    print_mount(playing::mount(engine, image, session));
+    play_rows(
+        engine,
+        script,
+        bytes,
+        most,
+        image,
+        session,
+        &mut given,
+        &mut buffer,
+    )
+}
+
+fn play_rows(
+    engine: Engine,
+    script: i32,
+    bytes: i32,
+    most: u32,
+    image: &mut [u8],
+    session: &mut [u8],
     given: &mut [u8],
     buffer: &mut [u8],
 ) -> bool
     requires { ⌜ (65536 ≤ length (now given)) × (65536 ≤ length (now buffer)) ⌝ }
 {
-    let mut desk = d;
     let mut k: u32 = 0;
     while k < most {
         let n = next(script, bytes, given);
         match n {
-            Ahead::Row(row) => {
-                desk = play_row(k, image, desk, row, given, buffer);
-            }
+            Ahead::Row(row) => play_row(engine, k, image, session, row, given, buffer),
             Ahead::End => return true,
             Ahead::Wrong(f) => {
                 print_fault(k, f);

@@ -1,56 +1,56 @@
--- What a request moved, case by case: only reads and writes answered 0 move bytes.
-use mathlib.Core.Path.{_≡_, refl}
+-- What a request moved, by its number and its code: one answered 0 what stands in the table at its code, any other nothing.
+use mathlib.Core.Path.{_≡_, refl, _∙_}
+use mathlib.Core.Logic.{_≢_, inl, inr}
 use mathlib.Core.List.{List, [], _∷_}
-use Prim.Native.Nat.{ℕ}
+use Prim.Native.Nat.{ℕ, zero, suc}
+use lib.ListN.{getD}
 use borrow.Author.Tests.{eq-eqb, ne-eqb}
-use types.Run.{OneOf, miss}
-use denote.Enum.Declared.{tagOf}
-use Rattle.requests.specs.Numbers.{numberOf}
-use Rattle.requests.proofs.Request as request
-use Rattle.requests.specs.declared.Answer.{Answer}
-use Rattle.requests.specs.declared.Request.{Request}
-use Rattle.requests.specs.declared.Request.the-variants.{Open, Read, Write, GranuleRead, GranuleWrite, GranuleLook, Position}
+use types.Run.{OneOf}
+use Rattle.geometry.specs.Bytes.{part}
+use Rattle.directory.specs.Entries.{entryAt, tableOf}
+use Rattle.board.specs.Board.{Engine, Left}
 use Rattle.playing.specs.Sums.{wordsOf, total, sumOf}
-use Rattle.playing.specs.Played.{movedBy, moved, requestPlayed, playedBy}
-use Rattle.playing.specs.declared.Desk.{Desk}
+use Rattle.playing.specs.Played.{lookShown, movedBy, moved}
+use Rattle.playing.specs.declared.Row.{Row}
 
 pub no-words : 0 ≡ sumOf (wordsOf [])
 unfolding wordsOf total sumOf
 no-words = refl
 
--- the tags of the requests that move no bytes but to show them, and of those that are no look
-abbrev moveless : List ℕ
-moveless = 0 ∷ 5 ∷ 6 ∷ []
-
-abbrev lookless : List ℕ
-lookless = 0 ∷ 1 ∷ 2 ∷ 3 ∷ 4 ∷ 6 ∷ []
-
-module _ (n : ℕ) (given buffer : List ℕ) where
-  pub moved-none : (q : Request) (a : Answer) → ¬ (numberOf a ≡ 0) → moved q a n given buffer ≡ []
+module _ {S : Type 0} (E : Engine S) (row : Row) (given : List ℕ) (a : Left) where
+  pub refused : a .number ≢ 0 → moved E row given a ≡ []
   unfolding moved
-  moved-none q a h = rw (moved, ne-eqb (numberOf a) 0 h)
+  refused h = rw (moved, ne-eqb (a .number) 0 h)
 
-  pub moved-done : (q : Request) (a : Answer) → numberOf a ≡ 0 → moved q a n given buffer ≡ movedBy q n given buffer
-  unfolding moved
-  moved-done q a h = rw (moved, eq-eqb (numberOf a) 0 h)
+  module _ (done : a .number ≡ 0) where
+    at : (k : ℕ) → row .code ≡ k → moved E row given a ≡ getD (movedBy E row given a) k []
+    unfolding moved
+    at k e = rw (moved, eq-eqb (a .number) 0 done, e)
 
-  pub moved-less : (q : Request) → OneOf moveless (tagOf request.the-type q) → movedBy q n given buffer ≡ []
-  unfolding movedBy
-  moved-less Open h = refl
-  moved-less Read h = absurd (miss moveless 1 tt h)
-  moved-less Write h = absurd (miss moveless 2 tt h)
-  moved-less (GranuleRead g) h = absurd (miss moveless 3 tt h)
-  moved-less (GranuleWrite g) h = absurd (miss moveless 4 tt h)
-  moved-less (GranuleLook g) h = refl
-  moved-less (Position o) h = refl
+    pub read : OneOf (2 ∷ 4 ∷ []) (row .code) → moved E row given a ≡ part (a .buffer) 0 (entryAt (tableOf (a .image)) (row .entry) .length)
+    unfolding movedBy
+    read (inl e) = at 2 e
+    read (inr e) = at 4 e
 
-module _ (image : List ℕ) (d : Desk) (i : ℕ) (given buffer : List ℕ) where
-  pub played-other : (q : Request) → OneOf lookless (tagOf request.the-type q) → requestPlayed image d i q given buffer ≡ playedBy q image d i given buffer
-  unfolding playedBy
-  played-other Open h = refl
-  played-other Read h = refl
-  played-other Write h = refl
-  played-other (GranuleRead g) h = refl
-  played-other (GranuleWrite g) h = refl
-  played-other (GranuleLook g) h = absurd (miss lookless 5 tt h)
-  played-other (Position o) h = refl
+    pub written : OneOf (3 ∷ 5 ∷ []) (row .code) → moved E row given a ≡ given
+    unfolding movedBy
+    written (inl e) = at 3 e
+    written (inr e) = at 5 e
+
+    pub looked : row .code ≡ 6 → moved E row given a ≡ lookShown E (a .image) (a .session) (row .entry) (row .granule)
+    unfolding movedBy
+    looked e = at 6 e
+
+    other-at : (k : ℕ) → (OneOf (2 ∷ 4 ∷ []) k → ⊥) → (OneOf (3 ∷ 5 ∷ []) k → ⊥) → k ≢ 6 → getD (movedBy E row given a) k [] ≡ []
+    unfolding movedBy
+    other-at zero r w l = refl
+    other-at (suc zero) r w l = refl
+    other-at (suc (suc zero)) r w l = absurd (r (inl refl))
+    other-at (suc (suc (suc zero))) r w l = absurd (w (inl refl))
+    other-at (suc (suc (suc (suc zero)))) r w l = absurd (r (inr refl))
+    other-at (suc (suc (suc (suc (suc zero))))) r w l = absurd (w (inr refl))
+    other-at (suc (suc (suc (suc (suc (suc zero)))))) r w l = absurd (l refl)
+    other-at (suc (suc (suc (suc (suc (suc (suc k))))))) r w l = refl
+
+    pub other : (OneOf (2 ∷ 4 ∷ []) (row .code) → ⊥) → (OneOf (3 ∷ 5 ∷ []) (row .code) → ⊥) → row .code ≢ 6 → moved E row given a ≡ []
+    other r w l = at (row .code) refl ∙ other-at (row .code) r w l

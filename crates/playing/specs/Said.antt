@@ -1,32 +1,24 @@
 -- What is printed, line by line. Definitions only.
-use mathlib.Core.Bool.{Bool, true, false}
 use mathlib.Core.List.{List, [], _∷_, _++_}
-use Prim.Native.Nat.{ℕ}
-use Rattle.requests.specs.Numbers.{numberOf}
-use Rattle.requests.specs.declared.Answer.{Answer}
-use Rattle.sessions.specs.declared.Spot.{Spot}
-use Rattle.sessions.specs.declared.Spot.the-variants.{Closed, At}
+use Prim.Native.Nat.{ℕ, zero, suc}
 use Rattle.texts.specs.Texts.{spelled, decimal, spaced}
 use Rattle.playing.specs.declared.Fault.{Fault}
 use Rattle.playing.specs.declared.Fault.the-variants.{Cut, Shape, Code, Missing, Unread}
+use Rattle.playing.specs.declared.Played.{Played}
 use Rattle.playing.specs.declared.Sums.{Sums}
 
 -- the first line: MOUNT ANSWER
-unfoldable pub mountLine : Answer → List ℕ
-mountLine a = spaced (spelled "MOUNT" ∷ decimal (numberOf a) ∷ [])
+unfoldable pub mountLine : ℕ → List ℕ
+mountLine n = spaced (spelled "MOUNT" ∷ decimal n ∷ [])
 
-unfoldable pub bit : Bool → ℕ
-bit true = 1
-bit false = 0
-
--- POSITION and BEYOND of a file, "- -" if it is not open
-unfoldable pub spotWords : Spot → List (List ℕ)
-spotWords Closed = spelled "-" ∷ spelled "-" ∷ []
-spotWords (At p b) = decimal p ∷ decimal (bit b) ∷ []
+-- POSITION and BEYOND of a file that stands so: "- -" if it is not open, which is 0; BEYOND is 0 where that is 1, and 1 where it is 2
+unfoldable pub standWords : ℕ → ℕ → List (List ℕ)
+standWords zero p = spelled "-" ∷ spelled "-" ∷ []
+standWords (suc beyond) p = decimal p ∷ decimal beyond ∷ []
 
 -- of each row: ROW ANSWER SUM POSITION BEYOND
-unfoldable pub rowLine : ℕ → Answer → ℕ → Spot → List ℕ
-rowLine n a sum spot = spaced (decimal n ∷ decimal (numberOf a) ∷ decimal sum ∷ spotWords spot)
+unfoldable pub rowLine : ℕ → Played → List ℕ
+rowLine n p = spaced (decimal n ∷ decimal (p .number) ∷ decimal (p .sum) ∷ standWords (p .standing) (p .position))
 
 -- of an image behind the last row: IMAGE A B
 unfoldable pub imageLine : Sums → List ℕ

@@ -8,7 +8,6 @@ use Rattle.geometry.specs.Bytes.{wordAt}
 use Rattle.requests.specs.Codes.{askedFor}
 use Rattle.requests.specs.declared.Asked.{Asked}
 use Rattle.requests.specs.declared.Asked.the-variants.{For, Unknown}
-use Rattle.requests.specs.declared.Request.{Request}
 use Rattle.playing.specs.declared.Fault.the-variants.{Cut, Shape, Code}
 use Rattle.playing.specs.declared.Found.{Found}
 use Rattle.playing.specs.declared.Found.the-variants.{InOrder, Wrong}
@@ -19,17 +18,18 @@ unfoldable pub usedBy : ℕ → ℕ → ℕ
 usedBy code length = elim (eqb code 3 || eqb code 5) [ true ↦ length | false ↦ 0 ]
 
 -- the words of a row: code, entry, length, granule number; two that are not looked at, and two zeros
-unfoldable pub rowIn : List ℕ → Request → Row
-rowIn b q = record {
-  request = q;
+unfoldable pub rowIn : List ℕ → Row
+rowIn b = record {
+  code = wordAt b 0;
   entry = wordAt b 2;
+  granule = wordAt b 6;
   length = wordAt b 4;
   uses = usedBy (wordAt b 0) (wordAt b 4);
 }
 
 -- the row whose code asks for that; a code that names no request is told
 unfoldable pub rowFor : List ℕ → Asked → Found
-rowFor b (For q) = InOrder (rowIn b q)
+rowFor b (For q) = InOrder (rowIn b)
 rowFor b Unknown = Wrong (Code (wordAt b 0))
 
 -- a row has 16 bytes, its last two words are zero, and its code names a request; what is told is the first of these that fails

@@ -1,29 +1,39 @@
 // Scripts of requests: what a row asks for, and what is said of it. docs/PLAY.md has the form of a script.
-use directory::entry_of;
+use board::board_buffered_look;
+use board::board_buffered_mount;
+use board::board_buffered_position;
+use board::board_buffered_request;
+use board::board_buffered_session_size;
+use board::board_look;
+use board::board_mount;
+use board::board_position;
+use board::board_request;
+use board::board_session_size;
+use directory::entry_at;
 use geometry::part;
 use geometry::word_at;
-use requests::Answer;
 use requests::Asked;
-use requests::Request;
 use requests::by_code;
-use sessions::BufferedSession;
-use sessions::Session;
-use sessions::Spot;
 use texts::put_all;
 use texts::put_number;
 ghost use mathlib.Core.Path.{_≡_};
+ghost use Rattle.directory.specs.Entries.{entryAt, tableOf};
+ghost use Rattle.geometry.specs.Bytes as Bytes;
 ghost use Rattle.texts.specs.Texts.{spaced, Wrote};
+ghost use Rattle.board.specs.Board.{left, mountNumber, mountBytes, lookSize, lookPlace};
+ghost use Rattle.board.specs.Codes.{standing, recordAt};
 ghost use Rattle.playing.specs.Script.{usedBy, rowOf};
 ghost use Rattle.playing.specs.Sums.{wordsOf, sumOf, sumsOf};
-ghost use Rattle.playing.specs.Said.{bit, mountLine, spotWords, rowLine, imageLine, faultWords, faultLine};
-ghost use Rattle.playing.specs.Played.{mountAt, stepAt, after, lookAnswerAt, lookAt, spotAt, lengthAt, moved, with, lookPlayed, requestPlayed, played};
+ghost use Rattle.playing.specs.Said.{mountLine, standWords, rowLine, imageLine, faultWords, faultLine};
+ghost use Rattle.playing.specs.Played.{engineOf, lookShown, leaves, moved, played};
 
 // ---- rows
 
 // A row that is in order.
 pub struct Row {
-    pub request: Request,
+    pub code: u16,
     pub entry: u16,
+    pub granule: u32,
     pub length: u16, // the bytes of a write, the buffer of a read
     pub uses: u16, // how many of the bytes given it uses up
 }
@@ -62,10 +72,12 @@ pub fn row_of(bytes: &[u8]) -> Found
     }
     let code = word_at(bytes, 0);
     let length = word_at(bytes, 4);
-    match by_code(code, word_at(bytes, 6) as u32) {
-        Asked::For(q) => Found::InOrder(Row {
-            request: q,
+    let granule = word_at(bytes, 6) as u32;
+    match by_code(code, granule) {
+        Asked::For(_) => Found::InOrder(Row {
+            code: code,
             entry: word_at(bytes, 2),
+            granule: granule,
             length: length,
             uses: used_by(code, length),
         }),
@@ -100,44 +112,184 @@ pub fn sums_of(s: &[u8]) -> Sums
     }
 }
 
-// ---- what is said
+// ---- an engine, on a session in lent bytes
 
-// Puts what is said of a mounting into out. How many bytes that is.
-pub fn write_mount(out: &mut [u8], a: Answer) -> usize
-    ensures { λ r. ⌜ Wrote (now (out .entry)) 0 (mountLine a) (now (out .exit)) r ⌝ }
-{
-    let at = put_all(out, 0, b"MOUNT ");
-    put_number(out, at, requests::number(a) as u32, b'\n')
+// Which of the two engines plays.
+pub enum Engine {
+    Plain,
+    Buffered,
 }
 
-// 1 for yes.
-fn bit(b: bool) -> u32
-    ensures { λ r. ⌜ r ≡ bit b ⌝ }
+// How many bytes a session takes.
+pub fn session_size(engine: Engine) -> usize
+    ensures { λ r. ⌜ r ≡ engineOf engine .size ⌝ }
 {
-    if b { 1 } else { 0 }
+    match engine {
+        Engine::Plain => board_session_size(),
+        Engine::Buffered => board_buffered_session_size(),
+    }
 }
 
-// Puts where a file stands, and the line's end.
-fn put_spot(out: &mut [u8], at: usize, spot: Spot) -> usize
-    ensures { λ r. ⌜ Wrote (now (out .entry)) at (spaced (spotWords spot)) (now (out .exit)) r ⌝ }
+// Mounts an image, and stores the session; its number.
+pub fn mount(engine: Engine, image: &[u8], session: &mut [u8]) -> u16
+    ensures { λ r. ⌜ (r ≡ mountNumber (engineOf engine) (now (image .entry)) (now (session .entry)))
+        × (now (session .exit) ≡ mountBytes (engineOf engine) (now (image .entry)) (now (session .entry))) ⌝ }
 {
-    match spot {
-        Spot::Closed => put_all(out, at, b"- -\n"),
-        Spot::At { record, beyond } => {
-            let a = put_number(out, at, record, b' ');
-            put_number(out, a, bit(beyond), b'\n')
+    match engine {
+        Engine::Plain => board_mount(image, session),
+        Engine::Buffered => board_buffered_mount(image, session),
+    }
+}
+
+// A row's request; its number.
+fn request(
+    engine: Engine,
+    image: &mut [u8],
+    session: &mut [u8],
+    row: Row,
+    given: &[u8],
+    buffer: &mut [u8],
+) -> u16
+    ensures { λ r. ⌜ left r (now (image .exit)) (now (session .exit)) (now (buffer .exit))
+        ≡ leaves (engineOf engine) row (now (given .entry)) (now (image .entry)) (now (session .entry)) (now (buffer .entry)) ⌝ }
+{
+    let i = row.entry as usize;
+    match engine {
+        Engine::Plain => board_request(image, session, i, row.code, row.granule, given, buffer),
+        Engine::Buffered => {
+            board_buffered_request(image, session, i, row.code, row.granule, given, buffer)
         }
     }
 }
 
+// Looks at granule g of entry i: the number of its bytes; where they begin goes into at.
+fn look(engine: Engine, image: &[u8], session: &[u8], i: usize, g: u32, at: &mut usize) -> usize
+    ensures { λ r. ⌜ (r ≡ lookSize (engineOf engine) (now (image .entry)) (now (session .entry)) i g)
+        × (now (at .exit) ≡ lookPlace (engineOf engine) (now (image .entry)) (now (session .entry)) i g (now (at .entry))) ⌝ }
+{
+    match engine {
+        Engine::Plain => board_look(image, session, i, g, at),
+        Engine::Buffered => board_buffered_look(image, session, i, g, at),
+    }
+}
+
+// Where entry i's file stands: 0 not open, 1 open, 2 open and beyond the mark; its record goes into at.
+fn position(engine: Engine, session: &[u8], i: usize, at: &mut u32) -> u16
+    ensures { λ r. ⌜ (r ≡ standing (engineOf engine .spot (engineOf engine .read (now (session .entry))) i))
+        × (now (at .exit) ≡ recordAt (engineOf engine .spot (engineOf engine .read (now (session .entry))) i) (now (at .entry))) ⌝ }
+{
+    match engine {
+        Engine::Plain => board_position(session, i, at),
+        Engine::Buffered => board_buffered_position(session, i, at),
+    }
+}
+
+// ---- a row played
+
+// What is said of a row.
+pub struct Played {
+    pub number: u16, // its request's
+    pub sum: u32, // of the words moved
+    pub standing: u16, // its file: 0 not open, 1 open, 2 open and beyond the mark
+    pub position: u32, // of its file, if that is open
+}
+
+// The sum of the words that a read of entry i moved, which are R bytes of the buffer.
+fn sum_read(image: &[u8], i: usize, buffer: &[u8]) -> u32
+    ensures { λ r. ⌜ r ≡ sumOf (wordsOf (Bytes.part (now (buffer .entry)) 0 (entryAt (tableOf (now (image .entry))) i .length))) ⌝ }
+{
+    let e = entry_at(image, i);
+    sums_of(part(buffer, 0, e.length as usize)).words
+}
+
+// The sum of the words that a look at granule g of entry i shows.
+fn sum_shown(engine: Engine, image: &[u8], session: &[u8], i: usize, g: u32) -> u32
+    ensures { λ r. ⌜ r ≡ sumOf (wordsOf (lookShown (engineOf engine) (now (image .entry)) (now (session .entry)) i g)) ⌝ }
+{
+    let mut at: usize = 0;
+    let n = look(engine, image, session, i, g, &mut at);
+    sums_of(part(image, at, n)).words
+}
+
+// The sum of the words that a row's request moved.
+fn sum_moved(
+    engine: Engine,
+    row: Row,
+    given: &[u8],
+    number: u16,
+    image: &[u8],
+    session: &[u8],
+    buffer: &[u8],
+) -> u32
+    ensures { λ r. ⌜ r ≡ sumOf (wordsOf (moved (engineOf engine) row (now (given .entry)) (left number (now (image .entry)) (now (session .entry)) (now (buffer .entry))))) ⌝ }
+{
+    if number != 0 {
+        return 0;
+    }
+    let i = row.entry as usize;
+    let code = row.code;
+    match code {
+        2 | 4 => sum_read(image, i, buffer),
+        3 | 5 => sums_of(given).words,
+        6 => sum_shown(engine, image, session, i, row.granule),
+        _ => 0,
+    }
+}
+
+// Plays one row: a write takes its bytes from what is given, a read lays them in the buffer.
+pub fn play_row(
+    engine: Engine,
+    image: &mut [u8],
+    session: &mut [u8],
+    row: Row,
+    given: &[u8],
+    buffer: &mut [u8],
+) -> Played
+    ensures { λ r. ⌜ (left (r .number) (now (image .exit)) (now (session .exit)) (now (buffer .exit))
+        ≡ leaves (engineOf engine) row (now (given .entry)) (now (image .entry)) (now (session .entry)) (now (buffer .entry)))
+        × (r ≡ played (engineOf engine) row (now (given .entry)) (now (image .entry)) (now (session .entry)) (now (buffer .entry))) ⌝ }
+{
+    let number = request(engine, image, session, row, given, buffer);
+    let sum = sum_moved(engine, row, given, number, image, session, buffer);
+    let mut at: u32 = 0;
+    let standing = position(engine, session, row.entry as usize, &mut at);
+    Played {
+        number: number,
+        sum: sum,
+        standing: standing,
+        position: at,
+    }
+}
+
+// ---- what is said
+
+// Puts what is said of a mounting into out. How many bytes that is.
+pub fn write_mount(out: &mut [u8], number: u16) -> usize
+    ensures { λ r. ⌜ Wrote (now (out .entry)) 0 (mountLine number) (now (out .exit)) r ⌝ }
+{
+    let at = put_all(out, 0, b"MOUNT ");
+    put_number(out, at, number as u32, b'\n')
+}
+
+// Puts where a file stands, and the line's end.
+fn put_stand(out: &mut [u8], at: usize, standing: u16, position: u32) -> usize
+    ensures { λ r. ⌜ Wrote (now (out .entry)) at (spaced (standWords standing position)) (now (out .exit)) r ⌝ }
+{
+    if standing == 0 {
+        return put_all(out, at, b"- -\n");
+    }
+    let a = put_number(out, at, position, b' ');
+    put_number(out, a, (standing - 1) as u32, b'\n')
+}
+
 // Puts what is said of row n into out. How many bytes that is.
-pub fn write_row(out: &mut [u8], n: u32, a: Answer, sum: u32, spot: Spot) -> usize
-    ensures { λ r. ⌜ Wrote (now (out .entry)) 0 (rowLine n a sum spot) (now (out .exit)) r ⌝ }
+pub fn write_row(out: &mut [u8], n: u32, p: Played) -> usize
+    ensures { λ r. ⌜ Wrote (now (out .entry)) 0 (rowLine n p) (now (out .exit)) r ⌝ }
 {
     let b = put_number(out, 0, n, b' ');
-    let c = put_number(out, b, requests::number(a) as u32, b' ');
-    let d = put_number(out, c, sum, b' ');
-    put_spot(out, d, spot)
+    let c = put_number(out, b, p.number as u32, b' ');
+    let d = put_number(out, c, p.sum, b' ');
+    put_stand(out, d, p.standing, p.position)
 }
 
 // Puts what is said of an image into out. How many bytes that is.
@@ -183,223 +335,4 @@ pub fn write_fault(out: &mut [u8], n: u32, f: Fault) -> usize
     let a = put_all(out, 0, b"ERROR row ");
     let b = put_number(out, a, n, b':');
     put_fault(out, b, f)
-}
-
-// ---- a row played
-
-// Which of the two engines plays.
-pub enum Engine {
-    Plain,
-    Buffered,
-}
-
-// A session of each engine. Only that of the engine that plays goes on.
-pub struct Desk {
-    pub engine: Engine,
-    pub plain: Session,
-    pub buffered: BufferedSession,
-}
-
-// An answer, and the desk behind it.
-pub struct Reply {
-    pub answer: Answer,
-    pub desk: Desk,
-}
-
-// Mounts an image for an engine.
-pub fn mount(engine: Engine, image: &[u8]) -> Reply
-    ensures { λ r. ⌜ r ≡ mountAt engine (now (image .entry)) ⌝ }
-{
-    let m = plain::mount(image);
-    let n = buffered::mount(image);
-    let a = m.answer;
-    let c = n.answer;
-    let p = m.session;
-    let b = n.session;
-    let d = Desk {
-        engine: engine,
-        plain: p,
-        buffered: b,
-    };
-    match engine {
-        Engine::Plain => Reply { answer: a, desk: d },
-        Engine::Buffered => Reply { answer: c, desk: d },
-    }
-}
-
-// One request on entry i.
-fn request(
-    image: &mut [u8],
-    d: Desk,
-    i: usize,
-    q: Request,
-    given: &[u8],
-    buffer: &mut [u8],
-) -> Reply
-    ensures { λ r. ⌜ after r (now (image .exit)) (now (buffer .exit)) ≡ stepAt (now (image .entry)) d i q (now (given .entry)) (now (buffer .entry)) ⌝ }
-{
-    let engine = d.engine;
-    let p = d.plain;
-    let b = d.buffered;
-    match engine {
-        Engine::Plain => {
-            let r = plain::request(image, p, i, q, given, buffer);
-            let a = r.answer;
-            let s = r.session;
-            Reply {
-                answer: a,
-                desk: Desk {
-                    engine: engine,
-                    plain: s,
-                    buffered: b,
-                },
-            }
-        }
-        Engine::Buffered => {
-            let r = buffered::request(image, b, i, q, given, buffer);
-            let a = r.answer;
-            let s = r.session;
-            Reply {
-                answer: a,
-                desk: Desk {
-                    engine: engine,
-                    plain: p,
-                    buffered: s,
-                },
-            }
-        }
-    }
-}
-
-// The answer to a look at granule g of entry i.
-fn look_number(image: &[u8], d: Desk, i: usize, g: u32) -> Answer
-    ensures { λ r. ⌜ r ≡ lookAnswerAt (now (image .entry)) d i g ⌝ }
-{
-    let engine = d.engine;
-    let p = d.plain;
-    let b = d.buffered;
-    match engine {
-        Engine::Plain => plain::look_number(image, p, i, g),
-        Engine::Buffered => buffered::look_number(image, b, i, g),
-    }
-}
-
-// What that look shows.
-fn look(image: &[u8], d: Desk, i: usize, g: u32) -> &[u8]
-    ensures { λ r. ⌜ now r ≡ lookAt (now (image .entry)) d i g ⌝ }
-{
-    let engine = d.engine;
-    let p = d.plain;
-    let b = d.buffered;
-    match engine {
-        Engine::Plain => plain::look(image, p, i, g),
-        Engine::Buffered => buffered::look(image, b, i, g),
-    }
-}
-
-// Where entry i's file stands.
-fn position(d: Desk, i: usize) -> Spot
-    ensures { λ r. ⌜ r ≡ spotAt d i ⌝ }
-{
-    let engine = d.engine;
-    let p = d.plain;
-    let b = d.buffered;
-    match engine {
-        Engine::Plain => plain::position(p, i),
-        Engine::Buffered => buffered::position(b, i),
-    }
-}
-
-// The record or granule length of entry i.
-fn length_of(d: Desk, i: usize) -> usize
-    ensures { λ r. ⌜ r ≡ lengthAt d i ⌝ }
-{
-    let engine = d.engine;
-    let p = d.plain;
-    let b = d.buffered;
-    match engine {
-        Engine::Plain => {
-            let t = p.table;
-            let e = entry_of(t, i);
-            e.length as usize
-        }
-        Engine::Buffered => {
-            let t = b.table;
-            let e = entry_of(t, i);
-            e.length as usize
-        }
-    }
-}
-
-// The sum of the words that a request moved; a read moved as many bytes as a record has.
-fn sum_moved(q: Request, a: Answer, length: usize, given: &[u8], buffer: &[u8]) -> u32
-    ensures { λ r. ⌜ r ≡ sumOf (wordsOf (moved q a length (now (given .entry)) (now (buffer .entry)))) ⌝ }
-{
-    if requests::number(a) != 0 {
-        return 0;
-    }
-    match q {
-        Request::Read => sums_of(part(buffer, 0, length)).words,
-        Request::Write => sums_of(given).words,
-        Request::GranuleRead(_) => sums_of(part(buffer, 0, length)).words,
-        Request::GranuleWrite(_) => sums_of(given).words,
-        _ => 0,
-    }
-}
-
-// A row played: what is said of it, and the desk behind it.
-pub struct Played {
-    pub answer: Answer,
-    pub sum: u32,
-    pub spot: Spot,
-    pub desk: Desk,
-}
-
-// A look: nothing changes, and what it shows has moved.
-fn play_look(image: &[u8], d: Desk, i: usize, g: u32) -> Played
-    ensures { λ r. ⌜ r ≡ lookPlayed (now (image .entry)) d i g ⌝ }
-{
-    let a = look_number(image, d, i, g);
-    let s = sums_of(look(image, d, i, g));
-    Played {
-        answer: a,
-        sum: s.words,
-        spot: position(d, i),
-        desk: d,
-    }
-}
-
-// Any other request.
-fn play_request(
-    image: &mut [u8],
-    d: Desk,
-    i: usize,
-    q: Request,
-    given: &[u8],
-    buffer: &mut [u8],
-) -> Played
-    ensures { λ r. ⌜ with r (now (image .exit)) (now (buffer .exit)) ≡ requestPlayed (now (image .entry)) d i q (now (given .entry)) (now (buffer .entry)) ⌝ }
-{
-    let r = request(image, d, i, q, given, buffer);
-    let a = r.answer;
-    let next = r.desk;
-    let n = length_of(next, i);
-    Played {
-        answer: a,
-        sum: sum_moved(q, a, n, given, buffer),
-        spot: position(next, i),
-        desk: next,
-    }
-}
-
-// Plays one row: a write takes its bytes from what is given, a read lays them in the buffer.
-pub fn play_row(image: &mut [u8], d: Desk, row: Row, given: &[u8], buffer: &mut [u8]) -> Played
-    ensures { λ r. ⌜ with r (now (image .exit)) (now (buffer .exit)) ≡ played (now (image .entry)) d row (now (given .entry)) (now (buffer .entry)) ⌝ }
-{
-    let q = row.request;
-    let i = row.entry as usize;
-    match q {
-        Request::GranuleLook(g) => play_look(image, d, i, g),
-        _ => play_request(image, d, i, q, given, buffer),
-    }
 }

@@ -4,7 +4,7 @@ use mathlib.Core.List.{List, [], _∷_}
 use Prim.Native.Nat.{ℕ}
 use types.Run.{OneOf, miss}
 use denote.Enum.Declared.{tagOf}
-use Rattle.requests.specs.Judge.{orElse, firstOf, testsBehind, behindCode}
+use Rattle.requests.specs.Judge.{orElse, firstOf, tests, behindEleven, behindCode}
 use Rattle.requests.proofs.Order as order
 use Rattle.requests.proofs.Request as request
 use Rattle.requests.specs.declared.Facts.{Facts}
@@ -23,7 +23,7 @@ orders = 0 ∷ 1 ∷ 2 ∷ 4 ∷ 5 ∷ 6 ∷ []
 
 module _ (f : Facts) where
   pub other-request : (q : Request) → OneOf others (tagOf request.the-type q) → Done ≡ behindCode q f
-  unfolding behindCode testsBehind firstOf orElse
+  unfolding behindCode behindEleven tests firstOf orElse
   other-request Open h = refl
   other-request Read h = absurd (miss others 1 tt h)
   other-request Write h = refl
@@ -33,7 +33,7 @@ module _ (f : Facts) where
   other-request (Position o) h = absurd (miss others 6 tt h)
 
   pub other-order : (o : Order) → OneOf orders (tagOf order.the-type o) → Done ≡ behindCode (Position o) f
-  unfolding behindCode testsBehind firstOf orElse
+  unfolding behindCode behindEleven tests firstOf orElse
   other-order WriteMark h = refl
   other-order RewindOnline h = refl
   other-order RewindOffline h = refl

@@ -10,7 +10,7 @@ use borrow.Author.Tests.{le-ltb, lt-leb, ltb-false, leb-false, not-true, not-fal
 use Rattle.geometry.specs.Lists.{every}
 use Rattle.geometry.proofs.Tests.{and-left, and-right}
 use Rattle.geometry.specs.Sizes.{free, mostOpen}
-use Rattle.requests.specs.Judge.{whether, orElse, Test, tests, testsBehind, firstOf, judge, behindCode, isFull, notLegal, noEntry, notOpen, notSequential, isBeyond, shortBuffer, badCode, meetsMark, atEnd}
+use Rattle.requests.specs.Judge.{whether, orElse, Test, tests, behindEleven, firstOf, judge, behindCode, isFull, notLegal, noEntry, notOpen, notSequential, isBeyond, shortBuffer, badCode, meetsMark, atEnd}
 use Rattle.requests.specs.Numbers.{numberOf}
 use Rattle.requests.proofs.Done.{Live, Running}
 use Rattle.requests.specs.declared.Facts.{Facts}
@@ -172,14 +172,14 @@ module _ (f : Facts) where
 
   -- of each that decodes
   good-code : (q : Request) → Then q f → judge q (supposing false f) ≡ behindCode q f
-  unfolding judge tests behindCode testsBehind firstOf orElse whether
+  unfolding judge tests behindCode behindEleven firstOf orElse whether
   good-code Open o = rw (o .legal, o .used, o .shut, lt-leb mostOpen (f .files) (o .few))
   good-code Read r = advanced (shortBuffer ∷ badCode ∷ meetsMark ∷ atEnd ∷ []) (r .advances) ∙ rw (le-ltb (f .buffer) (f .length) (r .buffered))
   good-code (Position RecordForward) a = advanced (badCode ∷ meetsMark ∷ atEnd ∷ []) a
 
   -- a read whose turn has come, of a record that is there and good, is done
   pub reads-on : ReadsThen f → f .position < f .count → judge Read (supposing false f) ≡ Done
-  unfolding behindCode testsBehind firstOf orElse whether
+  unfolding behindCode behindEleven tests firstOf orElse whether
   reads-on r h = good-code Read r ∙ rw (lt-leb (f .count) (f .position) h)
 
 pub behind : (q : Request) (f : Facts) → isBad (judge q (supposing true f)) ≡ true → judge q (supposing false f) ≡ behindCode q f

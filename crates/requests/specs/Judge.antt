@@ -7,6 +7,7 @@ use lib.Dec.{eqb, leb, ltb}
 use Rattle.geometry.specs.Sizes.{free, compressed, random, mostOpen, mostRecords, sector}
 use Rattle.geometry.specs.Places.{capacity}
 use Rattle.packing.specs.Placing.{hasRoom}
+use Rattle.requests.specs.Numbers.{numberOf}
 use Rattle.requests.specs.declared.Facts.{Facts}
 use Rattle.requests.specs.declared.Order.the-variants.{WriteMark, RewindOnline, RewindOffline, RecordForward, RecordBack, FileForward, FileBack}
 use Rattle.requests.specs.declared.Request.{Request}
@@ -141,20 +142,9 @@ tests (Position FileForward) = notLegal ∷ noEntry ∷ notOpen ∷ notSequentia
 tests (Position FileBack) = notLegal ∷ noEntry ∷ notOpen ∷ notSequential ∷ backToStart ∷ []
 
 -- those of them that stand behind 11, "bad code met"
-unfoldable pub testsBehind : Request → List Test
-testsBehind Open = []
-testsBehind Read = meetsMark ∷ atEnd ∷ []
-testsBehind Write = []
-testsBehind (GranuleRead g) = []
-testsBehind (GranuleWrite g) = []
-testsBehind (GranuleLook g) = []
-testsBehind (Position WriteMark) = []
-testsBehind (Position RewindOnline) = []
-testsBehind (Position RewindOffline) = []
-testsBehind (Position RecordForward) = meetsMark ∷ atEnd ∷ []
-testsBehind (Position RecordBack) = []
-testsBehind (Position FileForward) = []
-testsBehind (Position FileBack) = []
+unfoldable pub behindEleven : List Test → List Test
+behindEleven [] = []
+behindEleven (t ∷ ts) = elim (eqb (numberOf (t .gives)) 11) [ true ↦ ts | false ↦ behindEleven ts ]
 
 unfoldable pub whether : Bool → Answer → Answer → Answer
 whether true a later = a
@@ -174,7 +164,7 @@ judge q f = firstOf (tests q) f
 
 -- the answer to a request that has passed 11: what the tests behind it say
 unfoldable pub behindCode : Request → Facts → Answer
-behindCode q f = firstOf (testsBehind q) f
+behindCode q f = firstOf (behindEleven (tests q)) f
 
 -- ---- the lists above are in order: each test's place in the line is not before that of the test before it
 

@@ -11,10 +11,8 @@ use lib.Dec.{eqb}
 use borrow.Author.Tests.{lt-ltb, le-ltb, eqb-true, eq-eqb}
 use Rattle.geometry.specs.Lists.{firstWith}
 use Rattle.geometry.proofs.Tests.{and-left, and-right, and-both, first-holds, first-below, first-is}
-use Rattle.sessions.specs.Session.{idle, isOf, fileOf, slotOf, stand, spotOf}
+use Rattle.sessions.specs.Session.{idle, isOf, fileOf, slotOf}
 use Rattle.sessions.specs.declared.OpenFile.{OpenFile}
-use Rattle.sessions.specs.declared.Session.{Session}
-use Rattle.sessions.specs.declared.Spot.the-variants.{Closed, At}
 
 pub is-of : (i : ℕ) (f : OpenFile) → f .used ≡ true → f .entry ≡ i → isOf i f ≡ true
 unfolding isOf
@@ -59,16 +57,6 @@ finds files i = go (decLt (firstWith (isOf i) files) (length files))
         none : (k : ℕ) → Dec (k < length files) → isOf i (getD files k idle) ≡ false
         none k (yes l) = first-below (isOf i) files k idle (omega arith)
         none k (no l) = ap (isOf i) (List·getD-eq-default files idle (omega arith))
-
--- where a file stands
-module _ (s : Session) (i : ℕ) where
-  pub spot-open : fileOf (s .files) i .used ≡ true → spotOf s i ≡ At (fileOf (s .files) i .position) (fileOf (s .files) i .beyond)
-  unfolding spotOf stand
-  spot-open u = rw (u, stand)
-
-  pub spot-closed : fileOf (s .files) i .used ≡ false → spotOf s i ≡ Closed
-  unfolding spotOf stand
-  spot-closed u = rw (u, stand)
 
 -- a state of entry i put where its file is, or is to be, is the one that is found
 pub slot-set : (files : List OpenFile) (i k : ℕ) (f : OpenFile) → k < length files → isOf i f ≡ true → ((j : ℕ) → j < k → isOf i (getD files j idle) ≡ false)

@@ -9,11 +9,11 @@ use lib.ListN.{length, getD, List·getD-eq-default}
 use lib.Dec.{eqb, ltb}
 use borrow.Author.Tests.{leb-true, ltb-true, eqb-true, not-true}
 use Rattle.geometry.specs.Lists.{every, pairwise}
-use Rattle.geometry.specs.Sizes.{sector, entries, blocked, compressed, mostOpen, sectorsOf, lawfulLength}
+use Rattle.geometry.specs.Sizes.{sector, entries, blocked, compressed, sectorsOf, lawfulLength}
 use Rattle.geometry.proofs.Tests.{and-left, and-right, all-getD, every-any, pairwise-getD, both-ways}
 use Rattle.directory.specs.Entries.{entryAt, isFree, isKind, isMarked}
 use Rattle.directory.specs.Rules.{tableGood}
-use Rattle.sessions.specs.Session.{idle, isOf, openFiles, ofUsedEntry, ofOther, positionGood, beyondGood, placesGood, placeGood, sessionRules, legal, fresh, bare, heldGood, bufferedLegal}
+use Rattle.sessions.specs.Session.{idle, isOf, ofUsedEntry, ofOther, positionGood, beyondGood, placesGood, placeGood, sessionRules, legal, fresh, bare, heldGood, bufferedLegal}
 use Rattle.sessions.proofs.Files.{is-of}
 use Rattle.directory.specs.declared.Entry.{Entry}
 use Rattle.sessions.specs.declared.BufferedFile.{BufferedFile}
@@ -39,10 +39,6 @@ module _ (image : List ℕ) (s : Session) (ok : legal image s ≡ true) where
   pub good-table : tableGood (sectorsOf image) (s .table) ≡ true
   unfolding sessionRules
   good-table = rule 1
-
-  pub few-files : openFiles (s .files) ≤ mostOpen
-  unfolding sessionRules
-  few-files = leb-true (openFiles (s .files)) mostOpen (rule 2)
 
   -- the state of number k
   module _ (k : ℕ) (used : getD (s .files) k idle .used ≡ true) where

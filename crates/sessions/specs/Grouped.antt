@@ -5,7 +5,7 @@ use Prim.Native.Nat.{ℕ}
 use lib.Dec.{eqb, leb, ltb}
 use Rattle.geometry.specs.Lists.{every, pairwise}
 use Rattle.geometry.specs.Sizes.{entries, blocked, compressed, mostOpen}
-use Rattle.directory.specs.Entries.{entryAt, isFree, isKind, isMarked}
+use Rattle.directory.specs.Entries.{isFree, isKind, isMarked}
 use Rattle.directory.specs.declared.Entry.{Entry}
 use Rattle.sessions.specs.Session.{openFiles, ofUsedEntry, ofOther, positionGood, beyondGood, placeGood, placesGood}
 use Rattle.sessions.specs.declared.OpenFile.{OpenFile}

@@ -1,14 +1,14 @@
 -- Document 01, "Answer numbers", last paragraph: sessions, and when one is legal for an image. Definitions only.
 use mathlib.Core.Bool.{Bool, true, false, _&&_, _||_, not}
-use mathlib.Core.List.{List, [], _∷_, _++_, map}
-use Prim.Native.Nat.{ℕ, _+_, _*_}
+use mathlib.Core.List.{List, [], _∷_, map}
+use Prim.Native.Nat.{ℕ, _*_}
 use lib.ListN.{length, getD, replicate}
 use lib.Dec.{eqb, leb, ltb}
 use Rattle.geometry.specs.Bytes.{part, lay}
 use Rattle.geometry.specs.Lists.{all, every, pairwise, firstWith, howMany}
 use Rattle.geometry.specs.Places.{origin}
 use Rattle.geometry.specs.Sizes.{sector, entries, blocked, compressed, mostOpen, sectorsOf, lawfulLength}
-use Rattle.directory.specs.Entries.{entryAt, freeEntry, isFree, isKind, isMarked}
+use Rattle.directory.specs.Entries.{entryAt, isFree, isKind, isMarked}
 use Rattle.directory.specs.Rules.{tableGood}
 use Rattle.geometry.specs.declared.Place.{Place}
 use Rattle.directory.specs.declared.Entry.{Entry}

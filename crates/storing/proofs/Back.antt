@@ -1,6 +1,6 @@
 -- Entries and open-file states and their bytes: each is read back from the other, field by field.
 use mathlib.Core.Path.{_≡_, refl, sym, ap, _∙_}
-use mathlib.Core.Bool.{Bool, true, _&&_}
+use mathlib.Core.Bool.{true, _&&_}
 use mathlib.Core.List.{List, [], _∷_, _++_}
 use Prim.Native.Nat.{ℕ, _+_, _≤_}
 use native.Mathlib.Omega.{arith}
@@ -10,7 +10,7 @@ use borrow.Author.Tests.{eqb-true}
 use Rattle.geometry.specs.Bytes.{part}
 use Rattle.geometry.specs.Lists.{every}
 use Rattle.geometry.specs.Sizes.{sector}
-use Rattle.geometry.proofs.Tests.{and-left, and-right, and-both, all-getD}
+use Rattle.geometry.proofs.Tests.{and-left, and-right, all-getD}
 use Rattle.geometry.specs.declared.Place.{Place}
 use Rattle.directory.specs.declared.Entry.{Entry}
 use Rattle.sessions.specs.declared.BufferedFile.{BufferedFile}

@@ -1,6 +1,6 @@
 -- Bytes that are no session are a session that is legal for no image: its entries are of kind 5, and kinds are 0 to 4.
 use mathlib.Core.Path.{_≡_, refl, ap, _∙_}
-use mathlib.Core.Bool.{Bool, true, false, _&&_, and-false}
+use mathlib.Core.Bool.{false, and-false}
 use mathlib.Core.List.{List}
 use Prim.Native.Nat.{ℕ}
 use Rattle.geometry.specs.Lists.{all, every}

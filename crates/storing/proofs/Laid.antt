@@ -10,7 +10,7 @@ use lib.ListN.{length, getD, length-append}
 use borrow.Author.Tests.{lt-ltb, le-ltb, eq-eqb, ne-eqb}
 use Rattle.geometry.specs.Bytes.{lay}
 use Rattle.geometry.specs.Sizes.{mostOpen}
-use Rattle.geometry.proofs.Bytes.{length-lay, lay-short, lay-append, part-all, part-lay-same}
+use Rattle.geometry.proofs.Bytes.{lay-all, length-lay, lay-short, lay-append}
 use Rattle.directory.proofs.Back.{eight}
 use Rattle.directory.specs.declared.Entry.{Entry}
 use Rattle.sessions.specs.declared.BufferedFile.{BufferedFile}
@@ -94,11 +94,6 @@ pub file-joined : (o : OpenFile) (u y : ℕ) (i p h e : List ℕ)
     ≡ fileStored o
 unfolding fileStored placeStored bytesOf
 file-joined o u y i p h e hu hi hp hy hh he = rw (hu, hi, hp, hy, hh, he)
-
--- ---- bytes laid over as many
-
-pub lay-all : (n : ℕ) (old xs : List ℕ) → length old ≡ n → length xs ≡ n → lay old 0 xs ≡ xs
-lay-all n old xs h k = sym (part-all (lay old 0 xs) n (length-lay old 0 xs ∙ h)) ∙ part-lay-same old 0 xs n k (omega arith)
 
 -- ---- sizes
 

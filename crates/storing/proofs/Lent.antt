@@ -1,6 +1,6 @@
 -- Sessions in lent bytes, read where they lie: an entry stands at 22·i, a state at w·k behind the first, and what is tested of those bytes is tested of the entry or state that they hold.
 use mathlib.Core.Path.{_≡_, refl, sym, ap, _∙_}
-use mathlib.Core.Bool.{Bool, true, false, _&&_, not, false≢true}
+use mathlib.Core.Bool.{Bool, true, false, _&&_, _||_, not, false≢true}
 use mathlib.Core.List.{List, [], _∷_, map}
 use Prim.Native.Nat.{ℕ, zero, suc, _+_, _-_, _*_, _≤_, _<_}
 use native.Mathlib.Omega.{arith}
@@ -8,20 +8,21 @@ use native.Mathlib.Decide.{decLt}
 use lib.Dec.{eqb, ltb}
 use lib.ListN.{length, take, drop, getD, List·getD-eq-default}
 use lib.Seq.{length-take-le, getD-take}
-use borrow.Author.Tests.{eq-eqb, eqb-true, lt-ltb}
+use borrow.Author.Tests.{eq-eqb, ne-eqb, eqb-true, lt-ltb, ltb-true, not-true}
 use Rattle.geometry.specs.Bytes.{part}
-use Rattle.geometry.specs.Lists.{every, firstWith, howMany}
+use Rattle.geometry.specs.Lists.{every, firstWith, howMany, same}
 use Rattle.geometry.specs.Sizes.{sector, entries, mostOpen}
-use Rattle.geometry.proofs.Bytes.{part-split}
+use Rattle.geometry.proofs.Bytes.{length-part, getD-part, part-split}
 use Rattle.geometry.proofs.Left.{every-on, every-off, every-end}
-use Rattle.geometry.proofs.Tests.{either, alike, and-left, and-right, and-both, every-alike}
-use Rattle.directory.specs.Entries.{entryBytes, freeEntry, entryAt}
+use Rattle.geometry.proofs.Tests.{either, alike, and-left, and-right, and-both, every-alike, every-from, first-holds}
+use Rattle.directory.specs.Entries.{entryBytes, freeEntry, entryAt, isFree}
 use Rattle.directory.specs.Grouped.{entryGood, usedGood, twoGood}
 use Rattle.directory.specs.Rules.{isName}
 use Rattle.directory.proofs.Free.{every-append, zero-entry, free-good}
-use Rattle.directory.proofs.Grouped.{used-unnamed, used-named}
+use Rattle.directory.proofs.Grouped.{used-unnamed, used-named, two-free, two-before, two-behind, two-shared}
 use Rattle.sessions.specs.Session.{idle, fresh, bare, unheld, isOf, ofOther, stand, fileOf, slotOf, openFiles, spotOf, heldGood, legal, bufferedLegal}
 use Rattle.sessions.specs.Grouped.{fileGood, openGood, holdGood}
+use Rattle.sessions.proofs.Files.{Finds, opened, closed, finds}
 use Rattle.sessions.proofs.Grouped.{file-told, held-unused, held-told}
 use Rattle.sessions.proofs.Unheld.{bare-unheld}
 use Rattle.directory.specs.declared.Entry.{Entry}
@@ -31,10 +32,10 @@ use Rattle.sessions.specs.declared.Holding.{Holding}
 use Rattle.sessions.specs.declared.OpenFile.{OpenFile}
 use Rattle.sessions.specs.declared.Session.{Session}
 use Rattle.sessions.specs.declared.Spot.the-variants.{Closed}
-use Rattle.storing.specs.Numbers.{numberIn, isSet}
+use Rattle.storing.specs.Numbers.{numberIn, isSet, isByte}
 use Rattle.storing.specs.Rows.{rowIn}
 use Rattle.storing.specs.Stored.{entryWidth, fileWidth, heldWidth, filesAt, entryIn, fileIn, heldIn, isStored, isBufferedStored, tableIn, unlawful, sessionIn, bufferedIn}
-use Rattle.storing.specs.Lent.{filesIn, bareIn, inUse, stateAt, holdOf, noHold, lentBy, lentIn, ownState, seenOf, seenIn, seenBufferedIn}
+use Rattle.storing.specs.Lent.{filesIn, bareIn, ifUsed, inUse, stateAt, holdOf, noHold, lentBy, lentIn, ownState, seenOf, seenIn, seenBufferedIn}
 use Rattle.storing.proofs.Rows.{length-row, getD-row}
 use Rattle.storing.proofs.Read.{session-is, session-none, buffered-is, buffered-none}
 use Rattle.storing.proofs.Illegal.{none-legal, none-legal-buffered}
@@ -88,11 +89,23 @@ module _ (b : List ℕ) where
       rw (whole, first, second) (twice (every zero-byte (part b at 6)) (every zero-byte (part b next 2)) (every zero-byte (part b last 6)))
 
   -- as three numbers of eight bytes
-  pub zero-by-eight : (at : ℕ) → every (λ x. eqb x 0) (part b at 22)
+  zero-by-eight : (at : ℕ) → every (λ x. eqb x 0) (part b at 22)
       ≡ (eqb (numberIn (part b at 8)) 0 && (eqb (numberIn (part b (at + 8) 8)) 0 && eqb (numberIn (part b (at + 14) 8)) 0))
   zero-by-eight at =
       next-zero 8 at 22 (at + 8) _ (omega arith) refl
       (over-zero (at + 8) (at + 14) (at + 16) (omega arith) (omega arith) ∙ rw (zero-number (part b (at + 8) 8), zero-number (part b (at + 14) 8)))
+
+  -- read one after another, up to the first that is not zero
+  module _ (at x : ℕ) (p : x ≡ numberIn (part b at 8)) where
+    pub zero-not : ¬ (x ≡ 0) → false ≡ every (λ x. eqb x 0) (part b at 22)
+    zero-not h = sym (zero-by-eight at ∙ rw (sym p, ne-eqb x 0 h))
+
+    module _ (e : x ≡ 0) (y : ℕ) (q : y ≡ numberIn (part b (at + 8) 8)) where
+      pub zero-not-next : ¬ (y ≡ 0) → false ≡ every (λ x. eqb x 0) (part b at 22)
+      zero-not-next h = sym (zero-by-eight at ∙ rw (sym p, eq-eqb x 0 e, sym q, ne-eqb y 0 h))
+
+      pub zero-last : y ≡ 0 → (z : ℕ) → z ≡ numberIn (part b (at + 14) 8) → eqb z 0 ≡ every (λ x. eqb x 0) (part b at 22)
+      zero-last f z r = sym (zero-by-eight at ∙ rw (sym p, eq-eqb x 0 e, sym q, eq-eqb y 0 f, sym r))
 
   -- as the name and the numbers of an entry
   zero-by-field : (at : ℕ) → every zero-byte (part b at 22) ≡ every zero-byte (entryBytes (entryIn b at))
@@ -144,12 +157,71 @@ module _ (b : List ℕ) (i at : ℕ) (h : i < entries) (q : at ≡ entryWidth * 
   free-kind kind k z = ap (λ (e : Entry). e .kind) entry-is ∙ sym k ∙ z
 
   -- the rules of two, with one behind it, and with all before it
-  pub two-told : (f e : Entry) (r : Bool) → f ≡ entryIn b at → r ≡ twoGood f e → twoGood (getD (tableIn b) i freeEntry) e ≡ r
-  two-told f e r p s = ap (λ (x : Entry). twoGood x e) (entry-is ∙ sym p) ∙ sym s
+  pub two-told : (e : Entry) (r : Bool) → r ≡ twoGood (entryIn b at) e → twoGood (getD (tableIn b) i freeEntry) e ≡ r
+  two-told e r s = ap (λ (x : Entry). twoGood x e) entry-is ∙ sym s
 
-  pub all-told : (e : Entry) (r : Bool) → e ≡ entryIn b at → r ≡ every (λ f. twoGood f e) (take i (tableIn b))
+  pub all-told : (r : Bool) → r ≡ every (λ f. twoGood f (entryIn b at)) (take i (tableIn b))
       → every (λ f. twoGood f (getD (tableIn b) i freeEntry)) (take i (tableIn b)) ≡ r
-  all-told e r p s = ap (λ (x : Entry). every (λ f. twoGood f x) (take i (tableIn b))) (entry-is ∙ sym p) ∙ sym s
+  all-told r s = ap (λ (x : Entry). every (λ f. twoGood f x) (take i (tableIn b))) entry-is ∙ sym s
+
+-- ---- two entries where they lie
+
+-- bytes are the same if their numbers are
+same-number : (xs ys : List ℕ) → length xs ≡ length ys → every isByte xs ≡ true → every isByte ys ≡ true → eqb (numberIn xs) (numberIn ys) ≡ same xs ys
+unfolding numberIn every same
+same-number [] [] l g h = refl
+same-number [] (y ∷ ys) l g h = absurd (omega arith)
+same-number (x ∷ xs) [] l g h = absurd (omega arith)
+same-number (x ∷ xs) (y ∷ ys) l g h =
+    let k : length xs ≡ length ys = omega arith in
+    let n : eqb (numberIn xs) (numberIn ys) ≡ same xs ys = same-number xs ys k (and-right (isByte x) (every isByte xs) g) (and-right (isByte y) (every isByte ys) h) in
+    let u : x < 256 = ltb-true x 256 (and-left (isByte x) (every isByte xs) g) in
+    let v : y < 256 = ltb-true y 256 (and-left (isByte y) (every isByte ys) h) in
+    alike _ _
+    (λ (q : eqb (x + 256 * numberIn xs) (y + 256 * numberIn ys) ≡ true).
+    let e : x + 256 * numberIn xs ≡ y + 256 * numberIn ys = eqb-true _ _ q in
+    and-both (eqb x y) (same xs ys) (eq-eqb x y (omega arith)) (sym n ∙ eq-eqb (numberIn xs) (numberIn ys) (omega arith)))
+    (λ (q : (eqb x y && same xs ys) ≡ true).
+    let a : x ≡ y = eqb-true x y (and-left (eqb x y) (same xs ys) q) in
+    let c : numberIn xs ≡ numberIn ys = eqb-true (numberIn xs) (numberIn ys) (n ∙ and-right (eqb x y) (same xs ys) q) in
+    eq-eqb (x + 256 * numberIn xs) (y + 256 * numberIn ys) (omega arith))
+
+module _ (b : List ℕ) (g : (k : ℕ) → getD b k 0 < 256) where
+  part-bytes : (at : ℕ) → at + 8 ≤ length b → every isByte (part b at 8) ≡ true
+  part-bytes at h =
+      every-from isByte (part b at 8) 0 λ (i : ℕ) (q : i < length (part b at 8)).
+      let n : length (part b at 8) ≡ 8 = length-part b at 8 h in
+      lt-ltb (getD (part b at 8) i 0) 256 (omega (arith, getD-part b at 8 i 0 (omega arith), g (at + i)))
+
+  pub same-told : (at end : ℕ) → at + 8 ≤ length b → end + 8 ≤ length b → (v w : ℕ) → v ≡ numberIn (part b at 8) → w ≡ numberIn (part b end 8)
+      → eqb v w ≡ same (part b at 8) (part b end 8)
+  same-told at end h k v w p q =
+      rw (p, q)
+      (same-number (part b at 8) (part b end 8) (length-part b at 8 h ∙ sym (length-part b end 8 k)) (part-bytes at h) (part-bytes end k))
+
+module _ (b : List ℕ) (at end j k : ℕ) (pj : j ≡ numberIn (part b (at + 8) 2)) (pk : k ≡ numberIn (part b (end + 8) 2)) where
+  pub pair-free : (eqb j 0 || eqb k 0) ≡ true → true ≡ twoGood (entryIn b at) (entryIn b end)
+  unfolding entryIn
+  pair-free h = sym (two-free (entryIn b at) (entryIn b end) (rw (sym pj, sym pk) h))
+
+  module _ (u : (eqb j 0 || eqb k 0) ≡ false) (f n s : ℕ) (pf : f ≡ numberIn (part b (at + 12) 2)) (pn : n ≡ numberIn (part b (end + 12) 2))
+      (ps : s ≡ numberIn (part b (at + 14) 2)) where
+    both-used : (isFree (entryIn b at) || isFree (entryIn b end)) ≡ false
+    unfolding entryIn
+    both-used = rw (sym pj, sym pk) u
+
+    pub pair-shared : (t : ℕ) → t ≡ numberIn (part b (end + 14) 2) → n < f + s → f < n + t → false ≡ twoGood (entryIn b at) (entryIn b end)
+    unfolding entryIn
+    pair-shared t pt h l = sym (two-shared (entryIn b at) (entryIn b end) both-used (rw (sym pf, sym pn, sym ps) h) (rw (sym pf, sym pn, sym pt) l))
+
+    module _ (r : Bool) (pr : r ≡ same (part b at 8) (part b end 8)) where
+      pub pair-before : f + s ≤ n → not r ≡ twoGood (entryIn b at) (entryIn b end)
+      unfolding entryIn
+      pair-before h = rw pr (sym (two-before (entryIn b at) (entryIn b end) both-used (rw (sym pf, sym pn, sym ps) h)))
+
+      pub pair-behind : (t : ℕ) → t ≡ numberIn (part b (end + 14) 2) → n + t ≤ f → not r ≡ twoGood (entryIn b at) (entryIn b end)
+      unfolding entryIn
+      pair-behind t pt h = rw pr (sym (two-behind (entryIn b at) (entryIn b end) both-used (rw (sym pf, sym pn, sym pt) h)))
 
 -- ---- those before number i
 
@@ -190,6 +262,43 @@ module _ (w : ℕ) (b : List ℕ) where
 
     pub state-of : (i : ℕ) (r : Bool) → r ≡ isOf i (fileIn b at) → isOf i (getD (filesIn w b) k idle) ≡ r
     state-of i r p = ap (isOf i) state-is ∙ sym p
+
+-- a state that is used, and one that is not
+pub used-is : (f : OpenFile) (u : Bool) → u ≡ f .used → u ≡ true → f ≡ ifUsed f
+unfolding ifUsed
+used-is f u e t = rw (sym e, t)
+
+pub used-not : (f : OpenFile) (u : Bool) → u ≡ f .used → u ≡ false → idle ≡ ifUsed f
+unfolding ifUsed
+used-not f u e t = rw (sym e, t)
+
+-- an entry's file is the state that is its own; one that an opening would take is not in use
+own-file : (files : List OpenFile) (i : ℕ) → ifUsed (getD files (slotOf files i) idle) ≡ fileOf files i
+own-file files i = go (finds files i)
+  where
+    idle-at : (k : ℕ) → k ≡ firstWith (λ f. not (f .used)) files → getD files k idle .used ≡ false
+    idle-at k e = at (decLt k (length files))
+      where
+        at : Dec (k < length files) → getD files k idle .used ≡ false
+        at (yes h) = not-true (getD files k idle .used) (rw e (first-holds (λ f. not (f .used)) files idle (rw e at h)))
+        at (no h) = ap (λ (f : OpenFile). f .used) (List·getD-eq-default files idle (omega arith))
+
+    go : Finds files i → ifUsed (getD files (slotOf files i) idle) ≡ fileOf files i
+    go (opened h e u n b) = sym (used-is (getD files (slotOf files i) idle) (fileOf files i .used) (ap (λ (f : OpenFile). f .used) e) u) ∙ sym e
+    go (closed e s n) = sym (used-not (getD files (slotOf files i) idle) false (sym (idle-at (slotOf files i) s)) refl) ∙ sym e
+
+module _ (w : ℕ) (b : List ℕ) (i k : ℕ) (e : k ≡ slotOf (filesIn w b) i) where
+  pub file-here : (at : ℕ) → k < mostOpen → at ≡ filesAt + w * k → ifUsed (fileIn b at) ≡ fileOf (filesIn w b) i
+  file-here at h q = ap ifUsed (sym (state-is w b k at h q) ∙ ap (λ (j : ℕ). getD (filesIn w b) j idle) e) ∙ own-file (filesIn w b) i
+
+  pub file-none : mostOpen ≤ k → idle ≡ fileOf (filesIn w b) i
+  file-none h =
+      let n : length (filesIn w b) ≡ mostOpen = length-files w b in
+      let p : getD (filesIn w b) k idle ≡ idle = List·getD-eq-default (filesIn w b) idle (omega arith) in
+      sym (sym (own-file (filesIn w b) i) ∙ ap (λ (j : ℕ). ifUsed (getD (filesIn w b) j idle)) (sym e) ∙ ap ifUsed p ∙ none)
+    where
+      none : ifUsed idle ≡ idle
+      none = unfold ifUsed in refl
 
 -- of a state x that is used, f was read: those before it are not of its entry
 pub others-told : (x f : OpenFile) → x ≡ f → (gs : List OpenFile) (r : Bool) → r ≡ every (λ g. not (isOf (f .entry) g)) gs → x .used ≡ true

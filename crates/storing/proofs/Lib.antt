@@ -9,3 +9,4 @@ pub mod Bytes
 pub mod Forms
 pub mod Laws
 pub mod Illegal
+pub mod Counts

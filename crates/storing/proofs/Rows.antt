@@ -14,11 +14,11 @@ use lib.Seq.{take-suc, take-append-le, drop-append-le, take-append-add, drop-app
 use borrow.Author.Tests.{eqb-true, eq-eqb}
 use Rattle.geometry.specs.Bytes.{part, lay}
 use Rattle.geometry.specs.Lists.{all, every}
-use Rattle.geometry.proofs.Bytes.{length-lay, length-part, lay-fits, lay-nil, lay-append}
+use Rattle.geometry.proofs.Bytes.{lay-all, length-lay, length-part, lay-fits, lay-nil, lay-append}
 use Rattle.geometry.proofs.Tests.{and-left, and-right, and-both}
 use Rattle.storing.specs.Rows.{rowOf, rowIn}
 use Rattle.storing.specs.Stored.{layPart}
-use Rattle.storing.proofs.Laid.{lay-all, part-there, part-not}
+use Rattle.storing.proofs.Laid.{part-there, part-not}
 use Rattle.storing.proofs.Parts.{Stands, cut, next}
 
 -- ---- the i-th of a row

@@ -29,6 +29,10 @@ filesIn w b = rowIn fileIn w mostOpen b filesAt
 abbrev pub bareIn : ℕ → List ℕ → Session
 bareIn w b = record { table = tableIn b; files = filesIn w b }
 
+-- a state; the idle one where it is not in use
+unfoldable pub ifUsed : OpenFile → OpenFile
+ifUsed f = elim (f .used) [ true ↦ f | false ↦ idle ]
+
 -- a state with its buffer; a fresh one where that is not in use
 unfoldable pub inUse : BufferedFile → BufferedFile
 inUse b = elim (b .file .used) [ true ↦ b | false ↦ fresh idle ]
@@ -49,9 +53,13 @@ noHold = record { holds = false; held = 0; changed = false }
 unfoldable pub lentBy : BufferedFile → List ℕ
 lentBy b = elim (b .holds) [ true ↦ b .buffer | false ↦ [] ]
 
--- where it lies in the bytes of a session, if state k holds one
+-- where the buffer of state k begins in the bytes of a session
+abbrev pub bufferAt : ℕ → ℕ
+bufferAt k = filesAt + heldWidth * k + 36
+
+-- where the held sector lies there, if state k holds one
 unfoldable pub lentIn : List ℕ → ℕ → Bool → List ℕ
-lentIn b k holds = elim (holds && ltb k mostOpen) [ true ↦ part b (filesAt + heldWidth * k + 36) sector | false ↦ [] ]
+lentIn b k holds = elim (holds && ltb k mostOpen) [ true ↦ part b (bufferAt k) sector | false ↦ [] ]
 
 -- whether the session is legal, how many files are open, which state is the entry's or is to be, the entry, its file, and what that holds
 unfoldable pub seenOf : Bool → Session → ℕ → Holding → Seen

@@ -164,6 +164,10 @@ layPart n at w b i x = elim (ltb i n) [ true ↦ lay b (at + w * i) x | false �
 abbrev pub layEntry : List ℕ → ℕ → Entry → List ℕ
 layEntry b i e = layPart entries 0 entryWidth b i (entryStored e)
 
+-- another count and other flags of entry i, which stand behind its first 16 bytes
+abbrev pub layCounts : List ℕ → ℕ → ℕ → ℕ → List ℕ
+layCounts b i count flags = layPart entries 16 entryWidth b i (bytesOf 4 count ++ bytesOf 2 flags)
+
 -- another state of number k
 abbrev pub layFile : List ℕ → ℕ → OpenFile → List ℕ
 layFile b k f = layPart mostOpen filesAt fileWidth b k (fileStored f)

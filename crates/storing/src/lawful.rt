@@ -13,7 +13,6 @@ use crate::word_at;
 use directory::Entry;
 use directory::free_entry;
 use directory::is_name;
-use directory::two_good;
 use directory::used_good;
 use geometry::Geometry;
 use geometry::part;
@@ -30,15 +29,15 @@ ghost use Prim.Native.Nat.{_+_, _*_, _/_, _%_, _≤_, _<_};
 ghost use lib.Dec.{eqb};
 ghost use lib.ListN.{length, take};
 ghost use Rattle.geometry.specs.Bytes as Bytes;
-ghost use Rattle.geometry.specs.Lists.{every, firstWith};
+ghost use Rattle.geometry.specs.Lists.{every, firstWith, same};
 ghost use Rattle.directory.specs.Entries.{entryAt};
 ghost use Rattle.directory.specs.Rules.{tableGood};
 ghost use Rattle.directory.specs.Grouped.{twoGood};
 ghost use Rattle.sessions.specs.Session.{bare, isOf, fileOf, slotOf, openFiles, spotOf, heldGood, legal};
 ghost use Rattle.sessions.specs.Grouped.{filesGood};
 ghost use Rattle.storing.specs.Rows.{rowIn};
-ghost use Rattle.storing.specs.Stored.{fileIn, heldIn, tableIn, unlawful, sessionIn, bufferedIn};
-ghost use Rattle.storing.specs.Lent.{Spaced, filesIn, bareIn, inUse, stateAt, holdOf, noHold, lentIn, seenOf, seenIn, seenBufferedIn};
+ghost use Rattle.storing.specs.Stored.{entryIn, fileIn, heldIn, tableIn, unlawful, sessionIn, bufferedIn};
+ghost use Rattle.storing.specs.Lent.{Spaced, filesIn, bareIn, ifUsed, inUse, stateAt, holdOf, noHold, lentIn, seenOf, seenIn, seenBufferedIn};
 
 // What a request asks of a session: whether it is legal for the image, how many files are open, which state is the entry's or is to be,
 // the entry, its file, and what that holds.
@@ -58,18 +57,49 @@ fn is_zero_at(b: &[u8], at: usize) -> bool
     requires { ⌜ at + 22 ≤ length (now b) ⌝ }
     ensures { λ r. ⌜ r ≡ every (λ x. eqb x 0) (Bytes.part (now (b .entry)) at 22) ⌝ }
 {
-    (wide_at(b, at) == 0) & ((wide_at(b, at + 8) == 0) & (wide_at(b, at + 14) == 0))
+    if wide_at(b, at) != 0 {
+        return false;
+    }
+    if wide_at(b, at + 8) != 0 {
+        return false;
+    }
+    wide_at(b, at + 14) == 0
 }
 
-// Whether each entry before the one at byte `end` keeps the rules of two with e.
-fn apart_before(b: &[u8], end: usize, e: Entry) -> bool
-    requires { ⌜ (end % 22 ≡ 0) × ((end ≤ 396) × (396 ≤ length (now b))) ⌝ }
-    ensures { λ r. ⌜ r ≡ every (λ f. twoGood f e) (take (end / 22) (tableIn (now (b .entry)))) ⌝ }
+// Whether two entries have the same name: the same number of eight bytes.
+fn same_name_at(b: &[u8], at: usize, end: usize) -> bool
+    requires { ⌜ (at + 8 ≤ length (now b)) × (end + 8 ≤ length (now b)) ⌝ }
+    ensures { λ r. ⌜ r ≡ same (Bytes.part (now (b .entry)) at 8) (Bytes.part (now (b .entry)) end 8) ⌝ }
+{
+    wide_at(b, at) == wide_at(b, end)
+}
+
+// Whether the entries at two places keep the rules of two: as `directory::two_good` tests them, each field read where it lies.
+fn two_good_at(b: &[u8], at: usize, end: usize) -> bool
+    requires { ⌜ (at + 22 ≤ length (now b)) × (end + 22 ≤ length (now b)) ⌝ }
+    ensures { λ r. ⌜ r ≡ twoGood (entryIn (now (b .entry)) at) (entryIn (now (b .entry)) end) ⌝ }
+{
+    if (word_at(b, at + 8) == Geometry::FREE) | (word_at(b, end + 8) == Geometry::FREE) {
+        return true;
+    }
+    let first = word_at(b, at + 12) as u32;
+    let next = word_at(b, end + 12) as u32;
+    if next < first + (word_at(b, at + 14) as u32) {
+        if first < next + (word_at(b, end + 14) as u32) {
+            return false;
+        }
+    }
+    !same_name_at(b, at, end)
+}
+
+// Whether each entry before the one at byte `end` keeps the rules of two with it.
+fn apart_before(b: &[u8], end: usize) -> bool
+    requires { ⌜ (end % 22 ≡ 0) × ((end + 22 ≤ 396) × (396 ≤ length (now b))) ⌝ }
+    ensures { λ r. ⌜ r ≡ every (λ f. twoGood f (entryIn (now (b .entry)) end)) (take (end / 22) (tableIn (now (b .entry)))) ⌝ }
 {
     let mut at: usize = 0;
     while at < end {
-        let f = entry_at(b, at);
-        if !two_good(f, e) {
+        if !two_good_at(b, at, end) {
             return false;
         }
         at += Form::ENTRY;
@@ -96,7 +126,7 @@ fn table_good(b: &[u8], n: u32) -> bool
             if !used_good(e, n) {
                 return false;
             }
-            if !apart_before(b, at, e) {
+            if !apart_before(b, at) {
                 return false;
             }
         }
@@ -298,19 +328,6 @@ fn hold_in(b: &[u8], k: usize) -> Holding
     }
 }
 
-// Entry i's file; idle if it is not open.
-fn file_in(b: &[u8], w: usize, i: usize) -> OpenFile
-    requires { ⌜ Spaced w (now b) ⌝ }
-    ensures { λ r. ⌜ r ≡ fileOf (filesIn w (now (b .entry))) i ⌝ }
-{
-    let k = first_of(b, w, i);
-    if k < 4 {
-        file_at(b, state_place(w, k))
-    } else {
-        idle()
-    }
-}
-
 // Which state is entry i's: the one it has, else the first that is not in use.
 fn slot_in(b: &[u8], w: usize, i: usize) -> usize
     requires { ⌜ Spaced w (now b) ⌝ }
@@ -320,17 +337,41 @@ fn slot_in(b: &[u8], w: usize, i: usize) -> usize
     if k < 4 { k } else { first_idle(b, w) }
 }
 
-// What a session in bytes has of entry i.
-fn seen_in(lawful: bool, b: &[u8], w: usize, i: usize, hold: Holding) -> Seen
-    requires { ⌜ Spaced w (now b) ⌝ }
+// The file in the state at a place; idle where it is not in use.
+fn used_at(b: &[u8], at: usize) -> OpenFile
+    requires { ⌜ at + 30 ≤ length (now b) ⌝ }
+    ensures { λ r. ⌜ r ≡ ifUsed (fileIn (now (b .entry)) at) ⌝ }
+{
+    if is_set(b, at) {
+        file_at(b, at)
+    } else {
+        idle()
+    }
+}
+
+// Entry i's file, whose state is number k; idle if it is not open.
+fn file_in(b: &[u8], w: usize, i: usize, k: usize) -> OpenFile
+    requires { ⌜ Spaced w (now b) × (k ≡ slotOf (filesIn w (now b)) i) ⌝ }
+    ensures { λ r. ⌜ r ≡ fileOf (filesIn w (now (b .entry))) i ⌝ }
+{
+    if k < 4 {
+        used_at(b, state_place(w, k))
+    } else {
+        idle()
+    }
+}
+
+// What a session in bytes has of entry i, whose state is number k.
+fn seen_in(lawful: bool, b: &[u8], w: usize, i: usize, k: usize, hold: Holding) -> Seen
+    requires { ⌜ Spaced w (now b) × (k ≡ slotOf (filesIn w (now b)) i) ⌝ }
     ensures { λ r. ⌜ r ≡ seenOf lawful (bareIn w (now (b .entry))) i hold ⌝ }
 {
     let e = entry_in(b, i);
-    let f = file_in(b, w, i);
+    let f = file_in(b, w, i, k);
     Seen {
         lawful: lawful,
         opened: opened_in(b, w),
-        slot: slot_in(b, w, i),
+        slot: k,
         entry: e,
         file: f,
         hold: hold,
@@ -369,25 +410,25 @@ fn unseen(i: usize) -> Seen
 pub fn find_in(image: &[u8], b: &[u8], i: usize) -> Seen
     ensures { λ r. ⌜ r ≡ seenIn (now (image .entry)) (now (b .entry)) i ⌝ }
 {
-    if is_session(b) {
-        let lawful = is_lawful(image, b, Form::FILE);
-        seen_in(lawful, b, Form::FILE, i, no_hold())
-    } else {
-        unseen(i)
+    if !is_session(b) {
+        return unseen(i);
     }
+    let lawful = is_lawful(image, b, Form::FILE);
+    let k = slot_in(b, Form::FILE, i);
+    seen_in(lawful, b, Form::FILE, i, k, no_hold())
 }
 
 // What the session with buffers that bytes are has of entry i.
 pub fn find_buffered_in(image: &[u8], b: &[u8], i: usize) -> Seen
     ensures { λ r. ⌜ r ≡ seenBufferedIn (now (image .entry)) (now (b .entry)) i ⌝ }
 {
-    if is_buffered(b) {
-        let lawful = is_lawful(image, b, Form::HELD) & holds_good(b);
-        let hold = hold_in(b, slot_in(b, Form::HELD, i));
-        seen_in(lawful, b, Form::HELD, i, hold)
-    } else {
-        unseen(i)
+    if !is_buffered(b) {
+        return unseen(i);
     }
+    let lawful = is_lawful(image, b, Form::HELD) & holds_good(b);
+    let k = slot_in(b, Form::HELD, i);
+    let hold = hold_in(b, k);
+    seen_in(lawful, b, Form::HELD, i, k, hold)
 }
 
 // The 360 bytes of state k's buffer in lent bytes, if it holds a sector; else none.
@@ -408,7 +449,7 @@ pub fn spot_in(b: &[u8], i: usize) -> Spot
     ensures { λ r. ⌜ r ≡ spotOf (sessionIn (now (b .entry))) i ⌝ }
 {
     if is_session(b) {
-        stand(file_in(b, Form::FILE, i))
+        stand(file_in(b, Form::FILE, i, slot_in(b, Form::FILE, i)))
     } else {
         Spot::Closed
     }
@@ -419,7 +460,7 @@ pub fn spot_buffered_in(b: &[u8], i: usize) -> Spot
     ensures { λ r. ⌜ r ≡ spotOf (bare (bufferedIn (now (b .entry)))) i ⌝ }
 {
     if is_buffered(b) {
-        stand(file_in(b, Form::HELD, i))
+        stand(file_in(b, Form::HELD, i, slot_in(b, Form::HELD, i)))
     } else {
         Spot::Closed
     }

@@ -28,7 +28,7 @@ ghost use Rattle.geometry.specs.Bytes as Bytes;
 ghost use Rattle.geometry.specs.Lists.{all, every};
 ghost use Rattle.storing.specs.Numbers.{bytesOf, numberIn, flagOf, isSet, isFlag, isByte};
 ghost use Rattle.storing.specs.Rows.{rowOf, rowIn};
-ghost use Rattle.storing.specs.Stored.{entryStored, entryIn, placeStored, placeIn, fileStored, fileIn, fileFlags, holdStored, heldStored, heldIn, heldFlags, isStored, isBufferedStored, tableIn, unlawfulEntry, unlawful, sessionIn, bufferedIn, layEntry, layFile, layHeld, layState, laySession, layBuffered};
+ghost use Rattle.storing.specs.Stored.{entryStored, entryIn, placeStored, placeIn, fileStored, fileIn, fileFlags, holdStored, heldStored, heldIn, heldFlags, isStored, isBufferedStored, tableIn, unlawfulEntry, unlawful, sessionIn, bufferedIn, layEntry, layCounts, layFile, layHeld, layState, laySession, layBuffered};
 
 // The places and sizes of a session's parts.
 pub struct Form {}
@@ -499,12 +499,31 @@ fn hold_bytes(holds: bool, held: u32, changed: bool) -> [u8; 6]
 }
 
 // Lays an entry over the bytes of entry i, if a session has one of that number.
-pub fn put_entry(b: &mut [u8], i: usize, e: Entry)
+fn put_entry(b: &mut [u8], i: usize, e: Entry)
     ensures { λ _. ⌜ (now (b .exit) ≡ layEntry (now (b .entry)) i e) × (length (entryStored e) ≡ 22) ⌝ }
 {
     let x = entry_bytes(e);
     if i < 18 {
         lay(b, Form::ENTRY * i, &x);
+    }
+}
+
+// Count and flags as six bytes.
+fn count_bytes(count: u32, flags: u16) -> [u8; 6]
+    ensures { λ r. ⌜ r ≡ bytesOf 4 count ++ bytesOf 2 flags ⌝ }
+{
+    let c = four(count);
+    let g = two(flags);
+    [c[0], c[1], c[2], c[3], g[0], g[1]]
+}
+
+// Lays a count and flags over those of entry i, if a session has one of that number.
+pub fn put_counts(b: &mut [u8], i: usize, count: u32, flags: u16)
+    ensures { λ _. ⌜ now (b .exit) ≡ layCounts (now (b .entry)) i count flags ⌝ }
+{
+    let x = count_bytes(count, flags);
+    if i < 18 {
+        lay(b, Form::ENTRY * i + 16, &x);
     }
 }
 

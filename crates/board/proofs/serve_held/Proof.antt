@@ -1,13 +1,13 @@
 -- The engine does the request on the lent bytes; its answer's number is told.
-use Rattle.buffered.specs.Buffered.{served}
+use Rattle.buffered.specs.Buffered.{requested}
 use Rattle.board.specs.Board.{bufferedEngine}
 use Rattle.board.proofs.Served.{answers-lent}
 use borrow.Author.Needs.{needs}
 use Rattle.board.proofs.serve_held.Statement.{statement}
 use Rattle.board.proofs.serve_held.Tie as tie
 
-serve-requires : tie.Need-serve-requires
-serve-requires c κs = search needs
+request-requires : tie.Need-request-requires
+request-requires c κs = search needs
 
 number-requires : tie.Need-number-requires
 number-requires c κs = search needs
@@ -22,11 +22,11 @@ same-length-3 : tie.Need-same-length-3
 same-length-3 c = search needs
 
 returns : tie.Need-returns
-unfolding served
+unfolding requested
 returns c =
     let s = c .before .before .before .before .before .before .before in
     let a = s .before .before .before .before .before .before .before .before .args in
-    answers-lent bufferedEngine (a .image .now) (a .b .now) (a .i) (a .given .now) (a .buffer .now) (a .q) (s .serve .result) _ _ _ (c .number .result) (s .serve .ensures) (c .number .ensures)
+    answers-lent bufferedEngine (a .image .now) (a .b .now) (a .i) (a .given .now) (a .buffer .now) (a .q) (s .request .result) _ _ _ (c .number .result) (s .request .ensures) (c .number .ensures)
 
 pub serve-held-spec : {M : Type 1} → statement M
-serve-held-spec = tie.close (tie.spec serve-requires number-requires same-length same-length-2 same-length-3 returns)
+serve-held-spec = tie.close (tie.spec request-requires number-requires same-length same-length-2 same-length-3 returns)

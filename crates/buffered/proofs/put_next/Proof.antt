@@ -1,18 +1,18 @@
--- The entry is laid, then the state, with its buffer only where it is closed.
+-- The count and flags are laid, then the state, with its buffer only where it is closed.
 use mathlib.Core.Path.{sym, ap, _∙_}
 use mathlib.Core.List.{List}
 use Prim.Native.Nat.{ℕ}
 use Rattle.geometry.proofs.Tests.{chosen, not-chosen}
 use Rattle.sessions.specs.Session.{fresh}
-use Rattle.storing.specs.Stored.{layEntry, layHeld, layState}
+use Rattle.storing.specs.Stored.{layCounts, layHeld, layState}
 use Rattle.buffered.specs.Buffered.{layNext}
 use Rattle.sessions.specs.declared.BufferedFile.{BufferedFile}
 use borrow.Author.Needs.{needs}
 use Rattle.buffered.proofs.put_next.Statement.{statement}
 use Rattle.buffered.proofs.put_next.Tie as tie
 
-put-entry-requires : tie.Need-put-entry-requires
-put-entry-requires c κs = search needs
+put-counts-requires : tie.Need-put-counts-requires
+put-counts-requires c κs = search needs
 
 put-state-requires : tie.Need-put-state-requires
 put-state-requires c κs = search needs
@@ -30,12 +30,9 @@ returns : tie.Need-returns
 unfolding layNext
 returns c =
     let a = c .before .before .before .before .before .before .before .before .before .before .before .before .args in
-    let p = c .before .before .before .before .before .before .before .put-entry .ensures in (
-      c .before .before .put-state .ensures
-          ∙ ap (λ (b : List ℕ). layState b (a .k) (a .v .file) (a .h .holds) (a .h .held) (a .h .changed)) (p .0)
-          ∙ sym (chosen (a .v .file .used) _ _ (search needs)),
-      p .1,
-    )
+    c .before .before .put-state .ensures
+    ∙ ap (λ (b : List ℕ). layState b (a .k) (a .v .file) (a .h .holds) (a .h .held) (a .h .changed)) (c .before .before .before .before .before .before .before .put-counts .ensures)
+    ∙ sym (chosen (a .v .file .used) _ _ (search needs))
 
 same-length-2 : tie.Need-same-length-2
 same-length-2 c = search needs
@@ -44,19 +41,16 @@ returns-2 : tie.Need-returns-2
 unfolding layNext
 returns-2 c =
     let a = c .before .before .before .before .before .before .before .before .before .before .before .before .before .args in
-    let p = c .before .before .before .before .before .before .before .before .put-entry .ensures in (
-      c .before .before .put-held .ensures .0
-          ∙ ap (λ (b : List ℕ). layHeld b (a .k) (c .before .before .before .fresh .result)) (p .0)
-          ∙ ap (λ (f : BufferedFile). layHeld (layEntry (a .session .now) (a .i) (a .v .entry)) (a .k) f) (c .before .before .before .fresh .ensures)
-          ∙ sym (not-chosen (a .v .file .used) _ (layHeld (layEntry (a .session .now) (a .i) (a .v .entry)) (a .k) (fresh (a .v .file))) (search needs)),
-      p .1,
-    )
+    c .before .before .put-held .ensures .0
+    ∙ ap (λ (b : List ℕ). layHeld b (a .k) (c .before .before .before .fresh .result)) (c .before .before .before .before .before .before .before .before .put-counts .ensures)
+    ∙ ap (λ (f : BufferedFile). layHeld (layCounts (a .session .now) (a .i) (a .v .entry .count) (a .v .entry .flags)) (a .k) f) (c .before .before .before .fresh .ensures)
+    ∙ sym (not-chosen (a .v .file .used) _ (layHeld (layCounts (a .session .now) (a .i) (a .v .entry .count) (a .v .entry .flags)) (a .k) (fresh (a .v .file))) (search needs))
 
 pub put-next-spec : {M : Type 1} → statement M
 put-next-spec =
     tie.close
     (tie.spec
-    put-entry-requires
+    put-counts-requires
     put-state-requires
     fresh-requires
     put-held-requires

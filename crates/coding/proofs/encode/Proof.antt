@@ -5,6 +5,7 @@ use lib.ListN.{length}
 use lib.Seq.{length-take-le}
 use Rattle.coding.specs.Encode.{encode}
 use Rattle.coding.proofs.Runs.{keeps-le}
+use Rattle.coding.proofs.Writer.{kept}
 use borrow.Author.Needs.{needs}
 use Rattle.coding.proofs.encode.Statement.{statement}
 use Rattle.coding.proofs.encode.Tie as tie
@@ -20,7 +21,9 @@ slice-aggregate-put-runs c =
     sym (length-take-le (c .before .keeps .result) x (omega arith))
 
 put-runs-requires : tie.Need-put-runs-requires
-put-runs-requires c κs = search needs
+put-runs-requires c κs =
+    let k = c .before .before .keeps in
+    kept (c .before .before .before .before .before .args .x .now) (k .result) (k .ensures)
 
 same-length : tie.Need-same-length
 same-length c = search needs

@@ -1,68 +1,43 @@
--- `geometry::lay` meets its contract. The invariant: the first i bytes of xs are laid.
-use mathlib.Core.Path.{_≡_, refl, sym, ap, _∙_}
-use Prim.Native.Nat.{ℕ, _+_, _≤_, _-_}
-use native.Mathlib.Omega.{arith}
-use lib.ListN.{length, take, length-set}
-use lib.Seq.{take-all}
+-- `geometry::lay` meets its contract: few bytes and many are laid alike.
+use mathlib.Core.Path.{sym, _∙_}
+use Prim.Native.Nat.{_+_, _≤_}
+use lib.ListN.{length}
 use denote.Ref.{now}
-use mathlib.Core.List.{List}
-use borrow.Author.Tests.{leb-true, leb-false}
 use borrow.Author.Needs.{needs}
-use Rattle.geometry.specs.Bytes as Bytes
-use Rattle.geometry.proofs.Bytes.{lay-nil, lay-more, lay-short}
+use borrow.Author.Tests.{leb-true, leb-false}
+use Rattle.geometry.proofs.Bytes.{lay-short}
 use Rattle.geometry.proofs.lay.Statement.{statement}
 use Rattle.geometry.proofs.lay.Tie as tie
 
-abbrev Inv-loop : tie.InvT-loop
-Inv-loop out₀ at xs i₀ out i = (at + length xs ≤ length out₀) × (i ≤ length xs) × (length out ≡ length out₀) × (out ≡ Bytes.lay out₀ at (take i xs))
-
-abbrev μ-loop : tie.MeasureT-loop
-μ-loop out₀ at xs i₀ out i = length xs - i
-
-fits-requires : tie.Need-fits-requires Inv-loop μ-loop
+fits-requires : tie.Need-fits-requires
 fits-requires c κs = search needs
 
-loop-holds : tie.Need-loop-holds Inv-loop μ-loop
-loop-holds c =
+-- the bytes fit
+fit : (c : tie.Then1) → c .before .before .before .before .args .at + length (now (c .before .before .before .before .args .xs)) ≤ length (now (c .before .before .before .before .args .out))
+fit c =
     let a = c .before .before .before .before .args in
-    (leb-true (a .at + length (now (a .xs))) (length (now (a .out))) (sym (c .before .fits2 .ensures) ∙ c .if1 .taken), omega arith, refl, sym (lay-nil (now (a .out)) (a .at)))
+    leb-true (a .at + length (now (a .xs))) (length (now (a .out))) (sym (c .before .fits2 .ensures) ∙ c .if1 .taken)
 
-shared-slice-read-out : tie.Need-shared-slice-read-out Inv-loop μ-loop
-shared-slice-read-out c = omega arith
+lay-bytes-requires : tie.Need-lay-bytes-requires
+lay-bytes-requires c κs = fit (c .before .before)
 
-add-out : tie.Need-add-out Inv-loop μ-loop
-add-out c = omega arith
+lay-pieces-requires : tie.Need-lay-pieces-requires
+lay-pieces-requires c κs = (c .before .if2 .left, fit (c .before .before))
 
-slice-write-out : tie.Need-slice-write-out Inv-loop μ-loop
-slice-write-out c = omega arith
+same-length : tie.Need-same-length
+same-length c = search needs
 
-add-i : tie.Need-add-i Inv-loop μ-loop
-add-i c = omega arith
+returns : tie.Need-returns
+returns c = c .before .before .lay-bytes .ensures
 
-loop-less : tie.Need-loop-less Inv-loop μ-loop
-loop-less c = omega arith
+same-length-2 : tie.Need-same-length-2
+same-length-2 c = search needs
 
-loop-again : tie.Need-loop-again Inv-loop μ-loop
-loop-again c =
-    let a = c .before .before .before .before .before .before .before .args in
-    let l = c .before .before .loop in (
-      l .inv .0,
-      omega arith,
-      simp length-set (l .inv .2),
-      rw (l .inv .3) (lay-more (now (a .out)) (a .at) (now (a .xs)) (l .i) (l .inv .0) (omega arith)),
-    )
+returns-2 : tie.Need-returns-2
+returns-2 c = c .before .before .lay-pieces .ensures
 
-same-length : tie.Need-same-length Inv-loop μ-loop
-same-length c = c .before .loop .inv .2
-
-returns : tie.Need-returns Inv-loop μ-loop
-returns c =
-    let a = c .before .before .before .before .before .before .args in
-    let l = c .before .loop in
-    l .inv .3 ∙ ap (λ (xs : List ℕ). Bytes.lay (now (a .out)) (a .at) xs) (take-all (l .i) (now (a .xs)) (omega arith))
-
-returns-2 : tie.Need-returns-2 Inv-loop μ-loop
-returns-2 c =
+returns-3 : tie.Need-returns-3
+returns-3 c =
     let a = c .before .before .before .before .args in
     sym (lay-short (now (a .out)) (a .at) (now (a .xs)) (leb-false (a .at + length (now (a .xs))) (length (now (a .out))) (sym (c .before .fits2 .ensures) ∙ c .if1 .left)))
 
@@ -70,16 +45,11 @@ pub lay-spec : {M : Type 1} → statement M
 lay-spec =
     tie.close
     (tie.spec
-    Inv-loop
-    μ-loop
     fits-requires
-    loop-holds
-    shared-slice-read-out
-    add-out
-    slice-write-out
-    add-i
-    loop-less
-    loop-again
+    lay-bytes-requires
+    lay-pieces-requires
     same-length
     returns
-    returns-2)
+    same-length-2
+    returns-2
+    returns-3)

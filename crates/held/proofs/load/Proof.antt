@@ -1,9 +1,8 @@
 -- `held::load` meets its contract: a whole sector is laid over a whole buffer.
 use Rattle.geometry.specs.Bytes.{part, lay}
 use Rattle.geometry.specs.Sizes.{sector}
-use Rattle.geometry.proofs.Bytes.{length-part}
+use Rattle.geometry.proofs.Bytes.{lay-all, length-part}
 use Rattle.steps.specs.Effects.{sectorAt}
-use Rattle.held.proofs.Cases.{lay-all}
 use borrow.Author.Needs.{needs}
 use Rattle.held.proofs.load.Statement.{statement}
 use Rattle.held.proofs.load.Tie as tie

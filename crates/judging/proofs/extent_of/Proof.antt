@@ -1,28 +1,55 @@
--- The definition.
+-- The definition: the part from the extent's first byte to its end.
+use mathlib.Core.Path.{_≡_}
+use Prim.Native.Nat.{_+_, _-_, _*_}
+use native.Mathlib.Omega.{arith}
+use Rattle.geometry.specs.Bytes.{part}
+use Rattle.geometry.specs.Sizes.{sector}
 use Rattle.sessions.specs.Session.{extent}
 use borrow.Author.Needs.{needs}
 use Rattle.judging.proofs.extent_of.Statement.{statement}
 use Rattle.judging.proofs.extent_of.Tie as tie
 
-cast-part : tie.Need-cast-part
-cast-part c = search needs
+cast-at : tie.Need-cast-at
+cast-at c = search needs
 
-mul-part : tie.Need-mul-part
-mul-part c = search needs
+mul-at : tie.Need-mul-at
+mul-at c = search needs
 
-cast-part-2 : tie.Need-cast-part-2
-cast-part-2 c = search needs
+cast-end : tie.Need-cast-end
+cast-end c = search needs
 
-mul-part-2 : tie.Need-mul-part-2
-mul-part-2 c = search needs
+mul-end : tie.Need-mul-end
+mul-end c = search needs
 
-part-requires : tie.Need-part-requires
-part-requires c κs = search needs
+add-end : tie.Need-add-end
+add-end c = search needs
+
+sub-result : tie.Need-sub-result
+sub-result c = search needs
+
+part-result-start : tie.Need-part-result-start
+part-result-start c = search needs
+
+part-result-end : tie.Need-part-result-end
+part-result-end c = search needs
 
 returns : tie.Need-returns
-unfolding extent
-returns c = c .part .ensures
+unfolding part extent
+returns c =
+    let e = c .before .before .before .args .e in
+    let n : (sector * e .first + sector * e .sectors) - sector * e .first ≡ sector * e .sectors = omega arith in
+    rw n
 
 pub extent-of-spec : {M : Type 1} → statement M
 extent-of-spec =
-    tie.close (tie.spec cast-part mul-part cast-part-2 mul-part-2 part-requires returns)
+    tie.close
+    (tie.spec
+    cast-at
+    mul-at
+    cast-end
+    mul-end
+    add-end
+    sub-result
+    part-result-start
+    part-result-end
+    returns)

@@ -21,15 +21,15 @@ lent-in-requires c κs = search needs
 
 ruling-on-requires : tie.Need-ruling-on-requires
 ruling-on-requires c κs =
-    let d = c .before .before .before .before .before .before .before .before .before in
+    let d = c .before .before .before .before .before .before .before .before in
     let a = d .before .before .before .before .before .before .args in
     buffered-stands (a .image .now) (a .session .now) (a .i) (d .find-buffered-in .result) (d .find-buffered-in .ensures)
 
 next-requires : tie.Need-next-requires
 next-requires c κs =
-    let r = c .before .before .before in
-    let n = r .before .before .before .before .before in
-    let d = n .before .before .before .before .before in
+    let r = c .before .before .before .before in
+    let n = r .before .before .before .before .before .before in
+    let d = n .before .before .before in
     let a = d .before .before .before .before .before .before .args in
     let x = d .find-buffered-in .result in
     fits (a .image .now) (x .lawful) (x .opened) (x .entry) (x .file) (x .hold .held) (r .before .before .lent-in .result .now) (a .i) (a .q) (a .given .now) (n .encode-given .result) (a .buffer .now)
@@ -43,9 +43,9 @@ same-length-2 c = search needs
 
 returns : tie.Need-returns
 returns c =
-    let r = c .before .before .before .before in
-    let n = r .before .before .before .before .before in
-    let d = n .before .before .before .before .before in
+    let r = c .before .before .before .before .before in
+    let n = r .before .before .before .before .before .before in
+    let d = n .before .before .before in
     let a = d .before .before .before .before .before .before .args in
     let x = d .find-buffered-in .result in
     let z = seenBufferedIn (a .image .now) (a .session .now) (a .i) in

@@ -21,15 +21,15 @@ part-requires c κs = search needs
 
 ruling-on-requires : tie.Need-ruling-on-requires
 ruling-on-requires c κs =
-    let d = c .before .before .before .before .before .before .before .before .before in
+    let d = c .before .before .before .before .before .before .before in
     let a = d .before .before .before .before .before .before .args in
     plain-stands (a .image .now) (a .session .now) (a .i) (d .find-in .result) (d .find-in .ensures)
 
 next-requires : tie.Need-next-requires
 next-requires c κs =
-    let r = c .before .before .before in
+    let r = c .before .before .before .before in
     let n = r .before .before .before .before .before in
-    let d = n .before .before .before .before .before in
+    let d = n .before .before .before in
     let a = d .before .before .before .before .before .before .args in
     let x = d .find-in .result in
     fits (a .image .now) (x .lawful) (x .opened) (x .entry) (x .file) (x .hold .held) (r .before .before .part .result .now) (a .i) (a .q) (a .given .now) (n .encode-given .result) (a .buffer .now)
@@ -43,9 +43,9 @@ same-length-2 c = search needs
 
 returns : tie.Need-returns
 returns c =
-    let r = c .before .before .before .before in
+    let r = c .before .before .before .before .before in
     let n = r .before .before .before .before .before in
-    let d = n .before .before .before .before .before in
+    let d = n .before .before .before in
     let a = d .before .before .before .before .before .before .args in
     let x = d .find-in .result in
     let z = seenIn (a .image .now) (a .session .now) (a .i) in

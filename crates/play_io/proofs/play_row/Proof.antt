@@ -18,7 +18,9 @@ slice-relend-prefix-play-row : tie.Need-slice-relend-prefix-play-row
 slice-relend-prefix-play-row c = search needs
 
 slice-aggregate-play-row : tie.Need-slice-aggregate-play-row
-slice-aggregate-play-row c = sym (length-take-le (c .before .before .before .before .before .before .before .before .args .row .length) (c .before .before .before .before .before .before .before .before .args .buffer .now) (search needs))
+slice-aggregate-play-row c =
+    let a = c .before .before .before .before .before .before .before .before .before .before .args in
+    sym (length-take-le (a .row .length) (a .buffer .now) (search needs))
 
 play-row-requires : tie.Need-play-row-requires
 play-row-requires c κs = search needs
@@ -44,6 +46,9 @@ same-length c = search needs
 same-length-2 : tie.Need-same-length-2
 same-length-2 c = search needs
 
+same-length-3 : tie.Need-same-length-3
+same-length-3 c = search needs
+
 returns : tie.Need-returns
 returns c = search needs
 
@@ -64,4 +69,5 @@ play-row-spec =
     write-all-requires
     same-length
     same-length-2
+    same-length-3
     returns)

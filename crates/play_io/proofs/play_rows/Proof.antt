@@ -7,10 +7,10 @@ use Rattle.play_io.proofs.play_rows.Statement.{statement}
 use Rattle.play_io.proofs.play_rows.Tie as tie
 
 abbrev Inv-loop : tie.InvT-loop
-Inv-loop script bytes most image₀ given₀ buffer₀ desk₀ k₀ image given buffer desk k = (length image ≡ length image₀) × (length given ≡ length given₀) × (length buffer ≡ length buffer₀)
+Inv-loop engine script bytes most image₀ session₀ given₀ buffer₀ k₀ image session given buffer k = (length image ≡ length image₀) × (length session ≡ length session₀) × (length given ≡ length given₀) × (length buffer ≡ length buffer₀)
 
 abbrev μ-loop : tie.MeasureT-loop
-μ-loop script bytes most image₀ given₀ buffer₀ desk₀ k₀ image given buffer desk k = most - k
+μ-loop engine script bytes most image₀ session₀ given₀ buffer₀ k₀ image session given buffer k = most - k
 
 loop-holds : tie.Need-loop-holds Inv-loop μ-loop
 loop-holds c = search needs
@@ -36,6 +36,9 @@ same-length-2 c = search needs
 same-length-3 : tie.Need-same-length-3 Inv-loop μ-loop
 same-length-3 c = search needs
 
+same-length-4 : tie.Need-same-length-4 Inv-loop μ-loop
+same-length-4 c = search needs
+
 returns : tie.Need-returns Inv-loop μ-loop
 returns c = search needs
 
@@ -45,26 +48,11 @@ enum-known-n-2 c = search needs
 print-fault-requires : tie.Need-print-fault-requires Inv-loop μ-loop
 print-fault-requires c κs = search needs
 
-same-length-4 : tie.Need-same-length-4 Inv-loop μ-loop
-same-length-4 c = search needs
-
 same-length-5 : tie.Need-same-length-5 Inv-loop μ-loop
 same-length-5 c = search needs
 
 same-length-6 : tie.Need-same-length-6 Inv-loop μ-loop
 same-length-6 c = search needs
-
-returns-2 : tie.Need-returns-2 Inv-loop μ-loop
-returns-2 c = search needs
-
-add-k : tie.Need-add-k Inv-loop μ-loop
-add-k c = let f = c .before .before .before .before .before .before .before .before .before .before .before .before .before .before .before .before .before .before .before .before .fits in search needs
-
-loop-less : tie.Need-loop-less Inv-loop μ-loop
-loop-less c = search needs
-
-loop-again : tie.Need-loop-again Inv-loop μ-loop
-loop-again c = search needs
 
 same-length-7 : tie.Need-same-length-7 Inv-loop μ-loop
 same-length-7 c = search needs
@@ -72,8 +60,29 @@ same-length-7 c = search needs
 same-length-8 : tie.Need-same-length-8 Inv-loop μ-loop
 same-length-8 c = search needs
 
+returns-2 : tie.Need-returns-2 Inv-loop μ-loop
+returns-2 c = search needs
+
+add-k : tie.Need-add-k Inv-loop μ-loop
+add-k c = search needs
+
+loop-less : tie.Need-loop-less Inv-loop μ-loop
+loop-less c = search needs
+
+loop-again : tie.Need-loop-again Inv-loop μ-loop
+loop-again c = search needs
+
 same-length-9 : tie.Need-same-length-9 Inv-loop μ-loop
 same-length-9 c = search needs
+
+same-length-10 : tie.Need-same-length-10 Inv-loop μ-loop
+same-length-10 c = search needs
+
+same-length-11 : tie.Need-same-length-11 Inv-loop μ-loop
+same-length-11 c = search needs
+
+same-length-12 : tie.Need-same-length-12 Inv-loop μ-loop
+same-length-12 c = search needs
 
 returns-3 : tie.Need-returns-3 Inv-loop μ-loop
 returns-3 c = search needs
@@ -92,17 +101,20 @@ play-rows-spec =
     same-length
     same-length-2
     same-length-3
+    same-length-4
     returns
     enum-known-n-2
     print-fault-requires
-    same-length-4
     same-length-5
     same-length-6
+    same-length-7
+    same-length-8
     returns-2
     add-k
     loop-less
     loop-again
-    same-length-7
-    same-length-8
     same-length-9
+    same-length-10
+    same-length-11
+    same-length-12
     returns-3)

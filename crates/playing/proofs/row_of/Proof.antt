@@ -30,14 +30,14 @@ word-at-requires-4 c κs = search needs
 word-at-requires-5 : tie.Need-word-at-requires-5
 word-at-requires-5 c κs = search needs
 
-cast-by-code : tie.Need-cast-by-code
-cast-by-code c = search needs
+cast-granule : tie.Need-cast-granule
+cast-granule c = search needs
 
 by-code-requires : tie.Need-by-code-requires
 by-code-requires c κs = search needs
 
-enum-known-q : tie.Need-enum-known-q
-enum-known-q c = search needs
+enum-told : tie.Need-enum-told
+enum-told c = search needs
 
 word-at-requires-6 : tie.Need-word-at-requires-6
 word-at-requires-6 c κs = search needs
@@ -45,17 +45,18 @@ word-at-requires-6 c κs = search needs
 used-by-requires : tie.Need-used-by-requires
 used-by-requires c κs = search needs
 
-enum-told : tie.Need-enum-told
-enum-told c = search needs
+enum-told-2 : tie.Need-enum-told-2
+enum-told-2 c = search needs
 
 returns-3 : tie.Need-returns-3
 unfolding rowFor rowIn
 returns-3 c =
-    let k = c .before .before .before .before .before in
+    let k = c .before .before .before .before in
     let s = k .before .before .before .before in
     let e = k .before .before .before .word-at3 .ensures in
-    rw (c .used-by .ensures, c .before .word-at6 .ensures, k .before .before .word-at4 .ensures, e)
-    (by-asked (s .before .before .before .before .before .args .bytes .now) (s .before .before .before .if1 .left) (rw (s .before .before .word-at .ensures, s .before .word-at2 .ensures) at (s .if2 .left)) _ _ _ e (k .before .word-at5 .ensures) (sym (c .before .before .before .q .given .1) ∙ k .by-code .ensures))
+    let g = k .before .word-at5 .ensures in
+    rw (c .used-by .ensures, c .before .word-at6 .ensures, k .before .before .word-at4 .ensures, e, g)
+    (by-asked (s .before .before .before .before .before .args .bytes .now) (s .before .before .before .if1 .left) (rw (s .before .before .word-at .ensures, s .before .word-at2 .ensures) at (s .if2 .left)) _ _ _ e g (sym (c .before .before .enum-told .given .1) ∙ k .by-code .ensures))
 
 returns-4 : tie.Need-returns-4
 unfolding rowFor
@@ -64,7 +65,7 @@ returns-4 c =
     let s = k .before .before .before .before in
     let e = k .before .before .before .word-at3 .ensures in
     rw e
-    (by-asked (s .before .before .before .before .before .args .bytes .now) (s .before .before .before .if1 .left) (rw (s .before .before .word-at .ensures, s .before .word-at2 .ensures) at (s .if2 .left)) _ _ _ e (k .before .word-at5 .ensures) (sym (c .enum-told .given .1) ∙ k .by-code .ensures))
+    (by-asked (s .before .before .before .before .before .args .bytes .now) (s .before .before .before .if1 .left) (rw (s .before .before .word-at .ensures, s .before .word-at2 .ensures) at (s .if2 .left)) _ _ _ e (k .before .word-at5 .ensures) (sym (c .enum-told2 .given .1) ∙ k .by-code .ensures))
 
 pub row-of-spec : {M : Type 1} → statement M
 row-of-spec =
@@ -78,11 +79,11 @@ row-of-spec =
     word-at-requires-3
     word-at-requires-4
     word-at-requires-5
-    cast-by-code
+    cast-granule
     by-code-requires
-    enum-known-q
+    enum-told
     word-at-requires-6
     used-by-requires
-    enum-told
+    enum-told-2
     returns-3
     returns-4)

@@ -12,12 +12,6 @@ slice-aggregate-put-all c = search needs
 put-all-requires : tie.Need-put-all-requires
 put-all-requires c κs = search needs
 
-number-requires : tie.Need-number-requires
-number-requires c κs = search needs
-
-cast-put-number : tie.Need-cast-put-number
-cast-put-number c = search needs
-
 put-number-requires : tie.Need-put-number-requires
 put-number-requires c κs = search needs
 
@@ -26,16 +20,9 @@ same-length c = search needs
 
 returns : tie.Need-returns
 unfolding spelled spaced mountLine
-returns c = rw (← c .before .before .before .number .ensures) (then (c .before .before .before .before .before .before .before .put-all .ensures) (c .before .before .put-number .ensures))
+returns c = then (c .before .before .before .before .before .before .put-all .ensures) (c .before .before .put-number .ensures)
 
 pub write-mount-spec : {M : Type 1} → statement M
 write-mount-spec =
     tie.close
-    (tie.spec
-    slice-aggregate-put-all
-    put-all-requires
-    number-requires
-    cast-put-number
-    put-number-requires
-    same-length
-    returns)
+    (tie.spec slice-aggregate-put-all put-all-requires put-number-requires same-length returns)

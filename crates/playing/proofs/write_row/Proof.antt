@@ -10,9 +10,6 @@ use Rattle.playing.proofs.write_row.Tie as tie
 put-number-requires : tie.Need-put-number-requires
 put-number-requires c κs = search needs
 
-number-requires : tie.Need-number-requires
-number-requires c κs = search needs
-
 cast-put-number : tie.Need-cast-put-number
 cast-put-number c = search needs
 
@@ -22,8 +19,8 @@ put-number-requires-2 c κs = search needs
 put-number-requires-3 : tie.Need-put-number-requires-3
 put-number-requires-3 c κs = search needs
 
-put-spot-requires : tie.Need-put-spot-requires
-put-spot-requires c κs = search needs
+put-stand-requires : tie.Need-put-stand-requires
+put-stand-requires c κs = search needs
 
 same-length : tie.Need-same-length
 same-length c = search needs
@@ -32,18 +29,19 @@ returns : tie.Need-returns
 unfolding spaced rowLine
 returns c =
     let a = c .before .before .before .before .before .before .before .before .before .before .before .before .before .before .before .before .before .before .args in
-    rw (← c .before .before .before .before .before .before .before .before .before .before .before .number .ensures, before (decimal (a .sum)) (a .spot))
-    (word-then (decimal (a .n)) 32 (c .before .before .before .before .before .before .before .before .before .before .before .before .before .before .before .put-number .ensures) (word-then (decimal (c .before .before .before .before .before .before .before .before .before .before .before .number .result)) 32 (c .before .before .before .before .before .before .before .before .before .before .put-number2 .ensures) (word-then (decimal (a .sum)) 32 (c .before .before .before .before .before .before .put-number3 .ensures) (c .before .before .put-spot .ensures))))
+    rw (before (decimal (a .p .sum)) (a .p .standing) (a .p .position))
+    (word-then (decimal (a .n)) 32 (c .before .before .before .before .before .before .before .before .before .before .before .before .before .before .before .put-number .ensures)
+    (word-then (decimal (a .p .number)) 32 (c .before .before .before .before .before .before .before .before .before .before .put-number2 .ensures)
+    (word-then (decimal (a .p .sum)) 32 (c .before .before .before .before .before .before .put-number3 .ensures) (c .before .before .put-stand .ensures))))
 
 pub write-row-spec : {M : Type 1} → statement M
 write-row-spec =
     tie.close
     (tie.spec
     put-number-requires
-    number-requires
     cast-put-number
     put-number-requires-2
     put-number-requires-3
-    put-spot-requires
+    put-stand-requires
     same-length
     returns)

@@ -1,6 +1,6 @@
 -- A request that goes forward by a record has the two tests of the end behind its code, and any other has none.
 use mathlib.Core.Path.{_∙_, ap, sym}
-use Rattle.requests.specs.Judge.{testsBehind, behindCode}
+use Rattle.requests.specs.Judge.{tests, behindEleven, behindCode}
 use Rattle.requests.specs.declared.Request.{Request}
 use Rattle.requests.proofs.Behind.{other-request, other-order}
 use borrow.Author.Needs.{needs}
@@ -23,11 +23,11 @@ at-end-requires-2 : tie.Need-at-end-requires-2
 at-end-requires-2 c κs = search needs
 
 returns : tie.Need-returns
-unfolding behindCode testsBehind
+unfolding behindCode behindEleven tests
 returns c = rw (c .before .enum-told .given .1, c .at-end .ensures)
 
 returns-2 : tie.Need-returns-2
-unfolding behindCode testsBehind
+unfolding behindCode behindEleven tests
 returns-2 c = rw (c .before .before .before .before .q .given .1, c .before .enum-told2 .given .1, c .at-end2 .ensures)
 
 returns-3 : tie.Need-returns-3

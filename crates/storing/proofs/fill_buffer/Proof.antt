@@ -4,8 +4,7 @@ use Prim.Native.Nat.{ℕ, _+_, _-_}
 use native.Mathlib.Omega.{arith}
 use lib.ListN.{length, take, drop}
 use Rattle.geometry.specs.Bytes.{part, lay}
-use Rattle.geometry.proofs.Bytes.{length-part}
-use Rattle.storing.proofs.Laid.{lay-all}
+use Rattle.geometry.proofs.Bytes.{lay-all, length-part}
 use borrow.Author.Needs.{needs}
 use Rattle.storing.proofs.fill_buffer.Statement.{statement}
 use Rattle.storing.proofs.fill_buffer.Tie as tie

@@ -7,7 +7,7 @@ use borrow.Author.Tests.{not-true, not-false}
 use Rattle.geometry.specs.Lists.{every}
 use Rattle.directory.specs.Entries.{freeEntry}
 use Rattle.directory.specs.Grouped.{twoGood}
-use Rattle.storing.specs.Stored.{tableIn}
+use Rattle.storing.specs.Stored.{entryIn, tableIn}
 use Rattle.storing.proofs.Read.{length-table}
 use Rattle.storing.proofs.Lent.{two-told, before-on, before-off, before-end}
 use borrow.Author.Needs.{needs}
@@ -15,28 +15,25 @@ use Rattle.storing.proofs.lawful.apart_before.Statement.{statement}
 use Rattle.storing.proofs.lawful.apart_before.Tie as tie
 
 abbrev Inv-loop : tie.InvT-loop
-Inv-loop b end e at₀ at =
-    (every (λ f. twoGood f e) (take (end / 22) (tableIn b)) ≡ every (λ f. twoGood f e) (drop (at / 22) (take (end / 22) (tableIn b)))) × ((at % 22 ≡ 0) × (at ≤ end))
+Inv-loop b end at₀ at =
+    (every (λ f. twoGood f (entryIn b end)) (take (end / 22) (tableIn b)) ≡ every (λ f. twoGood f (entryIn b end)) (drop (at / 22) (take (end / 22) (tableIn b)))) × ((at % 22 ≡ 0) × (at ≤ end))
 
 abbrev μ-loop : tie.MeasureT-loop
-μ-loop b end e at₀ at = end - at
+μ-loop b end at₀ at = end - at
 
 loop-holds : tie.Need-loop-holds Inv-loop μ-loop
 loop-holds c = (refl, (refl, omega arith))
 
-entry-at-requires : tie.Need-entry-at-requires Inv-loop μ-loop
-entry-at-requires c κs = search needs
-
-two-good-requires : tie.Need-two-good-requires Inv-loop μ-loop
-two-good-requires c κs = search needs
+two-good-at-requires : tie.Need-two-good-at-requires Inv-loop μ-loop
+two-good-at-requires c κs = search needs
 
 returns : tie.Need-returns Inv-loop μ-loop
 returns c =
-    let l = c .before .before .before .before in
+    let l = c .before .before .before in
     let a = l .before .before .args in
     let j = l .loop .at / 22 in
     let n : length (tableIn (a .b .now)) ≡ 18 = length-table (a .b .now) in
-    let bad = two-told (a .b .now) j _ (omega arith) (omega arith) _ _ _ (c .before .before .entry-at .ensures) (c .before .two-good .ensures) ∙ not-true _ (c .if1 .taken) in
+    let bad = two-told (a .b .now) j _ (omega arith) (omega arith) _ _ (c .before .two-good-at .ensures) ∙ not-true _ (c .if1 .taken) in
     sym (l .loop .inv .0 ∙ before-off _ (tableIn (a .b .now)) (a .end / 22) j (omega arith) freeEntry (omega arith) bad)
 
 add-at : tie.Need-add-at Inv-loop μ-loop
@@ -47,11 +44,11 @@ loop-less c = search needs
 
 loop-again : tie.Need-loop-again Inv-loop μ-loop
 loop-again c =
-    let l = c .before .before .before .before in
+    let l = c .before .before .before in
     let a = l .before .before .args in
     let j = l .loop .at / 22 in
     let n : length (tableIn (a .b .now)) ≡ 18 = length-table (a .b .now) in
-    let ok = two-told (a .b .now) j _ (omega arith) (omega arith) _ _ _ (c .before .before .entry-at .ensures) (c .before .two-good .ensures) ∙ not-false _ (c .if1 .left) in
+    let ok = two-told (a .b .now) j _ (omega arith) (omega arith) _ _ (c .before .two-good-at .ensures) ∙ not-false _ (c .if1 .left) in
     let next : l .loop .at / 22 + 1 ≡ (l .loop .at + 22) / 22 = omega arith in
     (rw next at (l .loop .inv .0 ∙ before-on _ (tableIn (a .b .now)) (a .end / 22) j (omega arith) freeEntry (omega arith) ok), (omega arith, omega arith))
 
@@ -69,8 +66,7 @@ apart-before-spec =
     Inv-loop
     μ-loop
     loop-holds
-    entry-at-requires
-    two-good-requires
+    two-good-at-requires
     returns
     add-at
     loop-less

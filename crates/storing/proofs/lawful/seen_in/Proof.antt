@@ -15,16 +15,11 @@ file-in-requires c κs = search needs
 opened-in-requires : tie.Need-opened-in-requires
 opened-in-requires c κs = search needs
 
-slot-in-requires : tie.Need-slot-in-requires
-slot-in-requires c κs = search needs
-
 returns : tie.Need-returns
 returns c =
-    let d = c .before .before in
-    let a = d .before .before .before .args in
-    sym (seen-is (a .lawful) (bareIn (a .w) (a .b .now)) (a .i) (a .hold) _ _ _ _ (c .before .opened-in .ensures) (c .slot-in .ensures) (d .before .entry-in .ensures) (d .file-in .ensures))
+    let s = c .before .before .before .before in
+    let a = s .args in
+    sym (seen-is (a .lawful) (bareIn (a .w) (a .b .now)) (a .i) (a .hold) _ _ _ _ (c .opened-in .ensures) (s .pre .1) (c .before .before .entry-in .ensures) (c .before .file-in .ensures))
 
 pub seen-in-spec : {M : Type 1} → statement M
-seen-in-spec =
-    tie.close
-    (tie.spec entry-in-requires file-in-requires opened-in-requires slot-in-requires returns)
+seen-in-spec = tie.close (tie.spec entry-in-requires file-in-requires opened-in-requires returns)

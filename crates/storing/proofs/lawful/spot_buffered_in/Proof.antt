@@ -5,6 +5,7 @@ use native.Mathlib.Omega.{arith}
 use Rattle.sessions.specs.Session.{stand, spotOf, fileOf}
 use Rattle.sessions.specs.declared.Session.{Session}
 use Rattle.storing.specs.Stored.{heldFlags, isBufferedStored}
+use Rattle.storing.specs.Lent.{Spaced}
 use Rattle.storing.proofs.Read.{formed-size}
 use Rattle.storing.proofs.Lent.{bare-is, bare-none, none-stands}
 use borrow.Author.Needs.{needs}
@@ -17,10 +18,16 @@ is-buffered-requires c κs = search needs
 there : (c : tie.Then1) → isBufferedStored (c .before .before .before .args .b .now) ≡ true
 there c = sym (c .before .is-buffered .ensures) ∙ c .if1 .taken
 
-file-in-requires : tie.Need-file-in-requires
-file-in-requires c κs =
+spaced : (c : tie.Then1) → Spaced 396 (c .before .before .before .args .b .now)
+spaced c =
     let s = formed-size heldFlags 396 1980 (c .before .before .before .args .b .now) (there c) in
     (omega arith, omega arith, omega (arith, s))
+
+slot-in-requires : tie.Need-slot-in-requires
+slot-in-requires c κs = spaced c
+
+file-in-requires : tie.Need-file-in-requires
+file-in-requires c κs = (spaced (c .before), c .slot-in .ensures)
 
 stand-requires : tie.Need-stand-requires
 stand-requires c κs = search needs
@@ -28,7 +35,7 @@ stand-requires c κs = search needs
 returns : tie.Need-returns
 unfolding spotOf
 returns c =
-    let d = c .before .before in
+    let d = c .before .before .before in
     let a = d .before .before .before .args in
     c .stand .ensures ∙ ap stand (c .before .file-in .ensures ∙ ap (λ (s : Session). fileOf (s .files) (a .i)) (sym (bare-is (a .b .now) (there d))))
 
@@ -39,4 +46,4 @@ returns-2 c =
 
 pub spot-buffered-in-spec : {M : Type 1} → statement M
 spot-buffered-in-spec =
-    tie.close (tie.spec is-buffered-requires file-in-requires stand-requires returns returns-2)
+    tie.close (tie.spec is-buffered-requires slot-in-requires file-in-requires stand-requires returns returns-2)

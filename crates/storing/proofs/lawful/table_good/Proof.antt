@@ -94,12 +94,11 @@ apart-before-requires c κs = search needs
 
 returns-4 : tie.Need-returns-4 Inv-loop μ-loop
 returns-4 c =
-    let e = c .before .before .before .before in
-    let l = e .before .before .before .before .before .before .before in
+    let l = c .before .before .before .before .before .before .before .before .before .before .before in
     let a = l .before .before .args in
     let i = l .loop .at / 22 in
     let n : length (tableIn (a .b .now)) ≡ 18 = length-table (a .b .now) in
-    let bad = all-told (a .b .now) i (l .loop .at) (omega arith) (omega arith) _ _ (e .entry-at .ensures) (c .before .apart-before .ensures) ∙ not-true _ (c .if5 .taken) in
+    let bad = all-told (a .b .now) i (l .loop .at) (omega arith) (omega arith) _ (c .before .apart-before .ensures) ∙ not-true _ (c .if5 .taken) in
     sym (grouped (a .n) (tableIn (a .b .now)) ∙ front-some (entryGood (a .n)) twoGood (tableIn (a .b .now)) i freeEntry (omega arith) bad)
 
 add-at : tie.Need-add-at Inv-loop μ-loop
@@ -123,7 +122,7 @@ loop-again c =
     let on = front-on (entryGood (a .n)) twoGood (tableIn b) i freeEntry h i refl (l .loop .inv .0) in (
       rw next at (⊎-elim
           (λ w. on (free-told b i (l .loop .at) m q (a .n) _ _ (d .word-at .ensures) (w .0 .taken) (w .1 .ensures) ∙ not-false _ (w .2 .left)) (free-apart _ (free-kind b i (l .loop .at) m q _ (d .word-at .ensures) (w .0 .taken)) (take i (tableIn b))))
-          (λ w. on (used-told b i (l .loop .at) m q (a .n) _ (d .word-at .ensures) (w .0 .left) _ (w .2 .ensures) (not-false _ (w .3 .left)) _ _ (w .4 .ensures) (w .5 .ensures) ∙ not-false _ (w .6 .left)) (all-told b i (l .loop .at) m q _ _ (w .4 .ensures) (w .7 .ensures) ∙ not-false _ (w .8 .left)))
+          (λ w. on (used-told b i (l .loop .at) m q (a .n) _ (d .word-at .ensures) (w .0 .left) _ (w .2 .ensures) (not-false _ (w .3 .left)) _ _ (w .4 .ensures) (w .5 .ensures) ∙ not-false _ (w .6 .left)) (all-told b i (l .loop .at) m q _ (w .7 .ensures) ∙ not-false _ (w .8 .left)))
           (c .if1 .came)),
       (omega arith, omega arith),
     )
