@@ -200,7 +200,8 @@ pub fn is_protected(e: Entry) -> bool
 
 // ---- the rules of one entry
 
-// Whether c is a capital letter: a set of the bytes from C0 on has it, one bit for each.
+// Whether c is a capital letter: a set of the bytes from C0 on has it, one bit for each. Bits 1 to 9 stand for C1 to C9, which are A to I,
+// bits 17 to 25 for D1 to D9, J to R, and bits 34 to 41 for E2 to E9, S to Z.
 fn is_capital(c: u8) -> bool
     ensures { λ r. ⌜ r ≡ capital c ⌝ }
 {
@@ -210,7 +211,7 @@ fn is_capital(c: u8) -> bool
     (0x000003FC03FE03FEu64 >> (c % 64)) % 2 == 1
 }
 
-// Whether c is a capital letter or a digit, by another such set.
+// Whether c is a capital letter or a digit: in this set bits 48 to 57 stand for F0 to F9, the digits.
 fn is_capital_or_digit(c: u8) -> bool
     ensures { λ r. ⌜ r ≡ (capital c || digit c) ⌝ }
 {
