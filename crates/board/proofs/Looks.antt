@@ -20,7 +20,7 @@ use Rattle.requests.specs.declared.Answer.{Answer}
 use Rattle.requests.specs.declared.Answer.the-variants.{Done, Met, Refused}
 use Rattle.steps.specs.Look.{shown, plainLook, bufferedLook}
 use Rattle.storing.specs.Stored.{sessionIn, bufferedIn}
-use Rattle.judging.proofs.Turns.{done-is}
+use Rattle.requests.proofs.Numbers.{done-is}
 use Rattle.board.specs.Board.{Engine, plainEngine, bufferedEngine, lookSize, lookPlace}
 
 module _ (R g : ℕ) where

@@ -1,17 +1,11 @@
 -- Parts of lists, as loops and lent parts leave them: each is a law of the library, put as the code asks for it.
-use mathlib.Core.Path.{_≡_, _∙_}
-use mathlib.Core.List.{List, [], _∷_, _++_}
-use Prim.Native.Nat.{ℕ, suc, _+_, _-_, _<_}
-use native.Mathlib.Nat.{add-zero, add-suc, suc-add}
+use mathlib.Core.Path.{_≡_}
+use mathlib.Core.List.{List}
+use Prim.Native.Nat.{ℕ, _+_, _-_, _<_}
 use native.Mathlib.Numerals.{add-one}
 use native.Mathlib.Omega.{arith}
 use lib.ListN.{length, drop, getD, set, length-drop}
-use lib.Seq.{sets, getD-drop, paste, paste-suc}
-
--- two lists stored one behind the other
-pub sets-append : (xs ys l : List ℕ) (i : ℕ) → sets l i (xs ++ ys) ≡ sets (sets l i xs) (i + length xs) ys
-sets-append [] ys l i = rw add-zero
-sets-append (x ∷ xs) ys l i = sets-append xs ys (set l i x) (suc i) ∙ rw (suc-add, add-suc)
+use lib.Seq.{getD-drop, paste, paste-suc}
 
 -- characters of s from `at` on, copied over those of d from `to` on, one more
 pub paste-more : (d s l : List ℕ) (to at k : ℕ) → to + k < length d → at + k < length s → l ≡ paste d to (drop at s) k

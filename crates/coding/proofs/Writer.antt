@@ -14,7 +14,7 @@ use lib.Dec.{eqb}
 use borrow.Author.Tests.{ne-eqb}
 use Rattle.geometry.specs.Sizes.{blank}
 use Rattle.coding.specs.Encode.{keeps, inGap, gapAt, runLength, runCode, runsCode}
-use Rattle.coding.proofs.Parts.{sets-append}
+use Rattle.geometry.proofs.Bytes.{sets-append}
 use Rattle.coding.proofs.Runs.{same-self, same-not, run-le, gap-blank, gap-first, keeps-le, keeps-front}
 
 -- ---- at the place i of x

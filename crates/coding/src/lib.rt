@@ -2,6 +2,7 @@
 use geometry::Geometry;
 use geometry::byte_at;
 use geometry::fill;
+use geometry::least;
 use geometry::put;
 ghost use mathlib.Core.Path.{_≡_};
 ghost use mathlib.Core.Bool.{true, false};
@@ -149,13 +150,6 @@ fn gap_length(x: &[u8], i: usize) -> usize
         n += 1;
     }
     n
-}
-
-// The lesser of two numbers.
-fn least(a: usize, b: usize) -> usize
-    ensures { λ r. ⌜ r ≡ min a b ⌝ }
-{
-    if a <= b { a } else { b }
 }
 
 // Puts the run of characters that begins at the place i of x, up to 127, at the place at of out and behind it, as far as there are such places.

@@ -5,42 +5,11 @@ use mathlib.Core.List.{List, [], _∷_, _++_}
 use Prim.Native.Nat.{ℕ}
 use lib.ListN.{length, getD}
 use Rattle.geometry.specs.Bytes.{lay}
-use Rattle.requests.specs.Numbers.{numberOf}
+use Rattle.requests.proofs.Numbers.{same-number}
 use Rattle.mounting.specs.Mounting.{mounts}
 use Rattle.tapes.specs.Model.{Model, Asked, Report, modelAt, modelsOf, modelInto, modelAnswer, modelStep, modelReport, modelReports, modelRun, ifDone}
 use Rattle.demands.specs.Engine.{Engine, Standing, answered, stepOf, reportOf, reports, run, mounted}
 use Rattle.demands.specs.Demand2.{Faithful}
-use Rattle.requests.specs.declared.Answer.{Answer}
-use Rattle.requests.specs.declared.Answer.the-variants.{Done, Met, Refused}
-use Rattle.requests.specs.declared.Edge.the-variants.{EndOfFile, BeginningOfTape}
-use Rattle.requests.specs.declared.Refusal.the-variants.{NoRoom, Protected, OddCount, BadSize, WrongSequence, NotThere, AlreadyOpen, FifthFile, BadImage, NotLegal}
-
--- ---- no two answers have one number
-
-answerOf : ℕ → Answer
-answerOf n =
-    getD (Done ∷ Met EndOfFile ∷ Met BeginningOfTape ∷ Refused NoRoom ∷ Refused Protected ∷ Refused OddCount ∷ Refused BadSize ∷ Refused WrongSequence
-    ∷ Refused NotThere ∷ Refused AlreadyOpen ∷ Refused FifthFile ∷ Refused BadImage ∷ Refused NotLegal ∷ []) n Done
-
-of-number : (a : Answer) → answerOf (numberOf a) ≡ a
-unfolding answerOf
-of-number Done = refl
-of-number (Met EndOfFile) = refl
-of-number (Met BeginningOfTape) = refl
-of-number (Refused NoRoom) = refl
-of-number (Refused Protected) = refl
-of-number (Refused OddCount) = refl
-of-number (Refused BadSize) = refl
-of-number (Refused WrongSequence) = refl
-of-number (Refused NotThere) = refl
-of-number (Refused AlreadyOpen) = refl
-of-number (Refused FifthFile) = refl
-of-number (Refused BadImage) = refl
-of-number (Refused NotLegal) = refl
-
-pub number-done : (a : Answer) → numberOf a ≡ 0 → a ≡ Done
-unfolding answerOf
-number-done a h = sym (of-number a) ∙ ap answerOf h
 
 -- ---- the last report of a run
 
@@ -71,7 +40,7 @@ module _ (E : Engine) (faithful : Faithful E) (image : List ℕ) (ok : mounts im
 
   pub same-answer : answered E (run E (mounted E image) asked) a .answer ≡ modelAnswer ms a
   unfolding reportOf modelReport
-  same-answer = sym (of-number _) ∙ ap (λ (r : Report). answerOf (r .number)) same-report ∙ of-number _
+  same-answer = same-number _ _ (ap (λ (r : Report). r .number) same-report)
 
   pub same-buffer : answered E (run E (mounted E image) asked) a .buffer ≡ lay (a .buffer) 0 (ifDone (modelAnswer ms a) (modelInto (a .request) (modelAt ms (a .entry))))
   unfolding reportOf modelReport

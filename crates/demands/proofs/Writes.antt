@@ -35,7 +35,7 @@ use Rattle.tapes.specs.Model.{Asked}
 use Rattle.demands.specs.Engine.{Engine, plainEngine, bufferedEngine, Standing, answered, stepOf, reportOf, reports, run}
 use Rattle.demands.specs.Demand2.{writing}
 use Rattle.demands.specs.Writes.{plainWrites, backWrites, takeWrites, bufferedWrites, effectsOf, plainSum, bufferedSum, benchOf, plainCount, bufferedCount, inRun, allDone, records, closing, Counted, BlockedAt, Saving}
-use Rattle.demands.proofs.Answers.{number-done}
+use Rattle.requests.proofs.Numbers.{done-is}
 use Rattle.demands.proofs.Buffering.{allowed, left-is}
 use Rattle.directory.specs.declared.Entry.{Entry}
 use Rattle.requests.specs.declared.Answer.{Answer}
@@ -129,7 +129,7 @@ module _ (E : Engine) where
       → (answered E w a .answer ≡ Done) × (allDone E (stepOf E w a) rest ≡ true)
   unfolding allDone reports reportOf every
   all-first w a rest h = (
-    number-done (answered E w a .answer) (eqb-true (numberOf (answered E w a .answer)) 0 (and-left (eqb (numberOf (answered E w a .answer)) 0) _ h)),
+    done-is (answered E w a .answer) (eqb-true (numberOf (answered E w a .answer)) 0 (and-left (eqb (numberOf (answered E w a .answer)) 0) _ h)),
     and-right (eqb (numberOf (answered E w a .answer)) 0) _ h,
   )
 

@@ -1,13 +1,13 @@
 -- The rules of a directory are those of each entry and those of every two: a rule of both sorts holds where each of its parts does.
 use mathlib.Core.Path.{_≡_, refl, sym, _∙_}
-use mathlib.Core.Bool.{Bool, true, false, _&&_, _||_, not, and-true, and-false, or-true, true≢false}
+use mathlib.Core.Bool.{Bool, true, false, _&&_, _||_, not, and-true, and-false, or-true}
 use mathlib.Core.List.{List, [], _∷_}
 use Prim.Native.Nat.{ℕ, _+_, _≤_, _<_}
 use lib.Dec.{leb}
 use lib.ListN.{getD}
 use borrow.Author.Tests.{le-leb, lt-leb, eq-eqb, ne-eqb}
 use Rattle.geometry.specs.Lists.{all, every, pairwise, same}
-use Rattle.geometry.proofs.Tests.{or-either, denied, all-getD, every-and, pairwise-and}
+use Rattle.geometry.proofs.Tests.{or-either, denied, all-getD, every-and, pairwise-and, neither-left, neither-right}
 use Rattle.directory.specs.Entries.{isFree}
 use Rattle.directory.specs.Rules.{kindKnown, freeIsZero, isName, nameGood, namesDiffer, extentFits, extentInside, extentsApart, flagsKnown, lengthFits, lengthGood, countGood, randomBare, tableRules, tableGood}
 use Rattle.directory.specs.Grouped.{entryGood, usedGood, twoGood}
@@ -79,15 +79,6 @@ module _ (N : ℕ) (e : Entry) where
   unfolding usedGood
   used-kept k x f l c = rw (k, x, f, l, c)
 
--- neither of two tests holds
-or-left : (a b : Bool) → (a || b) ≡ false → a ≡ false
-or-left true b h = h
-or-left false b h = refl
-
-or-right : (a b : Bool) → (a || b) ≡ false → b ≡ false
-or-right true b h = absurd (true≢false h)
-or-right false b h = h
-
 -- two entries of which one is free, and two used ones, the extents first
 module _ (a b : Entry) where
   abbrev apart : Bool
@@ -103,7 +94,7 @@ module _ (a b : Entry) where
   module _ (used : (isFree a || isFree b) ≡ false) where
     two-used : twoGood a b ≡ (differ && apart)
     unfolding twoGood namesDiffer extentsApart
-    two-used = rw (or-left (isFree a) (isFree b) used, or-right (isFree a) (isFree b) used)
+    two-used = rw (neither-left (isFree a) (isFree b) used, neither-right (isFree a) (isFree b) used)
 
     two-apart : apart ≡ true → twoGood a b ≡ differ
     two-apart h = two-used ∙ rw (h, and-true differ)

@@ -2,11 +2,12 @@
 use mathlib.Core.Path.{_≡_, refl, sym, ap, _∙_}
 use mathlib.Core.List.{List, [], _∷_, _++_, append-assoc, append-nil}
 use Prim.Native.Nat.{ℕ, suc, _+_, _-_, _*_, _/_, _%_, _≤_, _<_, min, max}
+use native.Mathlib.Nat.{add-zero, add-suc, suc-add}
 use native.Mathlib.Omega.{arith}
 use native.Mathlib.Decide.{decLt, decLe}
 use borrow.Author.Tests.{le-leb, lt-leb}
 use lib.ListN.{length, take, drop, getD, set, replicate, length-append, length-take, length-drop, length-replicate, getD-replicate, List·getD-append}
-use lib.Seq.{getD-take, getD-drop, getD-append-add, length-take-le, ext-getD, take-all, take-add, drop-cons, drop-drop, paste, paste-suc}
+use lib.Seq.{getD-take, getD-drop, getD-append-add, length-take-le, ext-getD, take-all, take-add, drop-cons, drop-drop, paste, paste-suc, sets}
 use Rattle.geometry.specs.Bytes.{part, lay, wordAt, word, padded}
 
 -- ---- ranges of places, and a place among them
@@ -483,3 +484,8 @@ word-wordAt img at h l =
     let hi : (256 * getD img at 0 + getD img (at + 1) 0) / 256 ≡ getD img at 0 = omega arith in
     let lo : (256 * getD img at 0 + getD img (at + 1) 0) % 256 ≡ getD img (at + 1) 0 = omega arith in
     rw (hi, lo, d)
+
+-- two lists stored one behind the other
+pub sets-append : (xs ys l : List ℕ) (i : ℕ) → sets l i (xs ++ ys) ≡ sets (sets l i xs) (i + length xs) ys
+sets-append [] ys l i = rw add-zero
+sets-append (x ∷ xs) ys l i = sets-append xs ys (set l i x) (suc i) ∙ rw (suc-add, add-suc)

@@ -46,6 +46,15 @@ pub or-either : {P : Type 0} (a b : Bool) → a || b ≡ true → (a ≡ true �
 or-either true b h f g = f refl
 or-either false b h f g = g h
 
+-- of two tests neither holds
+pub neither-left : (a b : Bool) → a || b ≡ false → a ≡ false
+neither-left true b h = h
+neither-left false b h = refl
+
+pub neither-right : (a b : Bool) → a || b ≡ false → b ≡ false
+neither-right true b h = absurd (true≢false h)
+neither-right false b h = h
+
 -- what would follow from a test does not hold, so neither does the test
 pub denied : (a b : Bool) → (a ≡ true → b ≡ true) → b ≡ false → a ≡ false
 denied true b f h = sym (f refl) ∙ h

@@ -6,7 +6,7 @@ use mathlib.Core.List.{List, []}
 use Prim.Native.Nat.{ℕ, _+_, _<_}
 use lib.Dec.{ltb}
 use lib.ListN.{length}
-use borrow.Author.Tests.{lt-ltb, ltb-true, eqb-false, eq-eqb, ne-eqb}
+use borrow.Author.Tests.{lt-ltb, ltb-true, eq-eqb, ne-eqb}
 use Rattle.geometry.specs.Bytes.{lay}
 use Rattle.geometry.specs.Places.{origin}
 use Rattle.geometry.specs.Sizes.{compressed}
@@ -30,14 +30,13 @@ use Rattle.directory.specs.declared.Entry.{Entry}
 use Rattle.packing.specs.declared.Led.{Led}
 use Rattle.packing.specs.declared.Led.the-variants.{To, Lost}
 use Rattle.requests.specs.declared.Facts.{Facts}
-use Rattle.requests.specs.declared.Edge.the-variants.{EndOfFile, BeginningOfTape}
-use Rattle.requests.specs.declared.Refusal.the-variants.{NoRoom, Protected, OddCount, BadSize, WrongSequence, NotThere, AlreadyOpen, FifthFile, BadImage, NotLegal}
 use Rattle.requests.specs.declared.Order.the-variants.{WriteMark, RewindOnline, RewindOffline, RecordForward, RecordBack, FileForward, FileBack}
 use Rattle.requests.specs.declared.Request.{Request}
 use Rattle.requests.specs.declared.Request.the-variants.{Open, Read, Write, GranuleRead, GranuleWrite, GranuleLook, Position}
 use Rattle.requests.specs.declared.Answer.{Answer}
 use Rattle.requests.specs.declared.Answer.the-variants.{Done, Met, Refused}
 use Rattle.sessions.specs.declared.OpenFile.{OpenFile}
+use Rattle.requests.proofs.Numbers.{done-is}
 
 -- ---- the count records: lost exactly where one is bad; else to the end place
 
@@ -165,22 +164,6 @@ unfolding bufferNext
 buffer-kept Done q c old h = absurd (h refl)
 buffer-kept (Met x) q c old h = refl
 buffer-kept (Refused x) q c old h = refl
-
--- the number 0 is "done", the number 11 a bad code
-pub done-is : (a : Answer) → numberOf a ≡ 0 → a ≡ Done
-done-is Done h = refl
-done-is (Met EndOfFile) h = absurd (eqb-false 1 0 refl h)
-done-is (Met BeginningOfTape) h = absurd (eqb-false 2 0 refl h)
-done-is (Refused NoRoom) h = absurd (eqb-false 3 0 refl h)
-done-is (Refused Protected) h = absurd (eqb-false 4 0 refl h)
-done-is (Refused OddCount) h = absurd (eqb-false 5 0 refl h)
-done-is (Refused BadSize) h = absurd (eqb-false 6 0 refl h)
-done-is (Refused WrongSequence) h = absurd (eqb-false 7 0 refl h)
-done-is (Refused NotThere) h = absurd (eqb-false 8 0 refl h)
-done-is (Refused AlreadyOpen) h = absurd (eqb-false 9 0 refl h)
-done-is (Refused FifthFile) h = absurd (eqb-false 10 0 refl h)
-done-is (Refused BadImage) h = absurd (eqb-false 11 0 refl h)
-done-is (Refused NotLegal) h = absurd (eqb-false 12 0 refl h)
 
 -- bytes move in a read and a granule read alone
 unmoved : (a : Answer) (q : Request) (c : Scene) (old : List ℕ) → intoBuffer q c ≡ [] → old ≡ bufferNext a q c old

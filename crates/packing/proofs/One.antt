@@ -1,7 +1,7 @@
 -- One record: its code starts before byte 360 of a sector of the extent and has at least a byte, so the place behind it is further on in the
 -- same sector; and the decoder looks at no byte behind the code, so the record is read the same where the bytes up to there are the same.
 use mathlib.Core.Path.{_≡_, refl, sym, ap, _∙_}
-use mathlib.Core.Bool.{Bool, true, false, _||_}
+use mathlib.Core.Bool.{Bool, true, false}
 use mathlib.Core.List.{List}
 use Prim.Native.Nat.{ℕ, _+_, _-_, _≤_, _<_, min}
 use native.Mathlib.Omega.{arith}
@@ -17,6 +17,7 @@ use Rattle.geometry.proofs.Bytes.{length-part-min, same-parts}
 use Rattle.coding.specs.Decode.{Decoded, good, bad, decode}
 use Rattle.coding.proofs.Known.{decode-good, decode-upto}
 use Rattle.packing.specs.Reading.{nextSector, further, goesOn, startOf, Recorded, got, lost, gotFrom, extentEnd, readAt, readBehind}
+use Rattle.geometry.proofs.Tests.{neither-left}
 
 -- a place in an extent of so many sectors, at byte 0 to 360
 abbrev pub Within : ℕ → Place → Type 0
@@ -46,11 +47,7 @@ stays-here bytes p g = rw (g, startOf)
 -- byte 360 goes on
 pub here-before : (bytes : List ℕ) (p : Place) → goesOn bytes p ≡ false → p .byte < sector
 unfolding goesOn
-here-before bytes p g = leb-false sector (p .byte) (or-left (leb sector (p .byte)) _ g)
-  where
-    or-left : (a b : Bool) → (a || b) ≡ false → a ≡ false
-    or-left true b e = e
-    or-left false b e = refl
+here-before bytes p g = leb-false sector (p .byte) (neither-left (leb sector (p .byte)) _ g)
 
 -- a record starts before byte 360, not before the place that it is read from
 pub record Started (p q : Place) : Type 0 where

@@ -1,5 +1,5 @@
 -- What an answer tells of the facts: where the tests are passed one after another, each leaves its negation; where one gives 1 or 2, it holds.
-use mathlib.Core.Path.{_≡_, refl, sym, subst}
+use mathlib.Core.Path.{_≡_, refl, subst}
 use mathlib.Core.Logic.{_≢_}
 use mathlib.Core.Bool.{Bool, true, false, _||_, _&&_, not, false≢true}
 use mathlib.Core.List.{List, [], _∷_}
@@ -9,7 +9,7 @@ use lib.Dec.{eqb, leb, ltb}
 use borrow.Author.Tests.{ltb-false, leb-false, leb-true, eqb-false, eqb-true, not-true, not-false}
 use Rattle.geometry.specs.Sizes.{free, compressed, random, mostOpen, mostRecords, sector}
 use Rattle.geometry.specs.Places.{capacity}
-use Rattle.geometry.proofs.Tests.{and-left, and-right}
+use Rattle.geometry.proofs.Tests.{and-left, and-right, neither-left, neither-right}
 use Rattle.packing.specs.Placing.{hasRoom}
 use Rattle.requests.specs.Judge.{whether, orElse, Stage, Test, refusedIf, notLegal, noEntry, notOpen, notSequential, oddCount, badSize, badCode, noGranule, meetsMark, atEnd, backOverMark, atStart, backToStart, tests, firstOf, judge, isFull}
 use Rattle.requests.specs.declared.Facts.{Facts}
@@ -158,14 +158,6 @@ Tells q f (Refused x) = Unit {0}
 
 -- ---- one test after another
 
-or-none-first : (a b : Bool) → a || b ≡ false → a ≡ false
-or-none-first true b e = e
-or-none-first false b e = refl
-
-or-none-second : (a b : Bool) → a || b ≡ false → b ≡ false
-or-none-second true b e = absurd (false≢true (sym e))
-or-none-second false b e = e
-
 and-none-second : (a b : Bool) → a ≡ true → a && b ≡ false → b ≡ false
 and-none-second true b k e = e
 and-none-second false b k e = absurd (false≢true k)
@@ -209,7 +201,7 @@ module _ (q : Request) (f : Facts) where
   sized ts k =
       past _ _ _ _ λ (a : eqb (f .given % 2) 1 ≡ false). past _ _ _ _ λ (b : eqb (f .given) 0 || ltb (f .length) (f .given) ≡ false).
       let n : f .given % 2 ≢ 1 = eqb-false _ _ a in
-      k (omega arith, positive (f .given) (or-none-first _ _ b), ltb-false _ _ (or-none-second (eqb (f .given) 0) _ b))
+      k (omega arith, positive (f .given) (neither-left _ _ b), ltb-false _ _ (neither-right (eqb (f .given) 0) _ b))
 
   -- the tests of a record that is read
   advancing : Running f → (MeetsMark f → Tells q f (Met EndOfFile)) → (Advances f → Tells q f Done)
@@ -244,8 +236,8 @@ judge-tells Write f =
       some = z .1;
       short = z .2;
       coded = λ (k : eqb (f .kind) compressed ≡ true). ltb-false _ _ (and-none-second _ _ k c);
-      below = leb-false _ _ (or-none-first _ _ n);
-      room = or-none-second (leb mostRecords (f .position)) _ n;
+      below = leb-false _ _ (neither-left _ _ n);
+      room = neither-right (leb mostRecords (f .position)) _ n;
     })
 judge-tells (GranuleRead g) f =
     live (GranuleRead g) f _ λ l. past (GranuleRead g) f _ _ _ _ λ (k : not (eqb (f .kind) random) ≡ false).
@@ -264,8 +256,8 @@ judge-tells (Position RecordForward) f =
     running (Position RecordForward) f _ λ r. past (Position RecordForward) f _ _ _ _ λ b. advancing (Position RecordForward) f r skipsMark (λ a. a) b
 judge-tells (Position RecordBack) f =
     live (Position RecordBack) f _ λ l. past (Position RecordBack) f _ _ _ _ λ (k : eqb (f .kind) random || eqb (f .kind) compressed ≡ false).
-    let r : Running f = record { live = l; sequential = or-none-first _ _ k } in
-    let n : eqb (f .kind) compressed ≡ false = or-none-second (eqb (f .kind) random) _ k in
+    let r : Running f = record { live = l; sequential = neither-left _ _ k } in
+    let n : eqb (f .kind) compressed ≡ false = neither-right (eqb (f .kind) random) _ k in
     passing (Tells (Position RecordBack) f) backOverMark (atStart ∷ []) f (λ b. backOver (record { running = r; fixed = n; past = b }))
     λ b. passing (Tells (Position RecordBack) f) atStart [] f (λ (z : eqb (f .position) 0 ≡ true). backAtStart (record { running = r; fixed = n; before = b; first = eqb-true _ _ z }))
     λ (z : eqb (f .position) 0 ≡ false). last (Position RecordBack) f (record { running = r; fixed = n; before = b; started = positive (f .position) z })

@@ -5,3 +5,4 @@ pub mod InTurn
 pub mod First
 pub mod Behind
 pub mod Codes
+pub mod Numbers

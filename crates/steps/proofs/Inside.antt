@@ -11,7 +11,7 @@ use borrow.Author.Tests.{eqb-true, eqb-false, ne-eqb, lt-ltb, ltb-true, leb-fals
 use Rattle.geometry.specs.Bytes.{padded, word}
 use Rattle.geometry.specs.Sizes.{sector, blocked, compressed, random, mostSectors, sectorsOf}
 use Rattle.geometry.specs.Places.{sectorsFor, capacity, placeOf, byteOf}
-use Rattle.geometry.proofs.Tests.{either}
+use Rattle.geometry.proofs.Tests.{either, neither-left}
 use Rattle.geometry.proofs.Places.{lawful-most, sector-below, byte-blocked, spanOf, span-inside, span-whole, span-holds}
 use Rattle.geometry.proofs.Bytes.{length-padded}
 use Rattle.directory.specs.Entries.{entryAt, isFree, isKind, isMarked}
@@ -127,10 +127,6 @@ suit-inside e (x ∷ xs) h = and (suits-inside e x (h .0)) (suit-inside e xs (h 
 
 -- ---- the requests
 
-or-first : (a b : Bool) → a || b ≡ false → a ≡ false
-or-first true b h = h
-or-first false b h = refl
-
 small : (e : Entry) (f : OpenFile) → Lawful e f → e .kind ≡ blocked → e .length ≤ sector
 unfolding longest
 small e f l k =
@@ -196,7 +192,7 @@ module _ (files buffer : ℕ) (c : Scene) (l : Lawful (c .entry) (c .file)) wher
   store-suits : (k : ℕ) → buffers e ≡ false → length (c .given) ≤ e .length → k < capacity (e .kind) (e .length) (e .sectors) → Suits e (storeEffect c k)
   unfolding storeEffect
   store-suits k b h r =
-      let n : ¬ (e .kind ≡ blocked) = not-blocked (or-first (isKind blocked e) (isKind compressed e) b) in
+      let n : ¬ (e .kind ≡ blocked) = not-blocked (neither-left (isKind blocked e) (isKind compressed e) b) in
       let s : byteOf (placeOf (e .kind) (e .length) k) + spanOf (e .kind) (e .length) k ≤ sector * e .sectors =
       span-inside (e .kind) (e .length) pos (λ q. absurd (n q)) k (e .sectors) r in
       let w : spanOf (e .kind) (e .length) k ≡ sector * sectorsFor (e .length) = span-whole (e .kind) (e .length) k n in
