@@ -12,9 +12,10 @@ use lib.Seq.{take-at, drop-at, take-add, drop-drop, getD-drop, paste, length-pas
 use Rattle.geometry.specs.Sizes.{blank}
 use Rattle.geometry.specs.Bytes.{lay}
 use Rattle.coding.specs.declared.Coded.{Coded}
-use Rattle.coding.specs.Decode.{Decoded, good, bad, before, decodeFrom, run, decode, answer, given, isGood, Awaited, filled}
+use Rattle.coding.specs.Decode.{Decoded, good, bad, before, decodeFrom, decode, answer, given, isGood, Awaited, filled}
 use Rattle.geometry.proofs.Bytes.{lay-all, length-lay}
-use Rattle.coding.proofs.Reader.{at-end, at-stop, at-goOn, at-characters, at-full, at-blanks, run-short, run-full, run-on, answer-good, answer-bad}
+use Rattle.coding.proofs.Reader.{at-end, at-stop, at-goOn, at-short, at-over, at-run, at-full, at-blanks, answer-good, answer-bad}
+use Rattle.coding.proofs.Known.{decode-all}
 
 -- ---- good codes
 
@@ -30,33 +31,33 @@ good-before xs (bad k) g = absurd (true≢false (sym g))
 
 -- what a good code asks for is there
 module _ (room at : ℕ) (s : List ℕ) where
-  good-some : isGood (decodeFrom 0 room at s) ≡ true → 0 < length s
+  good-some : isGood (decodeFrom room at s) ≡ true → 0 < length s
   good-some g = go (decLt 0 (length s))
     where
       go : Dec (0 < length s) → 0 < length s
       go (yes h) = h
       go (no h) = absurd (not-bad _ at g (at-end room at s (omega arith)))
 
-  good-blanks : isGood (decodeFrom 0 room at s) ≡ true → 128 < getD s 0 0 → getD s 0 0 - 128 ≤ room
+  good-blanks : isGood (decodeFrom room at s) ≡ true → 128 < getD s 0 0 → getD s 0 0 - 128 ≤ room
   good-blanks g most = go (decLt room (getD s 0 0 - 128))
     where
       go : Dec (room < getD s 0 0 - 128) → getD s 0 0 - 128 ≤ room
       go (yes h) = absurd (not-bad _ at g (at-full room at s (good-some g) most h))
       go (no h) = omega arith
 
-  good-few : isGood (decodeFrom 0 room at s) ≡ true → getD s 0 0 ≤ 128 → getD s 0 0 < 128
+  good-few : isGood (decodeFrom room at s) ≡ true → getD s 0 0 ≤ 128 → getD s 0 0 < 128
   good-few g few = go (decLt (getD s 0 0) 128)
     where
       go : Dec (getD s 0 0 < 128) → getD s 0 0 < 128
       go (yes h) = h
       go (no h) = absurd (not-bad _ at g (at-goOn room at s (good-some g) (omega arith)))
 
-  good-run : (n : ℕ) → isGood (run n room at s) ≡ true → (n ≤ length s) × (n ≤ room)
-  good-run n g = go (decLt (length s) n) (decLt room n)
+  good-run : isGood (decodeFrom room at s) ≡ true → getD s 0 0 ≢ 0 → getD s 0 0 < 128 → (getD s 0 0 ≤ length (drop 1 s)) × (getD s 0 0 ≤ room)
+  good-run g more few = go (decLt (length (drop 1 s)) (getD s 0 0)) (decLt room (getD s 0 0))
     where
-      go : Dec (length s < n) → Dec (room < n) → (n ≤ length s) × (n ≤ room)
-      go (yes h) l = absurd (not-bad _ at g (run-short room at n s h))
-      go (no h) (yes l) = absurd (not-bad _ at g (run-full room at n s (omega arith) l))
+      go : Dec (length (drop 1 s) < getD s 0 0) → Dec (room < getD s 0 0) → (getD s 0 0 ≤ length (drop 1 s)) × (getD s 0 0 ≤ room)
+      go (yes h) l = absurd (not-bad _ at g (at-short room at s (good-some g) more few h))
+      go (no h) (yes l) = absurd (not-bad _ at g (at-over room at s (good-some g) more few (omega arith) l))
       go (no h) (no l) = (omega arith, omega arith)
 
 -- n of the blanks that are awaited, and the others
@@ -84,11 +85,7 @@ one-run f g xs out new to n is fits long front behind w =
 -- ---- at the control byte at offset `at` of s, with room in out from `to` on
 
 abbrev pub Next : List ℕ → ℕ → List ℕ → ℕ → Decoded
-Next s at out to = decodeFrom 0 (length out - to) at (drop at s)
-
--- the same where the control byte stands before n characters
-abbrev pub Run : List ℕ → ℕ → ℕ → List ℕ → ℕ → Decoded
-Run s at n out to = run n (length out - to) at (drop (at + 1) s)
+Next s at out to = decodeFrom (length out - to) at (drop at s)
 
 -- a run of n blanks is passed over
 abbrev pub Passed : List ℕ → ℕ → List ℕ → ℕ → ℕ → Type 0
@@ -98,7 +95,7 @@ Passed s at out to n =
 -- a run of n characters is copied
 abbrev pub Copied : List ℕ → ℕ → ℕ → List ℕ → ℕ → List ℕ → Type 0
 Copied s at n out to new =
-    Awaited (Next s (at + 1 + n) new (to + n)) new (to + n) × (filled (Run s at n out to) out to ≡ filled (Next s (at + 1 + n) new (to + n)) new (to + n))
+    Awaited (Next s (at + 1 + n) new (to + n)) new (to + n) × (filled (Next s at out to) out to ≡ filled (Next s (at + 1 + n) new (to + n)) new (to + n))
 
 module _ (s : List ℕ) (at : ℕ) (out : List ℕ) (to : ℕ) where
   first : getD (drop at s) 0 0 ≡ getD s at 0
@@ -131,51 +128,65 @@ module _ (s : List ℕ) (at : ℕ) (out : List ℕ) (to : ℕ) where
         let r = one-run _ _ (replicate n blank) out out to n is (omega arith) refl front refl w in
         (omega arith, r .0, r .1)
 
-    -- a run of characters begins
-    pub turns : getD s at 0 ≢ 0 → getD s at 0 ≤ 128 → Next s at out to ≡ Run s at (getD s at 0) out to
-    turns more few =
-        let below = good-few (length out - to) at (drop at s) (w .sound) (rw first few) in
-        rw (first, drop-drop) at (at-characters (length out - to) at (drop at s) some (rw first more) below)
+    -- at 128 no good code goes on
+    pub over : 128 ≤ getD s at 0 → 128 < getD s at 0
+    over most = go (decLt 128 (getD s at 0))
+      where
+        go : Dec (128 < getD s at 0) → 128 < getD s at 0
+        go (yes h) = h
+        go (no h) = let f = good-few (length out - to) at (drop at s) (w .sound) (rw first (omega arith)) in let g : getD s at 0 < 128 = rw first at f in omega arith
 
-  -- a run of n characters
-  module _ (n : ℕ) (h : at < length s) (w : Awaited (Run s at n out to) out to) where
-    pub run-fits : (at + 1 + n ≤ length s) × (to + n ≤ length out)
-    run-fits =
-        let r = good-run (length out - to) at (drop (at + 1) s) n (w .sound) in
-        let l = length-drop (at + 1) s in
-        let within = w .fits in
-        (omega arith, omega arith)
+    -- a run of characters
+    module _ (more : getD s at 0 ≢ 0) (few : getD s at 0 < 128) where
+      abbrev n : ℕ
+      n = getD s at 0
 
-    pub copied : (new : List ℕ) → new ≡ paste out to (drop (at + 1) s) n → Copied s at n out to new
-    copied new e =
-        let r = good-run (length out - to) at (drop (at + 1) s) n (w .sound) in
-        let f = run-fits in
-        let long : length new ≡ length out = ap length e ∙ length-paste out to (drop (at + 1) s) n (f .1) (r .0) in
-        let rest : length out - to - n ≡ length new - (to + n) = omega arith in
-        let is : Run s at n out to ≡ before (take n (drop (at + 1) s)) (Next s (at + 1 + n) new (to + n)) =
-        run-on (length out - to) at n (drop (at + 1) s) (r .0) (r .1) ∙ rw (rest, drop-drop) in
-        one-run _ _ (take n (drop (at + 1) s)) out new to n is (f .1) long
-        (ap (take (to + n)) e ∙ take-paste out to (drop (at + 1) s) n (w .fits) (r .0))
-        (ap (drop (to + n)) e ∙ drop-paste out to (drop (at + 1) s) n (w .fits) (r .0)) w
+      ready : (n ≤ length (drop (at + 1) s)) × (n ≤ length out - to)
+      ready = rw (first, drop-drop) at (good-run (length out - to) at (drop at s) (w .sound) (rw first more) (rw first few))
+
+      pub run-fits : (at + 1 + n ≤ length s) × (to + n ≤ length out)
+      run-fits =
+          let r = ready in
+          let l = length-drop (at + 1) s in
+          let i = inside in
+          let within = w .fits in
+          (omega arith, omega arith)
+
+      pub copied : (new : List ℕ) → new ≡ paste out to (drop (at + 1) s) n → Copied s at n out to new
+      copied new e =
+          let r = ready in
+          let f = run-fits in
+          let long : length new ≡ length out = ap length e ∙ length-paste out to (drop (at + 1) s) n (f .1) (r .0) in
+          let rest : length out - to - n ≡ length new - (to + n) = omega arith in
+          let fits : n ≤ length (drop 1 (drop at s)) = rw drop-drop (r .0) in
+          let is : Next s at out to ≡ before (take n (drop (at + 1) s)) (Next s (at + 1 + n) new (to + n)) =
+          rw (first, rest, drop-drop, drop-drop) at (at-run (length out - to) at (drop at s) some (rw first more) (rw first few) (rw first fits) (rw first (r .1))) in
+          one-run _ _ (take n (drop (at + 1) s)) out new to n is (f .1) long
+          (ap (take (to + n)) e ∙ take-paste out to (drop (at + 1) s) n (w .fits) (r .0))
+          (ap (drop (to + n)) e ∙ drop-paste out to (drop (at + 1) s) n (w .fits) (r .0)) w
 
 -- ---- measured first
 
+-- what is good in a sector's bytes is so in all
+whole : (R : ℕ) (s : List ℕ) (e : ℕ) → Coded.Good e ≡ answer (decode R s) → (x : List ℕ) × (decodeFrom R 0 s ≡ good x e) × (decode R s ≡ good x e)
+whole R s e is = let g = answer-good (decode R s) e (sym is) in (g .0, decode-all R s (g .0) e (g .1), g .1)
+
 -- a buffer that is filled with blanks awaits a good record
-pub awaited : (s old out : List ℕ) (e : ℕ) → Coded.Good e ≡ answer (decode (length old) s) → out ≡ lay old 0 (replicate (length old) blank) → Awaited (Next s 0 out 0) out 0
-unfolding decode isGood
+pub awaited : (s old out : List ℕ) (e : ℕ) → Coded.Good e ≡ answer (decode (length old) s) → out ≡ lay old 0 (replicate (length old) blank) → Awaited (decodeFrom (length out) 0 s) out 0
+unfolding isGood
 awaited s old out e is laid =
-    let g = answer-good (decode (length old) s) e (sym is) in
+    let g = whole (length old) s e is in
     let long : length out ≡ length old = ap length laid ∙ length-lay old 0 _ in
     let blanks : out ≡ replicate (length old) blank = laid ∙ lay-all (length old) old _ refl (length-replicate (length old) blank) in
-    record { sound = rw (long, sub-zero, g .1); fits = omega arith; empty = rw (sub-zero, long) blanks }
+    record { sound = rw (long, g .1); fits = omega arith; empty = rw (sub-zero, long) blanks }
 
 -- which is then in it
-pub decoded-good : (s old out new : List ℕ) (e : ℕ) → Coded.Good e ≡ answer (decode (length old) s) → length out ≡ length old → new ≡ filled (Next s 0 out 0) out 0
+pub decoded-good : (s old out new : List ℕ) (e : ℕ) → Coded.Good e ≡ answer (decode (length old) s) → length out ≡ length old → new ≡ filled (decodeFrom (length out) 0 s) out 0
     → (Coded.Good e ≡ answer (decode (length old) s)) × (new ≡ given (decode (length old) s) old)
-unfolding decode given filled
+unfolding given filled
 decoded-good s old out new e is long left =
-    let g = answer-good (decode (length old) s) e (sym is) in
-    (is, left ∙ rw (sub-zero, long, g .1))
+    let g = whole (length old) s e is in
+    (is, left ∙ rw (long, g .1, g .2))
 
 pub decoded-bad : (f : Decoded) (k : ℕ) (old : List ℕ) → Coded.Bad k ≡ answer f → (Coded.Bad k ≡ answer f) × (old ≡ given f old)
 unfolding given

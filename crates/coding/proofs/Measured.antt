@@ -1,29 +1,38 @@
 -- The decoder's answer depends on the control bytes alone: it is the answer from the next control byte on, with the room that is left.
-use mathlib.Core.Path.{_≡_, refl, ap, _∙_}
+use mathlib.Core.Path.{_≡_, refl, sym, ap, _∙_}
 use mathlib.Core.Logic.{_≢_}
 use mathlib.Core.Bool.{Bool, true, false, _||_, true≢false}
 use mathlib.Core.List.{List}
-use Prim.Native.Nat.{ℕ, _+_, _-_, _≤_, _<_}
+use Prim.Native.Nat.{ℕ, _+_, _-_, _≤_, _<_, min}
 use native.Mathlib.Nat.{add-zero}
 use native.Mathlib.Omega.{arith}
 use native.Mathlib.Decide.{decLt}
-use lib.ListN.{length, drop, getD, length-drop}
-use lib.Seq.{getD-drop, drop-drop}
+use lib.ListN.{length, take, drop, getD, length-drop}
+use lib.Seq.{getD-drop, drop-drop, take-all, getD-take, length-take-le}
 use lib.Dec.{eqb, leb, ltb}
-use borrow.Author.Tests.{eqb-true, eqb-false, leb-true, leb-false, ltb-true, ltb-false}
+use borrow.Author.Tests.{lt-ltb, le-ltb, ne-eqb, eqb-true, eqb-false, leb-true, leb-false, ltb-true, ltb-false}
+use Rattle.geometry.specs.Sizes.{sector}
 use Rattle.geometry.proofs.Tests.{or-either}
 use Rattle.coding.specs.declared.Coded.{Coded}
 use Rattle.coding.specs.declared.Coded.the-variants.{Good, Bad}
-use Rattle.coding.specs.Decode.{Decoded, good, bad, before, decodeFrom, run, answer}
-use Rattle.coding.proofs.Reader.{at-end, at-stop, at-goOn, at-characters, at-full, at-blanks, run-short, run-full, run-on}
+use Rattle.coding.specs.Decode.{Decoded, good, bad, before, decodeFrom, decode, answer, stopped}
+use Rattle.coding.proofs.Reader.{at-end, at-stop, at-goOn, at-short, at-over, at-run, at-full, at-blanks}
 
 neither : (a b : Bool) → a || b ≡ false → (a ≡ false) × (b ≡ false)
 neither true b h = absurd (true≢false h)
 neither false b h = (refl, h)
 
+-- as many bytes as a sector has, as far as there are any
+pub take-least : (n : ℕ) (s : List ℕ) → n ≡ min sector (length s) → take n s ≡ take sector s
+take-least n s e = go (decLt (length s) sector)
+  where
+    go : Dec (length s < sector) → take n s ≡ take sector s
+    go (yes h) = take-all n s (omega arith) ∙ sym (take-all sector s (omega arith))
+    go (no h) = let z : n ≡ sector = omega arith in rw z
+
 -- what is answered from the place `at` on
 abbrev pub Answer : List ℕ → ℕ → ℕ → Coded
-Answer s room at = answer (decodeFrom 0 room at (drop at s))
+Answer s room at = answer (decodeFrom room at (drop at s))
 
 answer-before : (xs : List ℕ) (f : Decoded) → answer (before xs f) ≡ answer f
 unfolding before answer
@@ -34,8 +43,22 @@ answer-bad : (f : Decoded) (at : ℕ) → f ≡ bad at → answer f ≡ Bad at
 unfolding answer
 answer-bad f at is = rw is
 
-pub ends : (s : List ℕ) (room at : ℕ) → length s ≤ at → at ≤ length s → Answer s room at ≡ Bad at
-ends s room at h g = answer-bad _ at (at-end room at (drop at s) (rw length-drop (omega arith)))
+-- ---- where the decoder stops
+
+pub stopped-end : (s : List ℕ) (k : ℕ) → length s ≤ k → stopped s k ≡ Bad k
+unfolding stopped
+stopped-end s k h = rw (le-ltb k (length s) h, stopped)
+
+pub stopped-bad : (s : List ℕ) (k : ℕ) → k < length s → getD s k 0 ≢ 0 → stopped s k ≡ Bad k
+unfolding stopped
+stopped-bad s k h n = rw (lt-ltb k (length s) h, ne-eqb (getD s k 0) 0 n, stopped)
+
+pub stopped-good : (s : List ℕ) (k : ℕ) → k < length s → getD s k 0 ≡ 0 → stopped s k ≡ Good (k + 1)
+unfolding stopped
+stopped-good s k h z = rw (lt-ltb k (length s) h, z, stopped)
+
+pub ends : (s : List ℕ) (room at : ℕ) → length s ≤ at → at ≤ length s → stopped s at ≡ Answer s room at
+ends s room at h g = stopped-end s at h ∙ sym (answer-bad _ at (at-end room at (drop at s) (rw length-drop (omega arith))))
 
 module _ (s : List ℕ) (room at : ℕ) (h : at < length s) where
   some : 0 < length (drop at s)
@@ -47,25 +70,31 @@ module _ (s : List ℕ) (room at : ℕ) (h : at < length s) where
   first : getD (drop at s) 0 0 ≡ c
   first = rw (getD-drop, add-zero)
 
-  pub stops : c ≡ 0 → Answer s room at ≡ Good (at + 1)
+  pub stops : c ≡ 0 → stopped s at ≡ Answer s room at
   unfolding answer
-  stops e = rw (at-stop room at (drop at s) some (first ∙ e))
+  stops e = stopped-good s at h e ∙ rw (at-stop room at (drop at s) some (first ∙ e))
+
+  refused : c ≢ 0 → decodeFrom room at (drop at s) ≡ bad at → stopped s at ≡ Answer s room at
+  refused n is = stopped-bad s at h n ∙ sym (answer-bad _ at is)
 
   -- a run of characters
   module _ (more : c ≢ 0) (few : c < 128) where
-    reads : decodeFrom 0 room at (drop at s) ≡ run c room at (drop 1 (drop at s))
-    reads = rw first at (at-characters room at (drop at s) some (rw first more) (rw first few))
+    more′ : getD (drop at s) 0 0 ≢ 0
+    more′ = rw first more
+
+    few′ : getD (drop at s) 0 0 < 128
+    few′ = rw first few
 
     left : length (drop 1 (drop at s)) ≡ length s - at - 1
     left = rw (length-drop, length-drop)
 
-    pub few-refused : ltb room c || leb (length s - at) c ≡ true → Answer s room at ≡ Bad at
-    few-refused t = answer-bad _ at (reads ∙ short (decLt (length s - at - 1) c))
+    pub few-refused : ltb room c || leb (length s - at) c ≡ true → stopped s at ≡ Answer s room at
+    few-refused t = refused more (short (decLt (length s - at - 1) c))
       where
-        short : Dec (length s - at - 1 < c) → run c room at (drop 1 (drop at s)) ≡ bad at
-        short (yes l) = run-short room at c _ (rw left l)
-        short (no l) = run-full room at c _ (rw left (omega arith))
-            (or-either (ltb room c) (leb (length s - at) c) t (λ u. ltb-true room c u) (λ u. absurd (let f = leb-true (length s - at) c u in omega arith)))
+        short : Dec (length s - at - 1 < c) → decodeFrom room at (drop at s) ≡ bad at
+        short (yes l) = at-short room at (drop at s) some more′ few′ (rw (first, left) l)
+        short (no l) = at-over room at (drop at s) some more′ few′ (rw (first, left) (omega arith))
+            (rw first (or-either (ltb room c) (leb (length s - at) c) t (λ u. ltb-true room c u) (λ u. absurd (let f = leb-true (length s - at) c u in omega arith))))
 
     module _ (t : ltb room c || leb (length s - at) c ≡ false) where
       pub few-fit : (c ≤ room) × (c < length s - at)
@@ -75,21 +104,48 @@ module _ (s : List ℕ) (room at : ℕ) (h : at < length s) where
       few-taken =
           let there : at + (1 + c) ≡ at + 1 + c = omega arith in
           let f = few-fit in
-          ap answer (reads ∙ run-on room at c _ (rw left (omega arith)) (f .0)) ∙ answer-before _ _
+          ap answer (rw first at (at-run room at (drop at s) some more′ few′ (rw (first, left) (omega arith)) (rw first (f .0)))) ∙ answer-before _ _
           ∙ rw (there, drop-drop 1 at s, drop-drop c (at + 1) s)
 
-  -- a run of blanks, or 128
-  module _ (most : 128 ≤ c) where
-    pub most-refused : eqb (c - 128) 0 || ltb room (c - 128) ≡ true → Answer s room at ≡ Bad at
-    most-refused t = answer-bad _ at (or-either (eqb (c - 128) 0) (ltb room (c - 128)) t
-        (λ u. let z = eqb-true (c - 128) 0 u in at-goOn room at (drop at s) some (rw first (omega arith)))
-        (λ u. let f = ltb-true room (c - 128) u in at-full room at (drop at s) some (rw first (omega arith)) (rw first f)))
+  -- a run of n blanks, or 128
+  module _ (n : ℕ) (is : c ≡ 128 + n) where
+    pub most-refused : eqb n 0 || ltb room n ≡ true → stopped s at ≡ Answer s room at
+    most-refused t = refused (λ z. omega arith) (or-either (eqb n 0) (ltb room n) t
+        (λ u. let z = eqb-true n 0 u in at-goOn room at (drop at s) some (rw first (omega arith)))
+        (λ u. let f = ltb-true room n u in at-full room at (drop at s) some (rw first (omega arith)) (rw first (omega arith))))
 
-    module _ (t : eqb (c - 128) 0 || ltb room (c - 128) ≡ false) where
-      pub most-fit : (128 < c) × (c - 128 ≤ room)
-      most-fit = let n = neither (eqb (c - 128) 0) (ltb room (c - 128)) t in let z = eqb-false (c - 128) 0 (n .0) in (omega arith, ltb-false room (c - 128) (n .1))
+    module _ (t : eqb n 0 || ltb room n ≡ false) where
+      pub most-fit : (0 < n) × (n ≤ room)
+      most-fit = let e = neither (eqb n 0) (ltb room n) t in let z = eqb-false n 0 (e .0) in (omega arith, ltb-false room n (e .1))
 
-      pub most-taken : Answer s room at ≡ Answer s (room - (c - 128)) (at + 1)
+      pub most-taken : Answer s room at ≡ Answer s (room - n) (at + 1)
       most-taken =
           let f = most-fit in
-          ap answer (rw first at (at-blanks room at (drop at s) some (rw first (f .0)) (rw first (f .1)))) ∙ answer-before _ _ ∙ rw drop-drop
+          let m : c - 128 ≡ n = omega arith in
+          ap answer (rw (first, m) at (at-blanks room at (drop at s) some (rw first (omega arith)) (rw (first, m) (f .1)))) ∙ answer-before _ _ ∙ rw drop-drop
+
+-- ---- in a sector's bytes, which the n first are
+
+module _ (R n k : ℕ) (s : List ℕ) (e : n ≡ min sector (length s)) (h : k ≤ length (take n s)) (is : stopped (take n s) k ≡ answer (decodeFrom R 0 (take n s))) where
+  size : length (take n s) ≡ n
+  size = length-take-le n s (omega arith)
+
+  pub read-within : (k ≤ n) × (n ≤ length s)
+  read-within = let z = size in (omega arith, omega arith)
+
+  whole : stopped (take n s) k ≡ answer (decode R s)
+  unfolding decode
+  whole = is ∙ ap (λ (t : List ℕ). answer (decodeFrom R 0 t)) (take-least n s e)
+
+  pub read-end : k ≡ n → Bad k ≡ answer (decode R s)
+  read-end z = sym (stopped-end (take n s) k (rw size (omega arith))) ∙ whole
+
+  module _ (more : k ≢ n) where
+    inside : k < n
+    inside = let w = read-within in omega arith
+
+    pub read-good : getD s k 0 ≡ 0 → Good (k + 1) ≡ answer (decode R s)
+    read-good z = sym (stopped-good (take n s) k (rw size inside) (getD-take n s k 0 inside ∙ z)) ∙ whole
+
+    pub read-bad : getD s k 0 ≢ 0 → Bad k ≡ answer (decode R s)
+    read-bad z = sym (stopped-bad (take n s) k (rw size inside) (rw (getD-take n s k 0 inside) z)) ∙ whole

@@ -3,9 +3,9 @@ use mathlib.Core.Path.{_≡_}
 use mathlib.Core.Bool.{Bool, true, false, _&&_}
 use mathlib.Core.List.{List, [], _∷_, _++_}
 use Prim.Native.Nat.{ℕ, zero, suc, _+_, _-_, _≤_}
-use lib.ListN.{length, take, drop, replicate}
+use lib.ListN.{length, take, drop, getD, replicate}
 use lib.Dec.{eqb, leb, ltb}
-use Rattle.geometry.specs.Sizes.{blank}
+use Rattle.geometry.specs.Sizes.{blank, sector}
 use Rattle.coding.specs.declared.Coded.{Coded}
 use Rattle.coding.specs.declared.Coded.the-variants.{Good, Bad}
 
@@ -36,28 +36,31 @@ unfoldable pub before : List ℕ → Decoded → Decoded
 before xs (good ys e) = good (xs ++ ys) e
 before xs (bad k) = bad k
 
--- the control byte at offset `at`, with room for so many characters, s behind it; `next k r a`: what follows, k bytes further, with room r, at offset a.
--- "the missing characters up to R are blanks"; bad if it "runs past its sector, gives more than R characters, has 128 elsewhere"
-unfoldable pub obey : Control → (room at : ℕ) → List ℕ → (ℕ → ℕ → ℕ → Decoded) → Decoded
-obey stop room at s next = good (replicate room blank) (at + 1)
-obey goOn room at s next = bad at
-obey (characters n) room at s next = elim (leb n (length s) && leb n room) [ true ↦ before (take n s) (next n (room - n) (at + 1 + n)) | false ↦ bad at ]
-obey (blanks n) room at s next = elim (leb n room) [ true ↦ before (replicate n blank) (next 0 (room - n) (at + 1)) | false ↦ bad at ]
+-- the control byte at offset `at`, with room for so many characters, s behind it; `run n r a`: a character and n more, at offset a, with room r behind
+-- them; `next r a`: the control byte that follows. "the missing characters up to R are blanks"; bad if it "runs past its sector, gives more than R
+-- characters, has 128 elsewhere"
+unfoldable pub obey : Control → (room at : ℕ) → List ℕ → (ℕ → ℕ → ℕ → Decoded) → (ℕ → ℕ → Decoded) → Decoded
+obey stop room at s run next = good (replicate room blank) (at + 1)
+obey goOn room at s run next = bad at
+obey (characters n) room at s run next = elim (leb n (length s) && leb n room) [ true ↦ run (n - 1) (room - n) (at + 1) | false ↦ bad at ]
+obey (blanks n) room at s run next = elim (leb n room) [ true ↦ before (replicate n blank) (next (room - n) (at + 1)) | false ↦ bad at ]
 
--- the record from the control byte on that stands k bytes further, at offset `at`, with room for so many characters: "a run of characters
--- gives over to a run of blanks and back until the 0; a run may also follow one of its own sort"
-unfoldable pub decodeFrom : (k room at : ℕ) → List ℕ → Decoded
-decodeFrom k room at [] = bad at
-decodeFrom zero room at (c ∷ s) = obey (control c) room at s (λ k r a. decodeFrom k r a s)
-decodeFrom (suc k) room at (c ∷ s) = decodeFrom k room at s
+-- "a run of characters gives over to a run of blanks and back until the 0; a run may also follow one of its own sort"
+unfoldable mutual
+  -- blanks and whatever a control byte asks for: from the control byte at offset `at` on, with room for so many characters
+  pub decodeFrom : (room at : ℕ) → List ℕ → Decoded
+  decodeFrom room at [] = bad at
+  decodeFrom room at (c ∷ s) = obey (control c) room at s (λ n r a. charactersFrom n r a s) (λ r a. decodeFrom r a s)
 
--- the record of R characters whose code the bytes s begin with; s ends where the sector ends
+  -- a character of a run and n more, with so much room behind them
+  pub charactersFrom : (n room at : ℕ) → List ℕ → Decoded
+  charactersFrom n room at [] = bad at
+  charactersFrom zero room at (c ∷ s) = before (c ∷ []) (decodeFrom room (at + 1) s)
+  charactersFrom (suc n) room at (c ∷ s) = before (c ∷ []) (charactersFrom n room (at + 1) s)
+
+-- the record of R characters whose code the bytes s begin with; s ends where the sector ends, and no more than a sector's bytes are looked at
 unfoldable pub decode : ℕ → List ℕ → Decoded
-decode R s = decodeFrom 0 R 0 s
-
--- the record from a run of n characters on, which s begins with, with its control byte at offset `at`
-unfoldable pub run : (n room at : ℕ) → List ℕ → Decoded
-run n room at s = obey (characters n) room at s (λ k r a. decodeFrom k r a s)
+decode R s = decodeFrom R 0 (take sector s)
 
 -- what the decoder answers
 unfoldable pub answer : Decoded → Coded
@@ -70,6 +73,12 @@ given (good xs e) old = xs
 given (bad k) old = old
 
 -- ---- the two decoding functions, one for each sort of run
+
+-- what is answered where they stop at the control byte at offset k: at the 0 that ends the record, or at one that cannot be obeyed
+unfoldable pub stopped : List ℕ → ℕ → Coded
+stopped s k = elim (ltb k (length s) && eqb (getD s k 0) 0) [ true ↦ Good (k + 1) | false ↦ Bad k ]
+
+-- ---- the characters of a good code
 
 -- whether a code is good
 unfoldable pub isGood : Decoded → Bool

@@ -10,7 +10,7 @@ ghost use mathlib.Core.List.{_∷_};
 ghost use Prim.Native.Nat.{_+_, _-_, _≤_, _<_, _^_, min};
 ghost use lib.ListN.{length, take, drop, getD};
 ghost use lib.Seq.{sets, paste};
-ghost use Rattle.coding.specs.Decode.{decodeFrom, run, answer, given, Awaited, filled};
+ghost use Rattle.coding.specs.Decode.{decodeFrom, stopped, answer, given, Awaited, filled};
 ghost use Rattle.coding.specs.Decode as Decode;
 ghost use Rattle.coding.specs.Encode.{gapAt, runLength, runsCode};
 ghost use Rattle.coding.specs.Encode as Encode;
@@ -33,60 +33,76 @@ fn copy(s: &[u8], at: usize, n: usize, out: &mut [u8], to: usize)
     }
 }
 
-// A run of n characters, with its control byte at offset at, into out from the place to on; then it gives over to runs of blanks.
-fn characters(s: &[u8], at: usize, n: usize, out: &mut [u8], to: usize)
-    requires { ⌜ (at < length (now s)) × Awaited (run n (length (now out) - to) at (drop (at + 1) (now s))) (now out) to ⌝ }
-    ensures { λ _. ⌜ now (out .exit) ≡ filled (run n (length (now (out .entry)) - to) at (drop (at + 1) (now (s .entry)))) (now (out .entry)) to ⌝ }
-{
-    copy(s, at + 1, n, out, to);
-    blanks(s, at + 1 + n, out, to + n);
-}
-
-// Runs of blanks, which out has already, up to the record's end or to a run of characters, which it gives over to. The first control byte is
-// at offset at, and what it gives goes into out from the place to on.
-fn blanks(s: &[u8], at: usize, out: &mut [u8], to: usize)
-    requires { ⌜ Awaited (decodeFrom 0 (length (now out) - to) at (drop at (now s))) (now out) to ⌝ }
-    ensures { λ _. ⌜ now (out .exit) ≡ filled (decodeFrom 0 (length (now (out .entry)) - to) at (drop at (now (s .entry)))) (now (out .entry)) to ⌝ }
+// Runs of characters in the sector's bytes s, the first control byte at offset at, with room for so many; a run of blanks is given over to.
+// Returns the offset of the control byte at which the record stops: the 0, or one that cannot be obeyed.
+fn characters(s: &[u8], at: usize, room: usize) -> usize
+    requires { ⌜ at ≤ length (now s) ⌝ }
+    ensures { λ r. ⌜ (r ≤ length (now (s .entry))) × (stopped (now (s .entry)) r ≡ answer (decodeFrom room at (drop at (now (s .entry))))) ⌝ }
 {
     let mut i = at;
-    let mut j = to;
-    while 128 < s[i] {
-        j += (s[i] as usize) - 128;
-        i += 1;
+    let mut left = room;
+    while i < s.len() {
+        let c = s[i] as usize;
+        if c == 0 {
+            return i;
+        }
+        if 128 <= c {
+            return blanks(s, i, c - 128, left);
+        }
+        if (left < c) | (s.len() - i <= c) {
+            return i;
+        }
+        left -= c;
+        i += 1 + c;
     }
-    let n = s[i] as usize;
-    if n != 0 {
-        characters(s, i, n, out, j);
-    }
+    i
 }
 
-// What decoding the record of that length that s begins with answers. No character is moved.
+// A run of n blanks, with its control byte at offset at; it gives back to runs of characters.
+fn blanks(s: &[u8], at: usize, n: usize, room: usize) -> usize
+    requires { ⌜ (at < length (now s)) × (getD (now s) at 0 ≡ 128 + n) ⌝ }
+    ensures { λ r. ⌜ (r ≤ length (now (s .entry))) × (stopped (now (s .entry)) r ≡ answer (decodeFrom room at (drop at (now (s .entry))))) ⌝ }
+{
+    if (n == 0) | (room < n) {
+        return at;
+    }
+    characters(s, at + 1, room - n)
+}
+
+// What decoding the record of that length that s begins with answers. No character is moved, and no byte past a sector's is looked at.
 pub fn measure(s: &[u8], length: usize) -> Coded
     ensures { λ r. ⌜ r ≡ answer (Decode.decode length (now (s .entry))) ⌝ }
 {
-    let mut at = 0;
-    let mut room = length;
-    while at < s.len() {
-        let c = s[at] as usize;
-        if c == 0 {
-            return Coded::Good(at + 1);
-        }
+    let n = least(Geometry::SECTOR, s.len());
+    let k = characters(&s[..n], 0, length);
+    if k == n {
+        return Coded::Bad(k);
+    }
+    if s[k] == 0 {
+        Coded::Good(k + 1)
+    } else {
+        Coded::Bad(k)
+    }
+}
+
+// Moves the characters of the good code that s begins with to their places in out, which has blanks.
+fn place(s: &[u8], out: &mut [u8])
+    requires { ⌜ Awaited (decodeFrom (length (now out)) 0 (now s)) (now out) 0 ⌝ }
+    ensures { λ _. ⌜ now (out .exit) ≡ filled (decodeFrom (length (now (out .entry))) 0 (now (s .entry))) (now (out .entry)) 0 ⌝ }
+{
+    let mut i = 0;
+    let mut j = 0;
+    while s[i] != 0 {
+        let c = s[i] as usize;
+        i += 1;
         if c < 128 {
-            if (room < c) | (s.len() - at <= c) {
-                return Coded::Bad(at);
-            }
-            room -= c;
-            at += 1 + c;
+            copy(s, i, c, out, j);
+            i += c;
+            j += c;
         } else {
-            let n = c - 128;
-            if (n == 0) | (room < n) {
-                return Coded::Bad(at);
-            }
-            room -= n;
-            at += 1;
+            j += c - 128;
         }
     }
-    Coded::Bad(at)
 }
 
 // Decodes the record that s begins with into out, whose length is the record's. A bad code leaves out as it was.
@@ -98,7 +114,7 @@ pub fn decode(s: &[u8], out: &mut [u8]) -> Coded
     match measure(s, r) {
         Coded::Good(e) => {
             fill(out, 0, r, Geometry::BLANK);
-            blanks(s, 0, out, 0);
+            place(s, out);
             Coded::Good(e)
         }
         Coded::Bad(k) => Coded::Bad(k),
@@ -137,21 +153,6 @@ fn begins_gap(x: &[u8], j: usize) -> bool
     x[j + 1] == Geometry::BLANK
 }
 
-// The length of the blank run that begins at the place i of x, up to 127.
-fn gap_length(x: &[u8], i: usize) -> usize
-    requires { ⌜ (i < length (now x)) × (gapAt (now x) i ≡ true) × (Encode.keeps (length (now x)) (now x) ≡ length (now x)) ⌝ }
-    ensures { λ r. ⌜ r ≡ runLength 127 true (getD (0 ∷ now (x .entry)) i 0) (drop i (now (x .entry))) ⌝ }
-{
-    let mut n = 1;
-    while n < 127 {
-        if x[i + n] != Geometry::BLANK {
-            return n;
-        }
-        n += 1;
-    }
-    n
-}
-
 // Puts the run of characters that begins at the place i of x, up to 127, at the place at of out and behind it, as far as there are such places.
 // Returns its length.
 fn put_characters(x: &[u8], i: usize, out: &mut [u8], at: usize) -> usize
@@ -184,7 +185,16 @@ fn put_runs(x: &[u8], out: &mut [u8]) -> usize
     let mut at = 0;
     while i < x.len() {
         if in_gap(x, i) {
-            let n = gap_length(x, i);
+            let mut k = 1;
+            let n = 'run: loop {
+                if k == 127 {
+                    break 'run k;
+                }
+                if x[i + k] != Geometry::BLANK {
+                    break 'run k;
+                }
+                k += 1;
+            };
             put(out, at, (128 + n) as u8);
             i += n;
             at += 1;

@@ -4,7 +4,7 @@ use mathlib.Core.Path.{_≡_, refl, sym, ap, subst, _∙_}
 use mathlib.Core.Bool.{true}
 use mathlib.Core.List.{List, []}
 use Prim.Native.Nat.{ℕ, _*_}
-use lib.ListN.{getD}
+use lib.ListN.{length, getD}
 use Rattle.geometry.specs.Sizes.{sector}
 use Rattle.geometry.proofs.Bytes.{Apart}
 use Rattle.geometry.proofs.Tests.{both-ways}
@@ -17,26 +17,42 @@ use Rattle.tapes.specs.Model.{Asked, modelAt, isOpenModel}
 use Rattle.serving.proofs.Mounted.{none-open}
 use Rattle.serving.proofs.View.{view, view-at, open-at}
 use Rattle.steps.proofs.Standing.{heldAt, bare-at}
+use Rattle.steps.specs.Effects.{effects}
+use Rattle.steps.specs.Step.{heldOf, bufferedScene, bufferedAnswer, bufferedAfter, bufferedStep}
+use Rattle.settling.proofs.Bench.{length-all}
 use Rattle.settling.proofs.Kept.{Kept, settle-elsewhere, settle-table}
 use Rattle.settling.proofs.Step.{Agrees}
-use Rattle.demands.specs.Engine.{plainEngine, bufferedEngine, Standing, answered, stepOf, run, mounted}
+use Rattle.demands.specs.Engine.{plainEngine, bufferedEngine, Standing, answered, stepOf, run, mounted, taken}
 use Rattle.demands.specs.Demand2.{Faithful, CountsStored}
-use Rattle.demands.specs.Demand3.{Untouched, Agreeing, Agree}
+use Rattle.demands.specs.Demand3.{Outside, Untouched, Agreeing, Agree}
 use Rattle.demands.proofs.Plain.{then-stands, then-view, afresh, plain-faithful}
 use Rattle.demands.proofs.Counts.{plain-counts}
-use Rattle.demands.proofs.Untouched.{far, Spared, mounted-spared, plain-untouched}
+use Rattle.demands.proofs.Untouched.{far, Spared, as-long, mounted-spared, plain-untouched}
 use Rattle.demands.proofs.Settled.{settled, KeptAt, agrees, kept-step, mounted-run-kept, mounted-run, mounted-reports, idle-images}
 use Rattle.directory.specs.declared.Entry.{Entry}
+use Rattle.requests.specs.declared.Answer.{Answer}
+use Rattle.requests.specs.declared.Answer.the-variants.{Done, Met, Refused}
+use Rattle.requests.specs.declared.Request.{Request}
 use Rattle.sessions.specs.declared.BufferedSession.{BufferedSession}
 use Rattle.sessions.specs.declared.Session.{Session}
 
 pub buffered-faithful : Faithful bufferedEngine
-unfolding bufferedMount
+unfolding bufferedMount taken
 buffered-faithful = record {
+  takes = λ b h. refl;
   mounting = λ image. refl;
   refusedMounting = λ image e. plain-faithful .refusedMounting image e;
-  serves = λ image ok asked. mounted-reports image (mounts-length image ok) asked ∙ plain-faithful .serves image ok asked;
+  serves = λ image ok asked fit. mounted-reports image (mounts-length image ok) asked ∙ plain-faithful .serves image ok asked fit;
 }
+
+buffered-long : (image : List ℕ) (s : BufferedSession) (i : ℕ) (q : Request) (given buffer : List ℕ) → length (bufferedStep image s i q given buffer .image) ≡ length image
+unfolding bufferedStep bufferedAfter
+buffered-long image s i q given buffer = go (bufferedAnswer image s i q given (length buffer))
+  where
+    go : (a : Answer) → length (bufferedAfter a image s q (bufferedScene image s i given) (heldOf s i) buffer .image) ≡ length image
+    go Done = length-all (bufferedScene image s i given) (effects q (bufferedScene image s i given)) (record { image = image; file = heldOf s i })
+    go (Met x) = refl
+    go (Refused x) = refl
 
 module _ (image : List ℕ) (ok : mounts image ≡ true) (asked : List Asked) where
   abbrev w : Standing BufferedSession
@@ -62,9 +78,9 @@ module _ (image : List ℕ) (ok : mounts image ≡ true) (asked : List Asked) wh
       go (opened h p z e b) = z
       go (closed p h b) = both-ways (isOf (heldAt (w .session) k .file .entry) (heldAt (w .session) k .file)) (is-of _ (heldAt (w .session) k .file) u refl) (ap (isOf (heldAt (w .session) k .file .entry)) (sym (bare-at (w .session) k)) ∙ b k)
 
-  buffered-untouched : Untouched bufferedEngine image asked
+  elsewhere : (j : ℕ) → Outside image asked j → getD (w .image) j 0 ≡ getD image j 0
   unfolding bare
-  buffered-untouched j h =
+  elsewhere j h =
       let m = mounted-spared image ok asked j h in
       sym (settle-elsewhere (w .image) (w .session) kept j (λ k u. away (m .1) (heldAt (w .session) k .file .entry) (in-use k u)))
       ∙ ap (λ (x : Standing Session). getD (x .image) j 0) same
@@ -78,6 +94,9 @@ module _ (image : List ℕ) (ok : mounts image ≡ true) (asked : List Asked) wh
           far (tableOf image) j (v .image) (v .session) i [] (p .same i) (p .none i o) .extent in
           subst (λ (x : Standing Session). Apart j 1 (sector * entryAt (x .session .table) i .first) (sector * entryAt (x .session .table) i .sectors)) (sym same) y
 
+  buffered-untouched : Untouched bufferedEngine image asked
+  buffered-untouched = (as-long bufferedEngine buffered-long image asked, elsewhere)
+
   agreeing : Agreeing plainEngine bufferedEngine image asked
   agreeing = record {
     alike = sym (mounted-reports image (mounts-length image ok) asked);
@@ -88,7 +107,7 @@ module _ (image : List ℕ) (ok : mounts image ≡ true) (asked : List Asked) wh
   }
 
 pub agree : Agree plainEngine bufferedEngine
-agree = record { first = plain-faithful; second = buffered-faithful; agreeing = agreeing }
+agree = record { first = plain-faithful; second = buffered-faithful; agreeing = λ image ok asked x y. agreeing image ok asked }
 
 -- the count that a closing stores: the directory is in no buffer
 module _ (image : List ℕ) (ok : mounts image ≡ true) (asked : List Asked) (a : Asked) where
@@ -103,8 +122,9 @@ module _ (image : List ℕ) (ok : mounts image ≡ true) (asked : List Asked) (a
   same-table = sym (settle-table (answered bufferedEngine (w image ok asked) a .image) (answered bufferedEngine (w image ok asked) a .session) then-kept) ∙ ap tableOf (then-agrees .image)
 
 pub buffered-counts : CountsStored bufferedEngine
+unfolding taken
 buffered-counts = record {
-  stored = λ image ok asked i t here a is done.
-      ap (λ (table : List Entry). entryAt table i .count) (same-table image ok asked a)
-      ∙ plain-counts .stored image ok asked i t here a is (sym (then-agrees image ok asked a .answer) ∙ done);
+  stored = λ image ok asked i t fit here a is done.
+      let p = plain-counts .stored image ok asked i t fit here a is (sym (then-agrees image ok asked a .answer) ∙ done) in
+      (ap (λ (table : List Entry). entryAt table i .count) (same-table image ok asked a) ∙ p .0, ap (λ (table : List Entry). entryAt table i .flags) (same-table image ok asked a) ∙ p .1);
 }

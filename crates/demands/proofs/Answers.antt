@@ -5,11 +5,39 @@ use mathlib.Core.List.{List, [], _∷_, _++_}
 use Prim.Native.Nat.{ℕ}
 use lib.ListN.{length, getD}
 use Rattle.geometry.specs.Bytes.{lay}
+use Rattle.geometry.specs.Lists.{every}
+use Rattle.geometry.proofs.Tests.{and-left, and-right, and-both}
+use Rattle.directory.proofs.Free.{every-append}
 use Rattle.requests.proofs.Numbers.{same-number}
 use Rattle.mounting.specs.Mounting.{mounts}
-use Rattle.tapes.specs.Model.{Model, Asked, Report, modelAt, modelsOf, modelInto, modelAnswer, modelStep, modelReport, modelReports, modelRun, ifDone}
-use Rattle.demands.specs.Engine.{Engine, Standing, answered, stepOf, reportOf, reports, run, mounted}
+use Rattle.tapes.specs.Model.{Model, Asked, Report, modelAt, modelsOf, modelInto, modelShown, modelAnswer, modelStep, modelReport, modelReports, modelRun, ifDone}
+use Rattle.demands.specs.Engine.{Engine, Standing, shownBy, answered, stepOf, reportOf, reports, run, mounted, taken}
 use Rattle.demands.specs.Demand2.{Faithful}
+
+-- ---- what is taken
+
+module _ (E : Engine) (image : List ℕ) where
+  pub taken-image : (asked : List Asked) → taken E image asked ≡ true → E .takes image ≡ true
+  unfolding taken
+  taken-image asked h = and-left (E .takes image) (every (λ a. E .takes (a .given)) asked) h
+
+  pub taken-given : (asked : List Asked) → taken E image asked ≡ true → every (λ a. E .takes (a .given)) asked ≡ true
+  unfolding taken
+  taken-given asked h = and-right (E .takes image) (every (λ a. E .takes (a .given)) asked) h
+
+  pub taken-more : (asked rest : List Asked) → taken E image asked ≡ true → every (λ a. E .takes (a .given)) rest ≡ true → taken E image (asked ++ rest) ≡ true
+  unfolding taken
+  taken-more asked rest h k =
+      and-both (E .takes image) _ (taken-image asked h) (every-append (λ a. E .takes (a .given)) asked rest ∙ and-both _ _ (taken-given asked h) k)
+
+  pub taken-one : (asked : List Asked) (a : Asked) → taken E image asked ≡ true → E .takes (a .given) ≡ true → taken E image (asked ++ (a ∷ [])) ≡ true
+  unfolding every
+  taken-one asked a h k = taken-more asked (a ∷ []) h (and-both (E .takes (a .given)) true k refl)
+
+-- no bytes are taken
+pub takes-none : (E : Engine) → Faithful E → E .takes [] ≡ true
+unfolding every
+takes-none E faithful = faithful .takes [] refl
 
 -- ---- the last report of a run
 
@@ -25,14 +53,20 @@ unfolding modelReports modelRun
 last-model [] a d ms = refl
 last-model (b ∷ asked) a d ms = last-model asked a d (modelStep ms b)
 
-module _ (E : Engine) (faithful : Faithful E) (image : List ℕ) (ok : mounts image ≡ true) (asked : List Asked) (a : Asked) where
+pub run-append : (ms : List Model) (p q : List Asked) → modelRun ms (p ++ q) ≡ modelRun (modelRun ms p) q
+unfolding modelRun
+run-append ms [] q = refl
+run-append ms (a ∷ p) q = run-append (modelStep ms a) p q
+
+module _ (E : Engine) (faithful : Faithful E) (image : List ℕ) (ok : mounts image ≡ true) (asked : List Asked) (a : Asked)
+    (fit : taken E image (asked ++ (a ∷ [])) ≡ true) where
   abbrev ms : List Model
   ms = modelRun (modelsOf image) asked
 
   same-report : reportOf E (run E (mounted E image) asked) a ≡ modelReport ms a
   same-report =
       sym (last-report E asked a none (mounted E image))
-      ∙ ap (λ (rs : List Report). getD rs (length asked) none) (faithful .serves image ok (asked ++ (a ∷ [])))
+      ∙ ap (λ (rs : List Report). getD rs (length asked) none) (faithful .serves image ok (asked ++ (a ∷ [])) fit)
       ∙ last-model asked a none (modelsOf image)
     where
       none : Report
@@ -45,3 +79,8 @@ module _ (E : Engine) (faithful : Faithful E) (image : List ℕ) (ok : mounts im
   pub same-buffer : answered E (run E (mounted E image) asked) a .buffer ≡ lay (a .buffer) 0 (ifDone (modelAnswer ms a) (modelInto (a .request) (modelAt ms (a .entry))))
   unfolding reportOf modelReport
   same-buffer = ap (λ (r : Report). r .buffer) same-report
+
+  pub same-shown : shownBy E (run E (mounted E image) asked .image) (run E (mounted E image) asked .session) (a .entry) (a .request)
+      ≡ ifDone (modelAnswer ms a) (modelShown (a .request) (modelAt ms (a .entry)))
+  unfolding reportOf modelReport
+  same-shown = ap (λ (r : Report). r .shown) same-report

@@ -32,6 +32,7 @@ use Rattle.steps.proofs.Answered.{buffered-answered, buffered-is}
 use Rattle.settling.proofs.Kept.{table-length}
 use Rattle.settling.proofs.Bench.{takes-held}
 use Rattle.steps.proofs.Standing.{withBuffer, kept-used, kept-file, Standing, isOpen, isShut, standing, held-file, held-set}
+use Rattle.demands.specs.Engine.{bufferedEngine}
 use Rattle.demands.specs.Demand3.{changed, readIn, putFirst, liesIn, goesIn, Holds, Buffers, Buffering, PutsBack, leaves, puts, stamps, OnlyPutsBack, isGranule, ByPuttingBack}
 use Rattle.geometry.specs.declared.Place.{Place}
 use Rattle.directory.specs.declared.Entry.{Entry}
@@ -300,7 +301,7 @@ module _ (image : List ℕ) (s : BufferedSession) (i : ℕ) (given buffer : List
         → extent (entryAt (s .table) i) (bufferedStep image s i (Position o) given buffer .image) ≡ extent (entryAt (s .table) i) (putFirst o (entryAt (s .table) i) found)
     order-puts o d = ap (λ (x : After BufferedSession). extent (entryAt (s .table) i) (x .image)) (buffered-is image s i (Position o) given buffer Done d) ∙ after-order o (done-live (Position o) _ (allowed (Position o) d))
 
-    buffers-well : Buffers image s i given buffer (entryAt (s .table) i) (heldOf s i)
+    buffers-well : Buffers bufferedEngine image s i given buffer (entryAt (s .table) i) (heldOf s i)
     unfolding fileDone effects bufferedScene
     buffers-well = record {
       inside = write-inside;
@@ -310,5 +311,5 @@ module _ (image : List ℕ) (s : BufferedSession) (i : ℕ) (given buffer : List
       writeHolds = λ d. left-held Write (done-live Write _ (allowed Write d)) refl refl _ d (subst (λ (f : OpenFile). Holds (bufferedAll scene (effects Write scene) found .file) (goesIn (entryAt (s .table) i) f given)) (sym (held-file s i)) (write-holds scene found kind));
     }
 
-pub buffering : Buffering
-buffering = record { each = buffers-well }
+pub buffering : Buffering bufferedEngine
+buffering = record { each = λ image s i given buffer x y types kind. buffers-well image s i given buffer types kind }

@@ -7,6 +7,7 @@ pub mod Plain
 pub mod Untouched
 pub mod Agree
 pub mod Answers
+pub mod Granules
 pub mod ReadsBack
 pub mod Counts
 pub mod Impostors

@@ -100,5 +100,5 @@ module _ (image : List ℕ) (s : BufferedSession) (types : typed s ≡ true) (ok
 pub buffered-passing : Passing bufferedEngine
 buffered-passing = record {
   mounting = λ image l. mounted-kept image l .isLegal;
-  requests = λ image s i q given buffer t ok. step-legal image s t ok i q given buffer;
+  requests = λ image s i q given buffer x y t ok. step-legal image s t ok i q given buffer;
 }

@@ -151,9 +151,10 @@ module _ (image : List ℕ) (ok : mounts image ≡ true) where
 pub plain-faithful : Faithful plainEngine
 unfolding plainMount
 plain-faithful = record {
+  takes = λ b h. refl;
   mounting = λ image. refl;
   refusedMounting = λ image e. ap unheld (rw (e, plainMount));
-  serves = λ image ok asked.
+  serves = λ image ok asked fit.
       run-reports asked (mounted plainEngine image) (mount-stands image ok) ∙ ap (λ (ms : List Model). modelReports ms asked) (mount-view image ok);
 }
 
@@ -162,7 +163,7 @@ plain-faithful = record {
 pub plain-passing : Passing plainEngine
 plain-passing = record {
   mounting = λ image ok. unheld-legal image (plainMount image .session) ∙ mounted-legal image ok;
-  requests = λ image s i q given buffer t ok.
+  requests = λ image s i q given buffer x y t ok.
       unheld-legal _ _ ∙ legal-step image s (sym (unheld-legal image s) ∙ ok) (typed-table s t) (typed-files s t) i q given buffer;
 }
   where

@@ -1,19 +1,19 @@
 -- What is written reads back, and a lawful write is refused for want of room alone: of every faithful engine, since it is so of the tapes.
 use mathlib.Core.Path.{_≡_, refl, sym, ap, _∙_}
 use mathlib.Core.Bool.{Bool, true, false, _||_}
-use mathlib.Core.List.{List, [], _∷_, _++_, append-nil}
+use mathlib.Core.List.{List, [], _∷_, _++_}
 use Prim.Native.Nat.{ℕ, zero, suc, _+_, _≤_, _<_}
 use native.Mathlib.Omega.{arith}
 use native.Mathlib.Decide.{decLt}
 use lib.Dec.{eqb, leb}
-use lib.ListN.{length, take, replicate, length-append, drop-of-length-le, List·getD-eq-default}
+use lib.ListN.{length, take, replicate, length-append, List·getD-eq-default}
 use lib.Seq.{length-take-le, getD-at, getD-set-same}
 use borrow.Author.Tests.{lt-leb, le-ltb}
-use Rattle.geometry.specs.Bytes.{lay, padded}
+use Rattle.geometry.specs.Bytes.{padded}
 use Rattle.geometry.specs.Lists.{every}
 use Rattle.geometry.specs.Sizes.{free, random, mostRecords}
-use Rattle.geometry.proofs.Bytes.{lay-fits, length-padded}
-use Rattle.geometry.proofs.Tests.{both-ways, and-left, and-right}
+use Rattle.geometry.proofs.Bytes.{length-padded}
+use Rattle.geometry.proofs.Tests.{both-ways, and-left, and-right, and-both, every-replicate}
 use Rattle.requests.specs.Judge.{Test, noRoom, isFull, judge, tests, firstOf, orElse, whether}
 use Rattle.requests.proofs.Done.{Writes, done-allows}
 use Rattle.mounting.specs.Mounting.{mounts}
@@ -21,9 +21,10 @@ use Rattle.tapes.specs.Tape.{Tape, padByte, tapeFacts, tapeDone, tapeNext, tape
 use Rattle.tapes.specs.Model.{Model, nothing, tape, Asked, modelAt, modelsOf, modelFacts, modelNext, modelRecord, modelInto, modelAnswer, modelStep, modelRun, openModels, ifDone}
 use Rattle.packing.specs.Reading.{Recorded}
 use Rattle.serving.proofs.Step.{asked}
-use Rattle.demands.specs.Engine.{Engine, answered, run, mounted}
+use Rattle.demands.specs.Engine.{Engine, answered, run, mounted, taken}
 use Rattle.demands.specs.Demand2.{Faithful, ReadsBack, RoomAlone, checksBefore3, writing, skipping, asking}
-use Rattle.demands.proofs.Answers.{same-answer, same-buffer}
+use Rattle.demands.proofs.Answers.{run-append, taken-more, taken-one, takes-none, same-answer, same-buffer}
+use Rattle.demands.proofs.Granules.{lay-whole, granule-back}
 use Rattle.demands.proofs.Plain.{then-counts}
 use Rattle.requests.specs.declared.Answer.{Answer}
 use Rattle.requests.specs.declared.Answer.the-variants.{Done, Met, Refused}
@@ -71,11 +72,6 @@ module _ (f : Facts) (legal : f .legal ≡ true) (used : eqb (f .kind) free ≡ 
     reads h = rw (legal, used, opened, sequential, before, le-ltb (f .buffer) (f .length) h, good, lt-leb (f .count) (f .position) ahead)
 
 -- ---- a record written at p, and read back
-
-run-append : (ms : List Model) (p q : List Asked) → modelRun ms (p ++ q) ≡ modelRun (modelRun ms p) q
-unfolding modelRun
-run-append ms [] q = refl
-run-append ms (a ∷ p) q = run-append (modelStep ms a) p q
 
 abbrev rewind : ℕ → Asked
 rewind i = asked i (Position RewindOnline) [] []
@@ -135,19 +131,14 @@ module _ (i : ℕ) (t : Tape) (given : List ℕ) (standing : t .position ≤ len
           rw then-at
           (ap (λ (r : Recorded). r .bytes) (getD-at (take (t .position) (t .records)) (newRecord given t) [] _ (t .position) (length-take-le (t .position) (t .records) standing)))
 
--- a whole buffer laid over
-lay-whole : (buffer xs : List ℕ) → length xs ≡ length buffer → lay buffer 0 xs ≡ xs
-lay-whole buffer xs e =
-    lay-fits buffer 0 xs (omega arith) ∙ ap (λ (r : List ℕ). xs ++ r) (drop-of-length-le buffer {i = 0 + length xs} (omega arith)) ∙ append-nil xs
-
-module _ (E : Engine) (faithful : Faithful E) (image : List ℕ) (ok : mounts image ≡ true) (before : List Asked) (i : ℕ) (t : Tape)
-    (here : modelAt (modelRun (modelsOf image) before) i ≡ tape t) (given : List ℕ) where
+module _ (E : Engine) (faithful : Faithful E) (image : List ℕ) (ok : mounts image ≡ true) (before : List Asked) (i : ℕ) (t : Tape) (fit : taken E image before ≡ true)
+    (here : modelAt (modelRun (modelsOf image) before) i ≡ tape t) (given : List ℕ) (takes : E .takes given ≡ true) where
   abbrev ms : List Model
   ms = modelRun (modelsOf image) before
 
   module _ (buffer : List ℕ) (size : length buffer ≡ t .shape .recordLength) (done : answered E (run E (mounted E image) before) (writing i given) .answer ≡ Done) where
     wrote : modelAnswer ms (writing i given) ≡ Done
-    wrote = sym (same-answer E faithful image ok before (writing i given)) ∙ done
+    wrote = sym (same-answer E faithful image ok before (writing i given) (taken-one E image before (writing i given) fit takes)) ∙ done
 
     allowed : Writes (tapeFacts (openModels ms) given 0 t)
     allowed = done-allows Write _ (sym (tape-answer ms i t here Write given []) ∙ wrote)
@@ -170,15 +161,24 @@ module _ (E : Engine) (faithful : Faithful E) (image : List ℕ) (ok : mounts im
     abbrev all : List Asked
     all = before ++ (writing i given ∷ skipping i (t .position))
 
+    skips-taken : every (λ a. E .takes (a .given)) (writing i given ∷ skipping i (t .position)) ≡ true
+    unfolding every
+    skips-taken =
+        let n : E .takes [] ≡ true = takes-none E faithful in
+        and-both (E .takes given) _ takes (and-both (E .takes []) _ n (every-replicate (λ (a : Asked). E .takes (a .given)) (t .position) _ n))
+
+    all-taken : taken E image (all ++ (asking i [] buffer ∷ [])) ≡ true
+    all-taken = taken-one E image all (asking i [] buffer) (taken-more E image before _ fit skips-taken) (takes-none E faithful)
+
     answers : answered E (run E (mounted E image) all) (asking i [] buffer) .answer ≡ Done
     answers =
-        same-answer E faithful image ok all (asking i [] buffer)
+        same-answer E faithful image ok all (asking i [] buffer) all-taken
         ∙ rw (run-append (modelsOf image) before (writing i given ∷ skipping i (t .position))) (back-answer i t given standing used sequential ms here wrote buffer size)
 
     gives : answered E (run E (mounted E image) all) (asking i [] buffer) .buffer ≡ padded (padByte (t .shape .kind)) (t .shape .recordLength) given
     unfolding ifDone
     gives =
-        same-buffer E faithful image ok all (asking i [] buffer)
+        same-buffer E faithful image ok all (asking i [] buffer) all-taken
         ∙ rw (
           run-append (modelsOf image) before (writing i given ∷ skipping i (t .position)),
           back-answer i t given standing used sequential ms here wrote buffer size,
@@ -187,8 +187,9 @@ module _ (E : Engine) (faithful : Faithful E) (image : List ℕ) (ok : mounts im
 
 pub reads-back : (E : Engine) → Faithful E → ReadsBack E
 reads-back E faithful = record {
-  back = λ image ok before i t here given buffer size done.
-      (answers E faithful image ok before i t here given buffer size done, gives E faithful image ok before i t here given buffer size done);
+  back = λ image ok before i t fit here given buffer takes size done.
+      (answers E faithful image ok before i t fit here given takes buffer size done, gives E faithful image ok before i t fit here given takes buffer size done);
+  granule = granule-back E faithful;
 }
 
 -- ---- room
@@ -210,7 +211,7 @@ passed (u ∷ ts) f later r e = go (u .holds f) e (passed ts f later (and-right 
     go false h more = more h
 
 module _ (E : Engine) (faithful : Faithful E) (image : List ℕ) (ok : mounts image ≡ true) (before : List Asked) (i : ℕ) (t : Tape) (given : List ℕ) (f : Facts)
-    (here : modelAt (modelRun (modelsOf image) before) i ≡ tape t) (is : f ≡ tapeFacts (openModels (modelRun (modelsOf image) before)) given 0 t)
+    (fit : taken E image before ≡ true) (takes : E .takes given ≡ true) (here : modelAt (modelRun (modelsOf image) before) i ≡ tape t) (is : f ≡ tapeFacts (openModels (modelRun (modelsOf image) before)) given 0 t)
     (lawful : firstOf checksBefore3 f ≡ Done) where
   last-test : judge Write f ≡ whether (leb mostRecords (t .position) || isFull f) (Refused NoRoom) Done
   unfolding judge tests firstOf orElse isRefusal every tapeFacts
@@ -219,12 +220,12 @@ module _ (E : Engine) (faithful : Faithful E) (image : List ℕ) (ok : mounts im
       ∙ ap (λ (p : ℕ). whether (leb mostRecords p || isFull f) (Refused NoRoom) Done) (ap (λ (g : Facts). g .position) is)
 
   decides : answered E (run E (mounted E image) before) (writing i given) .answer ≡ whether (leb mostRecords (t .position) || isFull f) (Refused NoRoom) Done
-  decides = same-answer E faithful image ok before (writing i given) ∙ tape-answer (modelRun (modelsOf image) before) i t here Write given [] ∙ ap (judge Write) (sym is) ∙ last-test
+  decides = same-answer E faithful image ok before (writing i given) (taken-one E image before (writing i given) fit takes) ∙ tape-answer (modelRun (modelsOf image) before) i t here Write given [] ∙ ap (judge Write) (sym is) ∙ last-test
 
 pub room-alone : (E : Engine) → Faithful E → RoomAlone E
 unfolding whether
 room-alone E faithful = record {
-  refusing = λ image ok before i t given f here is lawful.
-      let d = decides E faithful image ok before i t given f here is lawful in
+  refusing = λ image ok before i t given f fit takes here is lawful.
+      let d = decides E faithful image ok before i t given f fit takes here is lawful in
       ((λ full. d ∙ rw full), (λ free. d ∙ rw free));
 }

@@ -7,7 +7,7 @@ use mathlib.Core.List.{List, [], _∷_}
 use Prim.Native.Nat.{ℕ, _+_, _*_, _≤_, _<_}
 use native.Mathlib.Omega.{arith}
 use lib.Dec.{leb, ltb}
-use lib.ListN.{getD}
+use lib.ListN.{length, getD}
 use borrow.Author.Tests.{leb-false, ltb-false, not-true}
 use Rattle.geometry.specs.Lists.{every}
 use Rattle.geometry.specs.Sizes.{sector, entrySize}
@@ -17,17 +17,22 @@ use Rattle.directory.specs.Entries.{tableOf, entryAt}
 use Rattle.directory.specs.Stamp.{restamped}
 use Rattle.sessions.specs.Session.{fileOf}
 use Rattle.mounting.specs.Mounting.{mounts, startWith}
-use Rattle.steps.proofs.Frame.{Elsewhere}
+use Rattle.steps.specs.Effects.{effects}
+use Rattle.steps.specs.Step.{plainScene, plainAnswer, plainAfter, plainStep}
+use Rattle.steps.proofs.Frame.{Elsewhere, length-plain}
 use Rattle.tapes.specs.Model.{Model, Asked, modelsOf, modelAt, isOpenModel, modelStep, opensNow, opened}
 use Rattle.tapes.proofs.Opened.{open-after}
 use Rattle.serving.proofs.Lifting.{Stands, sceneOf}
 use Rattle.serving.proofs.Mounted.{mounted-session, nothing-open}
 use Rattle.serving.proofs.Step.{untouched-step, bare-step}
 use Rattle.serving.proofs.View.{view, view-at, open-at}
-use Rattle.demands.specs.Engine.{plainEngine, Standing, answered, stepOf, run, mounted}
+use Rattle.demands.specs.Engine.{Engine, plainEngine, Standing, answered, stepOf, run, mounted}
 use Rattle.demands.specs.Demand3.{belongs, Untouched}
 use Rattle.demands.proofs.Plain.{stands-then, view-then, mount-stands, mount-view}
 use Rattle.directory.specs.declared.Entry.{Entry}
+use Rattle.requests.specs.declared.Answer.{Answer}
+use Rattle.requests.specs.declared.Answer.the-variants.{Done, Met, Refused}
+use Rattle.requests.specs.declared.Request.{Request}
 use Rattle.sessions.specs.declared.OpenFile.{OpenFile}
 use Rattle.sessions.specs.declared.Session.{Session}
 
@@ -123,6 +128,27 @@ module _ (image : List ℕ) (ok : mounts image ≡ true) (j : ℕ) where
         (ap (λ (s : Session). fileOf (s .files) k .used) (mounted-session image ok) ∙ ap (λ (f : OpenFile). f .used) (nothing-open (tableOf image) k));
   }
 
+-- ---- an image is as long behind a run as before it
+
+module _ (E : Engine) (one : (image : List ℕ) (s : E .Session) (i : ℕ) (q : Request) (given buffer : List ℕ) → length (E .request image s i q given buffer .image) ≡ length image) where
+  run-long : (asked : List Asked) (w : Standing (E .Session)) → length (run E w asked .image) ≡ length (w .image)
+  unfolding run stepOf answered
+  run-long [] w = refl
+  run-long (a ∷ rest) w = run-long rest (stepOf E w a) ∙ one (w .image) (w .session) (a .entry) (a .request) (a .given) (a .buffer)
+
+  pub as-long : (image : List ℕ) (asked : List Asked) → length (run E (mounted E image) asked .image) ≡ length image
+  unfolding mounted
+  as-long image asked = run-long asked (mounted E image)
+
+plain-long : (image : List ℕ) (s : Session) (i : ℕ) (q : Request) (given buffer : List ℕ) → length (plainStep image s i q given buffer .image) ≡ length image
+unfolding plainStep plainAfter
+plain-long image s i q given buffer = go (plainAnswer image s i q given (length buffer))
+  where
+    go : (a : Answer) → length (plainAfter a image s q (plainScene image s i given) buffer .image) ≡ length image
+    go Done = length-plain (plainScene image s i given) (effects q (plainScene image s i given)) image
+    go (Met x) = refl
+    go (Refused x) = refl
+
 -- what the run from a mounting keeps
 pub mounted-spared : (image : List ℕ) → mounts image ≡ true → (asked : List Asked) (j : ℕ) → every (λ i. not (belongs (tableOf image) j i)) (opened (modelsOf image) asked) ≡ true
     → (getD (run plainEngine (mounted plainEngine image) asked .image) j 0 ≡ getD image j 0) × Spared (tableOf image) j (run plainEngine (mounted plainEngine image) asked)
@@ -130,4 +156,4 @@ unfolding mounted
 mounted-spared image ok asked j h = spared (tableOf image) j asked (mounted plainEngine image) (start image ok j) (rw (mount-view image ok) h)
 
 pub plain-untouched : (image : List ℕ) → mounts image ≡ true → (asked : List Asked) → Untouched plainEngine image asked
-plain-untouched image ok asked j h = mounted-spared image ok asked j h .0
+plain-untouched image ok asked = (as-long plainEngine plain-long image asked, λ j h. mounted-spared image ok asked j h .0)

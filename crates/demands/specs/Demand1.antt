@@ -54,6 +54,6 @@ pub record Orderly (E : Engine) : Type 0 where
 -- "Every other session handed out passes, save one handed back with 12": a mounted one, and the one behind every request on a session that passed
 pub record Passing (E : Engine) : Type 0 where
   pub mounting : (image : List ℕ) → lawfulLength image ≡ true → bufferedLegal image (E .seen (E .mount image .session)) ≡ true
-  pub requests : (image : List ℕ) (s : E .Session) (i : ℕ) (q : Request) (given buffer : List ℕ) → typed (E .seen s) ≡ true
+  pub requests : (image : List ℕ) (s : E .Session) (i : ℕ) (q : Request) (given buffer : List ℕ) → E .takes image ≡ true → E .takes given ≡ true → typed (E .seen s) ≡ true
       → bufferedLegal image (E .seen s) ≡ true
       → bufferedLegal (E .request image s i q given buffer .image) (E .seen (E .request image s i q given buffer .session)) ≡ true

@@ -18,14 +18,13 @@ use Rattle.sessions.specs.Session.{extent, extentWith, typed}
 use Rattle.mounting.specs.Mounting.{mounts}
 use Rattle.steps.specs.Next.{Scene}
 use Rattle.steps.specs.Effects.{Effect, stamp, effects, Bench, bufferedDo, puttingBack}
-use Rattle.steps.specs.Step.{heldOf, bufferedStep}
+use Rattle.steps.specs.Step.{heldOf}
 use Rattle.tapes.specs.Model.{Asked, modelsOf, modelRun, nothingOpen, opened}
-use Rattle.demands.specs.Engine.{Engine, reports, run, mounted}
+use Rattle.demands.specs.Engine.{Engine, reports, run, mounted, taken}
 use Rattle.demands.specs.Demand2.{Faithful}
 use Rattle.directory.specs.declared.Entry.{Entry}
 use Rattle.sessions.specs.declared.OpenFile.{OpenFile}
 use Rattle.sessions.specs.declared.BufferedFile.{BufferedFile}
-use Rattle.sessions.specs.declared.BufferedSession.{BufferedSession}
 use Rattle.requests.specs.declared.Order.{Order}
 use Rattle.requests.specs.declared.Order.the-variants.{WriteMark, RewindOnline, RewindOffline, RecordForward, RecordBack, FileForward, FileBack}
 use Rattle.requests.specs.declared.Request.{Request}
@@ -38,11 +37,15 @@ belongs table j i =
     (leb (entrySize * i) j && ltb j (entrySize * i + entrySize))
     || (leb (sector * entryAt table i .first) j && ltb j (sector * (entryAt table i .first + entryAt table i .sectors)))
 
--- "every byte outside the entries and extents of opened files is as mounted"
+-- byte j lies "outside the entries and extents of opened files"
+abbrev pub Outside : List ℕ → List Asked → ℕ → Type 0
+Outside image asked j = every (λ i. not (belongs (tableOf image) j i)) (opened (modelsOf image) asked) ≡ true
+
+-- there are as many bytes, and "every byte outside the entries and extents of opened files is as mounted"
 abbrev pub Untouched : (E : Engine) → List ℕ → List Asked → Type 0
 Untouched E image asked =
-    (j : ℕ) → every (λ i. not (belongs (tableOf image) j i)) (opened (modelsOf image) asked) ≡ true
-    → getD (run E (mounted E image) asked .image) j 0 ≡ getD image j 0
+    (length (run E (mounted E image) asked .image) ≡ length image)
+    × ((j : ℕ) → Outside image asked j → getD (run E (mounted E image) asked .image) j 0 ≡ getD image j 0)
 
 pub record Agreeing (E F : Engine) (image : List ℕ) (asked : List Asked) : Type 0 where
   -- "the same answers, bytes and positions"
@@ -58,7 +61,7 @@ pub record Agreeing (E F : Engine) (image : List ℕ) (asked : List Asked) : Typ
 pub record Agree (E F : Engine) : Type 0 where
   pub first : Faithful E
   pub second : Faithful F
-  pub agreeing : (image : List ℕ) → mounts image ≡ true → (asked : List Asked) → Agreeing E F image asked
+  pub agreeing : (image : List ℕ) → mounts image ≡ true → (asked : List Asked) → taken E image asked ≡ true → taken F image asked ≡ true → Agreeing E F image asked
 
 -- ---- the blocking buffer
 
@@ -105,26 +108,26 @@ abbrev pub Holds : BufferedFile → ℕ → Type 0
 Holds b k = (b .holds ≡ true) × (b .held ≡ k)
 
 -- the buffer of a blocked or compressed file, in one request
-pub record Buffers (image : List ℕ) (s : BufferedSession) (i : ℕ) (given buffer : List ℕ) (e : Entry) (b : BufferedFile) : Type 0 where
+pub record Buffers (E : Engine) (image : List ℕ) (s : E .Session) (i : ℕ) (given buffer : List ℕ) (e : Entry) (b : BufferedFile) : Type 0 where
   -- "a write wholly in the held sector leaves the image as it was"
-  pub inside : bufferedStep image s i Write given buffer .answer ≡ Done → b .holds ≡ true → every (λ k. eqb k (b .held)) (changed e (b .file) given) ≡ true
-      → bufferedStep image s i Write given buffer .image ≡ image
+  pub inside : E .request image s i Write given buffer .answer ≡ Done → b .holds ≡ true → every (λ k. eqb k (b .held)) (changed e (b .file) given) ≡ true
+      → E .request image s i Write given buffer .image ≡ image
   -- and a read: "it takes each sector that it must read or change, unless held already"
-  pub readInside : bufferedStep image s i Read given buffer .answer ≡ Done → b .holds ≡ true
-      → every (λ k. eqb k (b .held)) (readIn e (b .file) (extentWith e b image)) ≡ true → bufferedStep image s i Read given buffer .image ≡ image
+  pub readInside : E .request image s i Read given buffer .answer ≡ Done → b .holds ≡ true
+      → every (λ k. eqb k (b .held)) (readIn e (b .file) (extentWith e b image)) ≡ true → E .request image s i Read given buffer .image ≡ image
   -- an order
-  pub ordered : (o : Order) → bufferedStep image s i (Position o) given buffer .answer ≡ Done
-      → extent e (bufferedStep image s i (Position o) given buffer .image) ≡ extent e (putFirst o e (record { image = image; file = b }))
+  pub ordered : (o : Order) → E .request image s i (Position o) given buffer .answer ≡ Done
+      → extent e (E .request image s i (Position o) given buffer .image) ≡ extent e (putFirst o e (record { image = image; file = b }))
   -- "a read or write answered 0 .. ends holding the one its record lies in"
-  pub readHolds : bufferedStep image s i Read given buffer .answer ≡ Done
-      → Holds (heldOf (bufferedStep image s i Read given buffer .session) i) (liesIn e (b .file) (extentWith e b image))
-  pub writeHolds : bufferedStep image s i Write given buffer .answer ≡ Done
-      → Holds (heldOf (bufferedStep image s i Write given buffer .session) i) (goesIn e (b .file) given)
+  pub readHolds : E .request image s i Read given buffer .answer ≡ Done
+      → Holds (heldOf (E .seen (E .request image s i Read given buffer .session)) i) (liesIn e (b .file) (extentWith e b image))
+  pub writeHolds : E .request image s i Write given buffer .answer ≡ Done
+      → Holds (heldOf (E .seen (E .request image s i Write given buffer .session)) i) (goesIn e (b .file) given)
 
-pub record Buffering : Type 0 where
-  pub each : (image : List ℕ) (s : BufferedSession) (i : ℕ) (given buffer : List ℕ) → typed s ≡ true
-      → (isKind blocked (entryAt (s .table) i) || isKind compressed (entryAt (s .table) i)) ≡ true
-      → Buffers image s i given buffer (entryAt (s .table) i) (heldOf s i)
+pub record Buffering (E : Engine) : Type 0 where
+  pub each : (image : List ℕ) (s : E .Session) (i : ℕ) (given buffer : List ℕ) → E .takes image ≡ true → E .takes given ≡ true → typed (E .seen s) ≡ true
+      → (isKind blocked (entryAt (E .seen s .table) i) || isKind compressed (entryAt (E .seen s .table) i)) ≡ true
+      → Buffers E image s i given buffer (entryAt (E .seen s .table) i) (heldOf (E .seen s) i)
 
 -- what one effect makes of the image: nothing; a putting back; or, at a close, count and flags in the entry
 pub data PutsBack (c : Scene) (x : Effect) (w : Bench) : Type 0 where

@@ -1,7 +1,8 @@
 -- What an engine is, what a caller sees of it, and a run of requests from a mounted image. The demands are stated over these. Definitions only.
+use mathlib.Core.Bool.{Bool, true, _&&_}
 use mathlib.Core.List.{List, [], _∷_, map}
 use Prim.Native.Nat.{ℕ}
-use Rattle.geometry.specs.Lists.{numbersFrom}
+use Rattle.geometry.specs.Lists.{every, numbersFrom}
 use Rattle.geometry.specs.Sizes.{entries}
 use Rattle.requests.specs.Numbers.{numberOf}
 use Rattle.sessions.specs.Session.{bare, unheld, spotOf}
@@ -16,10 +17,12 @@ use Rattle.sessions.specs.declared.BufferedSession.{BufferedSession}
 use Rattle.sessions.specs.declared.Spot.{Spot}
 
 -- an engine: what it mounts, what it answers, where its files stand, and what it shows of a granule. `seen` is its session as a reader
--- sees it: a plain one holds no sector
+-- sees it: a plain one holds no sector. `takes` says which lists of numbers it takes for bytes: a session as a value can hold any, one that stands in
+-- bytes only bytes
 pub record Engine : Type 1 where
   pub Session : Type 0
   pub seen : Session → BufferedSession
+  pub takes : List ℕ → Bool
   pub mount : List ℕ → Mounted Session
   pub request : List ℕ → Session → ℕ → Request → List ℕ → List ℕ → After Session
   pub position : Session → ℕ → Spot
@@ -27,12 +30,13 @@ pub record Engine : Type 1 where
 
 -- ours: one with no buffer, and "one with a blocking buffer for each open file"
 abbrev pub plainEngine : Engine
-plainEngine = record { Session = plain.Session; seen = unheld; mount = plainMount; request = plainStep; position = spotOf; look = plainLook }
+plainEngine = record { Session = plain.Session; seen = unheld; takes = λ b. true; mount = plainMount; request = plainStep; position = spotOf; look = plainLook }
 
 abbrev pub bufferedEngine : Engine
 bufferedEngine = record {
   Session = BufferedSession;
   seen = λ s. s;
+  takes = λ b. true;
   mount = bufferedMount;
   request = bufferedStep;
   position = λ s. spotOf (bare s);
@@ -85,3 +89,7 @@ run E w (a ∷ rest) = run E (stepOf E w a) rest
 -- a run begins with a mounting
 unfoldable pub mounted : (E : Engine) → List ℕ → Standing (E .Session)
 mounted E image = record { image = image; session = E .mount image .session }
+
+-- the image that is mounted and the bytes that each request is given are such as the engine takes
+unfoldable pub taken : (E : Engine) → List ℕ → List Asked → Bool
+taken E image asked = E .takes image && every (λ a. E .takes (a .given)) asked

@@ -225,4 +225,4 @@ module _ (R : ℕ) (given : List ℕ) (short : length given ≤ R) (most : R ≤
       (room : hasRoom sectors p (length (codeOf R given)) ≡ true) where
     pub put-given-walk : (n : ℕ) (o : Place) (rs : List Recorded) → o .byte ≤ sector → walk R sectors bytes n o ≡ walked rs → behindFrom o rs n ≡ p
         → walk R sectors (laid (changes p (codeOf R given)) bytes) (suc n) o ≡ walked (rs ++ (newAt R given p ∷ []))
-    put-given-walk = put-walk R sectors bytes p (codeOf R given) (padded blank R given) size within code-small (λ rest. decode-codeOf R given rest short) room
+    put-given-walk = put-walk R sectors bytes p (codeOf R given) (padded blank R given) size within code-small (λ rest. decode-codeOf R given rest short code-small) room

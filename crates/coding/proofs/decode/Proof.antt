@@ -16,8 +16,8 @@ enum-known-e c = search needs
 fill-requires : tie.Need-fill-requires
 fill-requires c κs = search needs
 
-blanks-requires : tie.Need-blanks-requires
-blanks-requires c κs =
+place-requires : tie.Need-place-requires
+place-requires c κs =
     let a = c .before .before .before .before .before .before .before .before .before .before .before .args in
     let g = c .before .before .before .before .before .before .e .given in
     let f = c .before .before .before .fill in
@@ -34,7 +34,7 @@ returns c =
     let a = c .before .before .before .before .before .before .before .before .before .before .before .before .before .before .args in
     let g = c .before .before .before .before .before .before .before .before .before .e .given in
     let f = c .before .before .before .before .before .before .fill in
-    decoded-good (a .s .now) (a .out .now) (f .last .0) _ (g .0 .0) (sym (g .1) ∙ c .before .before .before .before .before .before .before .before .before .before .before .measure .ensures) (f .kept .0) (c .before .before .blanks .ensures)
+    decoded-good (a .s .now) (a .out .now) (f .last .0) _ (g .0 .0) (sym (g .1) ∙ c .before .before .before .before .before .before .before .before .before .before .before .measure .ensures) (f .kept .0) (c .before .before .place .ensures)
 
 returns-2 : tie.Need-returns-2
 returns-2 c =
@@ -49,7 +49,7 @@ decode-spec =
     measure-requires
     enum-known-e
     fill-requires
-    blanks-requires
+    place-requires
     enum-known-k
     same-length
     returns

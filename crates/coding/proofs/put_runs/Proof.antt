@@ -1,15 +1,26 @@
--- `coding::put_runs` meets its contract. The invariant: the code from i on, stored from at on, gives the whole code stored.
+-- `coding::put_runs` meets its contract. The invariant: the code from i on, stored from at on, gives the whole code stored. That of the scan: k blanks
+-- of the run are passed, and x does not end behind them.
 use mathlib.Core.Path.{_≡_, refl, sym, _∙_}
+use mathlib.Core.Logic.{⊎-elim}
 use mathlib.Core.Bool.{true, false}
 use Prim.Native.Nat.{_≤_, _<_, _+_, _-_, _*_}
+use native.Mathlib.Nat.{add-zero}
 use native.Mathlib.Omega.{arith}
-use lib.ListN.{length}
+use lib.ListN.{length, getD, drop}
 use lib.Seq.{sets}
 use borrow.Author.Needs.{needs}
-use Rattle.coding.specs.Encode.{gapAt, runsCode}
-use Rattle.coding.proofs.Writer.{Rest, rest-end, run-size, turn-gap, turn-characters}
+use Rattle.geometry.specs.Sizes.{blank}
+use Rattle.coding.specs.Encode.{gapAt, runLength, runsCode}
+use Rattle.coding.proofs.Runs.{gap-second}
+use Rattle.coding.proofs.Writer.{Before, Scanned, scan-none, scan-full, scan-other, gap-none, gap-more, Rest, rest-end, run-size, turn-gap, turn-characters}
 use Rattle.coding.proofs.put_runs.Statement.{statement}
 use Rattle.coding.proofs.put_runs.Tie as tie
+
+abbrev Inv-run : tie.InvT-run
+Inv-run x out i at k₀ k = (k ≤ 127) × (i + k < length x) × (Before x (i + k) ≡ blank) × Scanned x true i k
+
+abbrev μ-run : tie.MeasureT-run
+μ-run x out i at k₀ k = 127 - k
 
 abbrev Inv-loop : tie.InvT-loop
 Inv-loop x out₀ i₀ at₀ out i at = (i ≤ length x) × (at ≤ 2 * i) × (length out ≡ length out₀) × (at + length (Rest x i) ≡ length (runsCode 0 0 x)) × (sets out at (Rest x i) ≡ sets out₀ 0 (runsCode 0 0 x))
@@ -17,66 +28,113 @@ Inv-loop x out₀ i₀ at₀ out i at = (i ≤ length x) × (at ≤ 2 * i) × (l
 abbrev μ-loop : tie.MeasureT-loop
 μ-loop x out₀ i₀ at₀ out i at = length x - i
 
-loop-holds : tie.Need-loop-holds Inv-loop μ-loop
+loop-holds : tie.Need-loop-holds Inv-run μ-run Inv-loop μ-loop
 loop-holds c = (omega arith, omega arith, refl, omega arith, refl)
 
-in-gap-requires : tie.Need-in-gap-requires Inv-loop μ-loop
+in-gap-requires : tie.Need-in-gap-requires Inv-run μ-run Inv-loop μ-loop
 in-gap-requires c κs = (omega arith, c .before .before .before .before .pre)
 
 -- ---- a run of blanks
 
-gap-length-requires : tie.Need-gap-length-requires Inv-loop μ-loop
-gap-length-requires c κs = (omega arith, sym (c .before .in-gap .ensures) ∙ c .if1 .taken, c .before .before .before .before .before .before .pre)
+-- a blank run begins
+begun : (c : tie.Then1 Inv-run μ-run Inv-loop μ-loop) → let l = c .before .before .before in gapAt (l .before .before .before .args .x .now) (l .loop .i) ≡ true
+begun c = sym (c .before .in-gap .ensures) ∙ c .if1 .taken
 
-blanks : (c : tie.After-gap-length Inv-loop μ-loop)
-    → let l = c .before .before .before .before in
+run-holds : tie.Need-run-holds Inv-run μ-run Inv-loop μ-loop
+run-holds c =
+    let l = c .before .before .before in
+    let t = l .before .before .before in
+    let x = t .args .x .now in
+    let m = gap-more x (l .loop .i) 0 (t .pre) (omega arith) (omega arith) (rw add-zero (begun c)) (scan-none x true (l .loop .i)) in
+    (omega arith, m .0, m .1, m .2)
+
+add-if3 : tie.Need-add-if3 Inv-run μ-run Inv-loop μ-loop
+add-if3 c = omega arith
+
+shared-slice-read-if3 : tie.Need-shared-slice-read-if3 Inv-run μ-run Inv-loop μ-loop
+shared-slice-read-if3 c = omega arith
+
+add-k : tie.Need-add-k Inv-run μ-run Inv-loop μ-loop
+add-k c = omega arith
+
+run-less : tie.Need-run-less Inv-run μ-run Inv-loop μ-loop
+run-less c = omega arith
+
+run-again : tie.Need-run-again Inv-run μ-run Inv-loop μ-loop
+run-again c =
+    let r = c .before .before .before in
+    let l = r .before .before .before .before in
+    let t = l .before .before .before in
+    let x = t .args .x .now in
+    let i = l .loop .i in
+    let j = i + r .run .k in
+    let m = gap-more x i (r .run .k) (t .pre) (omega arith) (omega arith) (gap-second (Before x j) (getD x j 0) (drop (j + 1) x) (r .run .inv .2) (c .if3 .left)) (r .run .inv .3) in
+    (omega arith, m .0, m .1, m .2)
+
+-- the scan was left at the run's end
+scanned : (c : tie.Joined2 Inv-run μ-run Inv-loop μ-loop)
+    → let l = c .before .before .before .before .before in
     let x = l .before .before .before .args .x .now in
-    let n = c .gap-length .result in
+    c .if2 .n ≡ runLength 127 true (Before x (l .loop .i)) (drop (l .loop .i) x)
+scanned c =
+    let r = c .before in
+    let l = r .before .before .before .before in
+    let x = l .before .before .before .args .x .now in
+    let i = l .loop .i in
+    ⊎-elim
+    (λ w. w .1 ∙ scan-full x true i (r .run .k) (r .run .inv .3) (omega (arith, w .0 .taken)))
+    (λ w. w .3 ∙ scan-other x true i (r .run .k) (r .run .inv .3) (omega (arith, w .0 .left)) (omega arith) (sym (gap-none x (i + r .run .k) (w .2 .taken))))
+    (c .if2 .came)
+
+blanks : (c : tie.Joined2 Inv-run μ-run Inv-loop μ-loop)
+    → let l = c .before .before .before .before .before in
+    let x = l .before .before .before .args .x .now in
+    let n = c .if2 .n in
     (gapAt x (l .loop .i) ≡ true) × (0 < n) × (n ≤ 127) × (l .loop .i + n ≤ length x)
 blanks c =
-    let l = c .before .before .before .before in
-    let is = sym (c .before .before .in-gap .ensures) ∙ c .before .if1 .taken in
-    let e = c .gap-length .ensures in
+    let l = c .before .before .before .before .before in
+    let is = begun (c .before .before) in
+    let e = scanned c in
     let s = run-size (l .before .before .before .args .x .now) (l .loop .i) (omega arith) true is in
     (is, omega arith, omega arith, omega arith)
 
-add-put : tie.Need-add-put Inv-loop μ-loop
-add-put c = let s = blanks (c .before) in omega arith
+add-put : tie.Need-add-put Inv-run μ-run Inv-loop μ-loop
+add-put c = let s = blanks (c .before .before) in omega arith
 
-cast-put : tie.Need-cast-put Inv-loop μ-loop
-cast-put c = let s = blanks (c .before) in omega arith
+cast-put : tie.Need-cast-put Inv-run μ-run Inv-loop μ-loop
+cast-put c = let s = blanks (c .before .before) in omega arith
 
-put-requires : tie.Need-put-requires Inv-loop μ-loop
+put-requires : tie.Need-put-requires Inv-run μ-run Inv-loop μ-loop
 put-requires c κs = search needs
 
-add-i : tie.Need-add-i Inv-loop μ-loop
-add-i c = let s = blanks (c .before .before .before .before) in omega arith
+add-i : tie.Need-add-i Inv-run μ-run Inv-loop μ-loop
+add-i c = let s = blanks (c .before .before .before .before .before) in omega arith
 
-add-at : tie.Need-add-at Inv-loop μ-loop
-add-at c = let s = blanks (c .before .before .before .before) in omega arith
+add-at : tie.Need-add-at Inv-run μ-run Inv-loop μ-loop
+add-at c = let s = blanks (c .before .before .before .before .before) in omega arith
 
-loop-less : tie.Need-loop-less Inv-loop μ-loop
-loop-less c = let s = blanks (c .before .before .before .before) in omega arith
+loop-less : tie.Need-loop-less Inv-run μ-run Inv-loop μ-loop
+loop-less c = let s = blanks (c .before .before .before .before .before) in omega arith
 
-loop-again : tie.Need-loop-again Inv-loop μ-loop
+loop-again : tie.Need-loop-again Inv-run μ-run Inv-loop μ-loop
 loop-again c =
-    let g = c .before .before .before .before in
-    let l = g .before .before .before .before in
+    let g = c .before .before .before .before .before in
+    let l = g .before .before .before .before .before in
     let p = c .before .before .put in
-    let t = turn-gap (l .before .before .before .args .x .now) (l .loop .out) (l .loop .i) (l .loop .at) _ _ (omega arith) (l .loop .inv .1) (l .loop .inv .3) (l .loop .inv .4) (g .gap-length .result) (p .last .0) (blanks g .0) (g .gap-length .ensures) (p .ensures) in
+    let t = turn-gap (l .before .before .before .args .x .now) (l .loop .out) (l .loop .i) (l .loop .at) _ _ (omega arith) (l .loop .inv .1) (l .loop .inv .3) (l .loop .inv .4) (g .if2 .n) (p .last .0) (blanks g .0) (scanned g) (p .ensures) in
     (t .0, t .1, p .kept .0 ∙ l .loop .inv .2, t .2, t .3)
 
 -- ---- a run of characters
 
-add-put-characters : tie.Need-add-put-characters Inv-loop μ-loop
+add-put-characters : tie.Need-add-put-characters Inv-run μ-run Inv-loop μ-loop
 add-put-characters c = omega arith
 
-put-characters-requires : tie.Need-put-characters-requires Inv-loop μ-loop
+put-characters-requires : tie.Need-put-characters-requires Inv-run μ-run Inv-loop μ-loop
 put-characters-requires c κs =
     let g = c .before .before in
     (omega arith, sym (g .in-gap .ensures) ∙ c .before .if1 .left, g .before .before .before .before .before .pre, omega arith)
 
-characters : (c : tie.After-put-characters Inv-loop μ-loop)
+characters : (c : tie.After-put-characters Inv-run μ-run Inv-loop μ-loop)
     → let l = c .before .before .before .before .before in
     let x = l .before .before .before .args .x .now in
     let n = c .put-characters .result in
@@ -88,25 +146,25 @@ characters c =
     let s = run-size (l .before .before .before .args .x .now) (l .loop .i) (omega arith) false is in
     (is, omega arith, omega arith, omega arith)
 
-cast-put-2 : tie.Need-cast-put-2 Inv-loop μ-loop
+cast-put-2 : tie.Need-cast-put-2 Inv-run μ-run Inv-loop μ-loop
 cast-put-2 c = let s = characters (c .before .before .before) in omega arith
 
-put-requires-2 : tie.Need-put-requires-2 Inv-loop μ-loop
+put-requires-2 : tie.Need-put-requires-2 Inv-run μ-run Inv-loop μ-loop
 put-requires-2 c κs = search needs
 
-add-i-2 : tie.Need-add-i-2 Inv-loop μ-loop
+add-i-2 : tie.Need-add-i-2 Inv-run μ-run Inv-loop μ-loop
 add-i-2 c = let s = characters (c .before .before .before .before .before .before) in omega arith
 
-add-at-2 : tie.Need-add-at-2 Inv-loop μ-loop
+add-at-2 : tie.Need-add-at-2 Inv-run μ-run Inv-loop μ-loop
 add-at-2 c = let s = characters (c .before .before .before .before .before .before) in omega arith
 
-add-at-3 : tie.Need-add-at-3 Inv-loop μ-loop
+add-at-3 : tie.Need-add-at-3 Inv-run μ-run Inv-loop μ-loop
 add-at-3 c = let s = characters (c .before .before .before .before .before .before) in omega arith
 
-loop-less-2 : tie.Need-loop-less-2 Inv-loop μ-loop
+loop-less-2 : tie.Need-loop-less-2 Inv-run μ-run Inv-loop μ-loop
 loop-less-2 c = let s = characters (c .before .before .before .before .before .before) in omega arith
 
-loop-again-2 : tie.Need-loop-again-2 Inv-loop μ-loop
+loop-again-2 : tie.Need-loop-again-2 Inv-run μ-run Inv-loop μ-loop
 loop-again-2 c =
     let g = c .before .before .before .before .before .before in
     let l = g .before .before .before .before .before in
@@ -117,16 +175,16 @@ loop-again-2 c =
 
 -- ---- the end
 
-put-requires-3 : tie.Need-put-requires-3 Inv-loop μ-loop
+put-requires-3 : tie.Need-put-requires-3 Inv-run μ-run Inv-loop μ-loop
 put-requires-3 c κs = search needs
 
-add-result : tie.Need-add-result Inv-loop μ-loop
+add-result : tie.Need-add-result Inv-run μ-run Inv-loop μ-loop
 add-result c = omega arith
 
-same-length : tie.Need-same-length Inv-loop μ-loop
+same-length : tie.Need-same-length Inv-run μ-run Inv-loop μ-loop
 same-length c = c .before .before .put3 .kept .0 ∙ c .before .before .before .before .before .loop .inv .2
 
-returns : tie.Need-returns Inv-loop μ-loop
+returns : tie.Need-returns Inv-run μ-run Inv-loop μ-loop
 returns c =
     let l = c .before .before .before .before .before in
     let x = l .before .before .before .args .x .now in
@@ -138,11 +196,18 @@ pub put-runs-spec : {M : Type 1} → statement M
 put-runs-spec =
     tie.close
     (tie.spec
+    Inv-run
+    μ-run
     Inv-loop
     μ-loop
     loop-holds
     in-gap-requires
-    gap-length-requires
+    run-holds
+    add-if3
+    shared-slice-read-if3
+    add-k
+    run-less
+    run-again
     add-put
     cast-put
     put-requires

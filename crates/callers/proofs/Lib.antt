@@ -1,0 +1,10 @@
+pub mod Read
+pub mod Next
+pub mod Start
+pub mod Bytes
+pub mod Held
+pub mod Called
+pub mod Runs
+pub mod Demands
+pub mod Lent
+pub mod Calls

@@ -1,0 +1,58 @@
+-- What C sees of a run of its calls, from a mounting on: each a request by its code, on the image and the session's bytes that the one before it left.
+-- Definitions only.
+use mathlib.Core.Path.{_≡_}
+use mathlib.Core.Bool.{Bool, true}
+use mathlib.Core.List.{List, [], _∷_, map}
+use Prim.Native.Nat.{ℕ}
+use lib.ListN.{length}
+use Rattle.geometry.specs.Bytes.{part}
+use Rattle.geometry.specs.Lists.{numbersFrom}
+use Rattle.geometry.specs.Sizes.{entries}
+use Rattle.mounting.specs.Mounting.{mounts}
+use Rattle.requests.specs.Codes.{askedFor}
+use Rattle.tapes.specs.Model.{Asked, Report, modelsOf, modelReports}
+use Rattle.board.specs.Board as board
+use Rattle.demands.specs.Engine.{Standing, taken}
+use Rattle.callers.specs.Lent.{lentEngine}
+use Rattle.requests.specs.declared.Asked.the-variants.{For}
+use Rattle.requests.specs.declared.Request.{Request}
+use Rattle.requests.specs.declared.Request.the-variants.{Open, Read, Write, GranuleRead, GranuleWrite, GranuleLook, Position}
+use Rattle.sessions.specs.declared.BufferedSession.{BufferedSession}
+
+module _ {S : Type 0} (B : board.Engine S) where
+  -- what the request call answers and leaves
+  abbrev pub call : Standing (List ℕ) → Asked → board.Left
+  call w a = board.requested B (w .image) (w .session) (a .entry) (For (a .request)) (a .given) (a .buffer)
+
+  -- the part of the image that the look call tells, if a look is asked for
+  unfoldable pub toldBy : List ℕ → List ℕ → ℕ → Request → List ℕ
+  toldBy image b i Open = []
+  toldBy image b i Read = []
+  toldBy image b i Write = []
+  toldBy image b i (GranuleRead g) = []
+  toldBy image b i (GranuleWrite g) = []
+  toldBy image b i (GranuleLook g) = part image (board.lookPlace B image b i g 0) (board.lookSize B image b i g)
+  toldBy image b i (Position o) = []
+
+  -- the number, the buffer, what is shown, and where the position call then says that each file stands
+  unfoldable pub callReport : Standing (List ℕ) → Asked → Report
+  callReport w a = record {
+    number = call w a .number;
+    buffer = call w a .buffer;
+    shown = toldBy (w .image) (w .session) (a .entry) (a .request);
+    spots = map (B .spot (B .read (call w a .session))) (numbersFrom 0 entries);
+  }
+
+  unfoldable pub callReports : Standing (List ℕ) → List Asked → List Report
+  callReports w [] = []
+  callReports w (a ∷ rest) = callReport w a ∷ callReports (record { image = call w a .image; session = call w a .session }) rest
+
+-- demand 2, of the calls: a mounting on as many bytes as a session takes answers 0, and the run behind it is that of the tapes and rows
+pub record Calling {S : Type 0} (seen : S → BufferedSession) (B : board.Engine S) (takes : List ℕ → Bool) : Type 0 where
+  pub mounting : (image b : List ℕ) → length b ≡ B .size → mounts image ≡ true → board.mountNumber B image b ≡ 0
+  pub serves : (image b : List ℕ) → length b ≡ B .size → mounts image ≡ true → (asked : List Asked) → taken (lentEngine seen B takes) image asked ≡ true
+      → callReports B (record { image = image; session = board.mountBytes B image b }) asked ≡ modelReports (modelsOf image) asked
+
+-- and every request has a code, by which C names it
+pub record Coded : Type 0 where
+  pub named : (q : Request) → (code : ℕ) × (g : ℕ) × (askedFor code g ≡ For q)

@@ -1,0 +1,265 @@
+-- A granule that is written reads back and is shown, and no other granule changes: of every faithful engine, since it is so of the rows.
+use mathlib.Core.Path.{_≡_, refl, sym, ap, _∙_}
+use mathlib.Core.Bool.{true, false}
+use mathlib.Core.List.{List, [], _∷_, _++_, append-nil}
+use Prim.Native.Nat.{ℕ, zero, suc, _+_, _≤_, _<_}
+use native.Mathlib.Omega.{arith}
+use native.Mathlib.Decide.{decLt}
+use lib.Dec.{eqb}
+use lib.ListN.{length, set, length-append, drop-of-length-le, List·getD-eq-default}
+use lib.Seq.{getD-set-same, getD-set-other}
+use borrow.Author.Tests.{eqb-true, lt-leb, le-ltb}
+use Rattle.geometry.specs.Bytes.{lay, padded}
+use Rattle.geometry.specs.Places.{capacity}
+use Rattle.geometry.specs.Sizes.{free, random}
+use Rattle.geometry.proofs.Bytes.{lay-fits, length-padded}
+use Rattle.geometry.proofs.Tests.{either}
+use Rattle.directory.specs.Entries.{isFree, isKind}
+use Rattle.directory.specs.declared.Entry.{Entry}
+use Rattle.requests.specs.Judge.{judge, tests, firstOf, orElse, whether}
+use Rattle.requests.proofs.Done.{WritesGranule, done-allows}
+use Rattle.mounting.specs.Mounting.{mounts}
+use Rattle.tapes.specs.Row.{Row, granulesIn, rowFacts, rowDone, rowNext, rowHolding, granule}
+use Rattle.tapes.specs.Tape.{Shape}
+use Rattle.tapes.specs.Model.{Model, nothing, tape, row, Asked, shapeOf, modelAt, modelsOf, modelFacts, modelNext, modelGranule, modelInto, modelShown, modelAnswer, modelStep, modelRun, openModels, ifDone}
+use Rattle.serving.proofs.Solo.{shows}
+use Rattle.serving.proofs.Step.{asked}
+use Rattle.serving.proofs.View.{showsAt}
+use Rattle.demands.specs.Engine.{Engine, Standing, shownBy, answered, run, mounted, taken}
+use Rattle.demands.specs.Demand2.{Faithful, GranuleBack, granuleWriting, granuleReading}
+use Rattle.demands.proofs.Answers.{run-append, taken-one, takes-none, same-answer, same-buffer, same-shown}
+use Rattle.demands.proofs.Plain.{then-shows}
+use Rattle.requests.specs.declared.Answer.{Answer}
+use Rattle.requests.specs.declared.Answer.the-variants.{Done}
+use Rattle.requests.specs.declared.Facts.{Facts}
+use Rattle.requests.specs.declared.Request.{Request}
+use Rattle.requests.specs.declared.Request.the-variants.{GranuleRead, GranuleWrite, GranuleLook}
+use Rattle.sessions.specs.declared.OpenFile.{OpenFile}
+
+-- a whole buffer laid over
+pub lay-whole : (buffer xs : List ℕ) → length xs ≡ length buffer → lay buffer 0 xs ≡ xs
+lay-whole buffer xs e =
+    lay-fits buffer 0 xs (omega arith) ∙ ap (λ (r : List ℕ). xs ++ r) (drop-of-length-le buffer {i = 0 + length xs} (omega arith)) ∙ append-nil xs
+
+-- ---- as many granules as there is room for
+
+length-granules : (s : Shape) (bytes : List ℕ) (n : ℕ) → length (granulesIn s bytes n) ≡ n
+unfolding granulesIn
+length-granules s bytes zero = refl
+length-granules s bytes (suc n) = length-append (granulesIn s bytes n) _ ∙ ap (λ (k : ℕ). k + 1) (length-granules s bytes n) ∙ omega arith
+
+manyOf : Model → ℕ
+manyOf nothing = 0
+manyOf (tape t) = 0
+manyOf (row w) = length (w .granules)
+
+roomOf : Model → ℕ
+roomOf nothing = 0
+roomOf (tape t) = 0
+roomOf (row w) = capacity random (w .shape .recordLength) (w .shape .sectors)
+
+shows-many : (e : Entry) (f : OpenFile) (bytes : List ℕ) → manyOf (shows e f bytes) ≡ roomOf (shows e f bytes)
+unfolding shows manyOf roomOf shapeOf
+shows-many e f bytes =
+    either (isFree e) (λ (u : isFree e ≡ true). rw (u, shows))
+    λ (u : isFree e ≡ false). either (isKind random e)
+    (λ (r : isKind random e ≡ true). rw (u, r, shows) (length-granules (shapeOf e) bytes (capacity random (e .length) (e .sectors))))
+    (λ (r : isKind random e ≡ false). rw (u, r, shows))
+
+row-many : (image : List ℕ) (ok : mounts image ≡ true) (before : List Asked) (i : ℕ) (w : Row) → modelAt (modelRun (modelsOf image) before) i ≡ row w
+    → length (w .granules) ≡ capacity random (w .shape .recordLength) (w .shape .sectors)
+unfolding showsAt manyOf roomOf
+row-many image ok before i w e =
+    let z = sym (then-shows image ok before i) ∙ e in
+    ap manyOf (sym z) ∙ shows-many _ _ _ ∙ ap roomOf z
+
+-- ---- one request on a row
+
+module _ (ms : List Model) (i : ℕ) (w : Row) (e : modelAt ms i ≡ row w) where
+  there : i < length ms
+  there = go (decLt i (length ms))
+    where
+      go : Dec (i < length ms) → i < length ms
+      go (yes h) = h
+      go (no h) =
+          let z : nothing ≡ row w = sym (List·getD-eq-default ms nothing {n = i} (omega arith)) ∙ e in
+          absurd (let o : _≡_ {A = ℕ} 0 1 = cc in omega arith)
+
+  module _ (q : Request) (given buffer : List ℕ) where
+    row-answer : modelAnswer ms (asked i q given buffer) ≡ judge q (rowFacts (openModels ms) given (length buffer) w)
+    unfolding modelAnswer modelFacts
+    row-answer = rw e
+
+    row-step : judge q (rowFacts (openModels ms) given (length buffer) w) ≡ Done → modelAt (modelStep ms (asked i q given buffer)) i ≡ row (rowDone q given w)
+    unfolding modelStep modelNext rowNext
+    row-step d = getD-set-same ms i _ nothing there ∙ rw (row-answer, d, e)
+
+-- ---- the requests behind the write
+
+module _ (f : Facts) (legal : f .legal ≡ true) (used : eqb (f .kind) free ≡ false) (opened : f .opened ≡ true) (isRandom : eqb (f .kind) random ≡ true)
+    (g : ℕ) (room : g < capacity (f .kind) (f .length) (f .sectors)) where
+  finds : judge (GranuleLook g) f ≡ Done
+  unfolding judge tests firstOf orElse whether
+  finds = rw (legal, used, opened, isRandom, lt-leb (capacity (f .kind) (f .length) (f .sectors)) g room)
+
+  reads : f .length ≤ f .buffer → judge (GranuleRead g) f ≡ Done
+  unfolding judge tests firstOf orElse whether
+  reads h = rw (legal, used, opened, isRandom, le-ltb (f .buffer) (f .length) h, lt-leb (capacity (f .kind) (f .length) (f .sectors)) g room)
+
+-- how many files are open is nothing to a granule's request, nor what its granules are
+same-read : (w : Row) (n m : ℕ) (gs : List (List ℕ)) (h size : ℕ) → w .isOpen ≡ true
+    → judge (GranuleRead h) (rowFacts n [] size (rowHolding w true gs)) ≡ judge (GranuleRead h) (rowFacts m [] size w)
+unfolding judge tests firstOf orElse whether rowFacts
+same-read w n m gs h size o = rw o
+
+same-look : (w : Row) (n m : ℕ) (gs : List (List ℕ)) (h : ℕ) → w .isOpen ≡ true
+    → judge (GranuleLook h) (rowFacts n [] 0 (rowHolding w true gs)) ≡ judge (GranuleLook h) (rowFacts m [] 0 w)
+unfolding judge tests firstOf orElse whether rowFacts
+same-look w n m gs h o = rw o
+
+module _ (E : Engine) (faithful : Faithful E) (image : List ℕ) (ok : mounts image ≡ true) (before : List Asked) (i g : ℕ) (w : Row) (fit : taken E image before ≡ true)
+    (here : modelAt (modelRun (modelsOf image) before) i ≡ row w) (given : List ℕ) (takes : E .takes given ≡ true)
+    (done : answered E (run E (mounted E image) before) (granuleWriting i g given) .answer ≡ Done) where
+  abbrev ms : List Model
+  ms = modelRun (modelsOf image) before
+
+  abbrev R : ℕ
+  R = w .shape .recordLength
+
+  written : taken E image (before ++ (granuleWriting i g given ∷ [])) ≡ true
+  written = taken-one E image before (granuleWriting i g given) fit takes
+
+  judged : judge (GranuleWrite g) (rowFacts (openModels ms) given 0 w) ≡ Done
+  judged = sym (row-answer ms i w here (GranuleWrite g) given []) ∙ sym (same-answer E faithful image ok before (granuleWriting i g given) written) ∙ done
+
+  allowed : WritesGranule g (rowFacts (openModels ms) given 0 w)
+  allowed = done-allows (GranuleWrite g) _ judged
+
+  opened : w .isOpen ≡ true
+  unfolding rowFacts
+  opened = allowed .finds .live .opened
+
+  used : eqb (w .shape .kind) free ≡ false
+  unfolding rowFacts
+  used = allowed .finds .live .used
+
+  isRandom : eqb (w .shape .kind) random ≡ true
+  unfolding rowFacts
+  isRandom = allowed .finds .random
+
+  room : g < capacity (w .shape .kind) R (w .shape .sectors)
+  unfolding rowFacts
+  room = allowed .finds .there
+
+  short : length given ≤ R
+  unfolding rowFacts
+  short = allowed .short
+
+  inside : g < length (w .granules)
+  inside =
+      let k : w .shape .kind ≡ random = eqb-true (w .shape .kind) random isRandom in
+      let c : capacity (w .shape .kind) R (w .shape .sectors) ≡ capacity random R (w .shape .sectors) = ap (λ (n : ℕ). capacity n R (w .shape .sectors)) k in
+      omega (arith, room, row-many image ok before i w here)
+
+  -- behind the write
+  abbrev gs : List (List ℕ)
+  gs = set (w .granules) g (padded 0 R given)
+
+  abbrev w′ : Row
+  w′ = rowHolding w true gs
+
+  abbrev after : List Asked
+  after = before ++ (granuleWriting i g given ∷ [])
+
+  abbrev ms′ : List Model
+  ms′ = modelRun (modelsOf image) after
+
+  here′ : modelAt ms′ i ≡ row w′
+  unfolding modelRun rowDone
+  here′ =
+      ap (λ (x : List Model). modelAt x i) (run-append (modelsOf image) before (granuleWriting i g given ∷ []))
+      ∙ row-step ms i w here (GranuleWrite g) given [] judged
+
+  abbrev v : Standing (E .Session)
+  v = run E (mounted E image) before
+
+  abbrev v′ : Standing (E .Session)
+  v′ = run E (mounted E image) after
+
+  read-taken : (asked : List Asked) → taken E image asked ≡ true → (h : ℕ) (buffer : List ℕ) → taken E image (asked ++ (granuleReading i h buffer ∷ [])) ≡ true
+  read-taken asked t h buffer = taken-one E image asked (granuleReading i h buffer) t (takes-none E faithful)
+
+  abbrev looking : ℕ → Asked
+  looking h = record { entry = i; request = GranuleLook h; given = []; buffer = [] }
+
+  look-taken : (asked : List Asked) → taken E image asked ≡ true → (h : ℕ) → taken E image (asked ++ (looking h ∷ [])) ≡ true
+  look-taken asked t h = taken-one E image asked (looking h) t (takes-none E faithful)
+
+  -- what a read answers and gives, and what a look shows, before and behind
+  answer-before : (h : ℕ) (buffer : List ℕ) → answered E v (granuleReading i h buffer) .answer ≡ judge (GranuleRead h) (rowFacts (openModels ms) [] (length buffer) w)
+  answer-before h buffer = same-answer E faithful image ok before (granuleReading i h buffer) (read-taken before fit h buffer) ∙ row-answer ms i w here (GranuleRead h) [] buffer
+
+  answer-behind : (h : ℕ) (buffer : List ℕ) → answered E v′ (granuleReading i h buffer) .answer ≡ judge (GranuleRead h) (rowFacts (openModels ms′) [] (length buffer) w′)
+  answer-behind h buffer = same-answer E faithful image ok after (granuleReading i h buffer) (read-taken after written h buffer) ∙ row-answer ms′ i w′ here′ (GranuleRead h) [] buffer
+
+  buffer-before : (h : ℕ) (buffer : List ℕ) → answered E v (granuleReading i h buffer) .buffer
+      ≡ lay buffer 0 (ifDone (judge (GranuleRead h) (rowFacts (openModels ms) [] (length buffer) w)) (granule w h))
+  unfolding modelInto modelGranule
+  buffer-before h buffer =
+      same-buffer E faithful image ok before (granuleReading i h buffer) (read-taken before fit h buffer)
+      ∙ rw (row-answer ms i w here (GranuleRead h) [] buffer, here)
+
+  buffer-behind : (h : ℕ) (buffer : List ℕ) → answered E v′ (granuleReading i h buffer) .buffer
+      ≡ lay buffer 0 (ifDone (judge (GranuleRead h) (rowFacts (openModels ms′) [] (length buffer) w′)) (granule w′ h))
+  unfolding modelInto modelGranule
+  buffer-behind h buffer =
+      same-buffer E faithful image ok after (granuleReading i h buffer) (read-taken after written h buffer)
+      ∙ rw (row-answer ms′ i w′ here′ (GranuleRead h) [] buffer, here′)
+
+  shown-before : (h : ℕ) → E .look (v .image) (v .session) i h ≡ ifDone (judge (GranuleLook h) (rowFacts (openModels ms) [] 0 w)) (granule w h)
+  unfolding shownBy modelShown modelGranule
+  shown-before h =
+      same-shown E faithful image ok before (looking h) (look-taken before fit h) ∙ rw (row-answer ms i w here (GranuleLook h) [] [], here)
+
+  shown-behind : (h : ℕ) → E .look (v′ .image) (v′ .session) i h ≡ ifDone (judge (GranuleLook h) (rowFacts (openModels ms′) [] 0 w′)) (granule w′ h)
+  unfolding shownBy modelShown modelGranule
+  shown-behind h =
+      same-shown E faithful image ok after (looking h) (look-taken after written h) ∙ rw (row-answer ms′ i w′ here′ (GranuleLook h) [] [], here′)
+
+  -- the granules behind the write
+  granule-new : granule w′ g ≡ padded 0 R given
+  unfolding granule
+  granule-new = getD-set-same (w .granules) g (padded 0 R given) [] inside
+
+  granule-old : (h : ℕ) → ¬ (h ≡ g) → granule w′ h ≡ granule w h
+  unfolding granule
+  granule-old h n = getD-set-other (w .granules) g h (padded 0 R given) [] n
+
+  read-done : (buffer : List ℕ) → length buffer ≡ R → judge (GranuleRead g) (rowFacts (openModels ms′) [] (length buffer) w′) ≡ Done
+  unfolding rowFacts
+  read-done buffer size = reads _ refl used refl isRandom g room (omega arith)
+
+  look-done : judge (GranuleLook g) (rowFacts (openModels ms′) [] 0 w′) ≡ Done
+  unfolding rowFacts
+  look-done = finds _ refl used refl isRandom g room
+
+  pub granule-back : GranuleBack E v v′ i g R given
+  unfolding ifDone
+  granule-back = record {
+    reads = λ buffer size. (
+      answer-behind g buffer ∙ read-done buffer size,
+      buffer-behind g buffer ∙ rw (read-done buffer size, granule-new) (lay-whole buffer (padded 0 R given) (length-padded 0 R given short ∙ sym size)),
+    );
+    shows = shown-behind g ∙ rw (look-done, granule-new);
+    others = λ h n buffer. (
+      answer-behind h buffer ∙ same-read w (openModels ms′) (openModels ms) gs h (length buffer) opened ∙ sym (answer-before h buffer),
+      buffer-behind h buffer
+          ∙ ap (λ (a : Answer). lay buffer 0 (ifDone a (granule w′ h))) (same-read w (openModels ms′) (openModels ms) gs h (length buffer) opened)
+          ∙ ap (λ (x : List ℕ). lay buffer 0 (ifDone (judge (GranuleRead h) (rowFacts (openModels ms) [] (length buffer) w)) x)) (granule-old h n)
+          ∙ sym (buffer-before h buffer),
+      shown-behind h
+          ∙ ap (λ (a : Answer). ifDone a (granule w′ h)) (same-look w (openModels ms′) (openModels ms) gs h opened)
+          ∙ ap (λ (x : List ℕ). ifDone (judge (GranuleLook h) (rowFacts (openModels ms) [] 0 w)) x) (granule-old h n)
+          ∙ sym (shown-before h),
+    );
+  }

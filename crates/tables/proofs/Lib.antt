@@ -1,0 +1,8 @@
+pub mod Numbers
+pub mod Widths
+pub mod Rows
+pub mod Entries
+pub mod Tables
+pub mod Laid
+pub mod Laws
+pub mod Changed

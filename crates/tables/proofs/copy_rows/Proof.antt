@@ -1,0 +1,92 @@
+-- `tables::copy_rows` meets its contract: each entry is laid behind those before it.
+use Prim.Native.Nat.{_-_, _*_, _≤_, _<_}
+use mathlib.Core.Path.{_≡_, refl, sym, ap, _∙_}
+use native.Mathlib.Omega.{arith}
+use lib.ListN.{length, take}
+use lib.Seq.{take-all}
+use Rattle.geometry.specs.Bytes.{lay}
+use Rattle.geometry.proofs.Bytes.{length-lay}
+use Rattle.directory.specs.Entries.{freeEntry}
+use Rattle.tables.specs.Rows.{rowOf}
+use Rattle.tables.specs.Tables.{entryOf, entriesIn}
+use Rattle.tables.proofs.Widths.{below, one-on}
+use Rattle.tables.proofs.Rows.{laid-none, size-none, turn}
+use Rattle.tables.proofs.Tables.{length-entries, entry-is}
+use borrow.Author.Needs.{needs}
+use Rattle.tables.proofs.copy_rows.Statement.{statement}
+use Rattle.tables.proofs.copy_rows.Tie as tie
+
+abbrev Inv-loop : tie.InvT-loop
+Inv-loop out₀ to b from rows at₀ end₀ i₀ out at end i = (out ≡ lay out₀ 0 (rowOf (entryOf to) (take i (entriesIn from rows b)))) × (length (rowOf (entryOf to) (take i (entriesIn from rows b))) ≡ to * i) × (at ≡ from * i) × (end ≡ to * i) × (i ≤ rows) × (length out ≡ length out₀)
+
+abbrev μ-loop : tie.MeasureT-loop
+μ-loop out₀ to b from rows at₀ end₀ i₀ out at end i = rows - i
+
+loop-holds : tie.Need-loop-holds Inv-loop μ-loop
+loop-holds c =
+    let a = c .before .before .args in
+    (laid-none (entryOf (a .to)) (a .out .now) 0 (entriesIn (a .from) (a .rows) (a .b .now)), size-none (entryOf (a .to)) (entriesIn (a .from) (a .rows) (a .b .now)) ∙ omega arith, omega arith, omega arith, omega arith, refl)
+
+entry-at-requires : tie.Need-entry-at-requires Inv-loop μ-loop
+entry-at-requires c κs =
+    let a = c .before .before .before .before .args in
+    let l = c .before .loop in
+    (c .before .before .before .before .pre .1 .0, omega (arith, below (a .from) (l .i) (a .rows) (omega arith)))
+
+put-row-requires : tie.Need-put-row-requires Inv-loop μ-loop
+put-row-requires c κs = search needs
+
+add-at : tie.Need-add-at Inv-loop μ-loop
+add-at c =
+    let a = c .before .before .before .before .before .before .before .before .before .args in
+    let l = c .before .before .before .before .before .before .loop in
+    omega (arith, below (a .from) (l .i) (a .rows) (omega arith))
+
+add-end : tie.Need-add-end Inv-loop μ-loop
+add-end c =
+    let a = c .before .before .before .before .before .before .before .before .before .args in
+    let l = c .before .before .before .before .before .before .loop in
+    omega (arith, below (a .to) (l .i) (a .rows) (omega arith))
+
+add-i : tie.Need-add-i Inv-loop μ-loop
+add-i c = search needs
+
+loop-less : tie.Need-loop-less Inv-loop μ-loop
+loop-less c = search needs
+
+loop-again : tie.Need-loop-again Inv-loop μ-loop
+loop-again c =
+    let a = c .before .before .before .before .before .before .before .before .before .args in
+    let l = c .before .before .before .before .before .before .loop in
+    let h : l .i < a .rows = omega arith in
+    let n : length (entriesIn (a .from) (a .rows) (a .b .now)) ≡ a .rows = length-entries (a .from) (a .rows) (a .b .now) in
+    let e = c .before .before .before .before .entry-at .ensures ∙ sym (entry-is (a .from) (a .rows) (a .b .now) (l .i) (l .at) h (l .inv .2)) in
+    let r = turn (entryOf (a .to)) (a .out .now) (l .out) (c .before .before .put-row .last .0) (entriesIn (a .from) (a .rows) (a .b .now)) (l .i) 0 (a .to * l .i) (a .to) (l .end) freeEntry (omega arith) (omega arith) (l .inv .0) (l .inv .1) (c .before .before .put-row .ensures .0 ∙ ap (λ x. lay (l .out) (l .end) (entryOf (a .to) x)) e) (ap (λ x. length (entryOf (a .to) x)) (sym e) ∙ c .before .before .put-row .ensures .1) (omega (arith, below (a .to) (l .i) (a .rows) h)) in
+    (r .0, r .1 ∙ one-on (a .to) (l .i), omega (arith, one-on (a .from) (l .i)), omega (arith, one-on (a .to) (l .i)), omega arith, ap length (r .0) ∙ length-lay (a .out .now) 0 _)
+
+same-length : tie.Need-same-length Inv-loop μ-loop
+same-length c = c .before .loop .inv .5
+
+returns : tie.Need-returns Inv-loop μ-loop
+returns c =
+    let a = c .before .before .before .before .args in
+    let l = c .before .loop in
+    let n : length (entriesIn (a .from) (a .rows) (a .b .now)) ≡ a .rows = length-entries (a .from) (a .rows) (a .b .now) in
+    l .inv .0 ∙ ap (λ x. lay (a .out .now) 0 (rowOf (entryOf (a .to)) x)) (take-all (l .i) (entriesIn (a .from) (a .rows) (a .b .now)) (omega arith))
+
+pub copy-rows-spec : {M : Type 1} → statement M
+copy-rows-spec =
+    tie.close
+    (tie.spec
+    Inv-loop
+    μ-loop
+    loop-holds
+    entry-at-requires
+    put-row-requires
+    add-at
+    add-end
+    add-i
+    loop-less
+    loop-again
+    same-length
+    returns)

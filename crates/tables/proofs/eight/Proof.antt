@@ -1,0 +1,40 @@
+-- `tables::eight` meets its contract: the number in the last four bytes, 2^32 times, and that in the first four.
+use native.Mathlib.Omega.{arith}
+use Rattle.tables.specs.Numbers.{numberIn}
+use borrow.Author.Needs.{needs}
+use Rattle.tables.proofs.eight.Statement.{statement}
+use Rattle.tables.proofs.eight.Tie as tie
+
+four-requires : tie.Need-four-requires
+four-requires c κs = search needs
+
+cast-result : tie.Need-cast-result
+cast-result c = search needs
+
+four-requires-2 : tie.Need-four-requires-2
+four-requires-2 c κs = search needs
+
+cast-result-2 : tie.Need-cast-result-2
+cast-result-2 c = search needs
+
+mul-result : tie.Need-mul-result
+mul-result c = search needs
+
+add-result : tie.Need-add-result
+add-result c = search needs
+
+returns : tie.Need-returns
+unfolding numberIn
+returns c = omega (arith, c .before .four .ensures, c .four2 .ensures)
+
+pub eight-spec : {M : Type 1} → statement M
+eight-spec =
+    tie.close
+    (tie.spec
+    four-requires
+    cast-result
+    four-requires-2
+    cast-result-2
+    mul-result
+    add-result
+    returns)

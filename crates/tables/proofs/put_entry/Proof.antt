@@ -1,0 +1,65 @@
+-- `tables::put_entry` meets its contract: laid at its place, if there is such a place.
+use Prim.Native.Nat.{_*_, _≤_}
+use mathlib.Core.Path.{_≡_, sym, _∙_}
+use mathlib.Core.Bool.{true}
+use native.Mathlib.Omega.{arith}
+use lib.ListN.{length}
+use Rattle.tables.specs.Tables.{hasRows}
+use Rattle.tables.proofs.Widths.{below, rows-wide, rows-fit}
+use Rattle.tables.proofs.Laid.{row-there, row-not, row-none}
+use borrow.Author.Needs.{needs}
+use Rattle.tables.proofs.put_entry.Statement.{statement}
+use Rattle.tables.proofs.put_entry.Tie as tie
+
+has-rows-requires : tie.Need-has-rows-requires
+has-rows-requires c κs = search needs
+
+mul-put-row : tie.Need-mul-put-row
+mul-put-row c =
+    let a = c .before .before .before .before .before .before .args in
+    let t : hasRows (a .width) (a .rows) (a .b .now) ≡ true = sym (c .before .before .before .has-rows .ensures) ∙ c .before .before .if1 .taken in
+    let k : a .width * a .rows ≤ length (a .b .now) = rows-fit (a .width) (a .rows) (a .b .now) t in
+    omega (arith, below (a .width) (a .i) (a .rows) (omega arith))
+
+put-row-requires : tie.Need-put-row-requires
+put-row-requires c κs =
+    let a = c .before .before .before .before .before .before .args in
+    rows-wide (a .width) (a .rows) (a .b .now) (sym (c .before .before .before .has-rows .ensures) ∙ c .before .before .if1 .taken)
+
+same-length : tie.Need-same-length
+same-length c = search needs
+
+returns : tie.Need-returns
+returns c =
+    let a = c .before .before .before .before .before .before .before .before .before .args in
+    c .before .before .put-row .ensures .0 ∙ sym (row-there (a .width) (a .rows) (a .b .now) (a .i) 0 _ _ (omega arith) (sym (c .before .before .before .before .before .before .has-rows .ensures) ∙ c .before .before .before .before .before .if1 .taken) (c .before .before .before .before .if2 .taken))
+
+same-length-2 : tie.Need-same-length-2
+same-length-2 c = search needs
+
+returns-2 : tie.Need-returns-2
+returns-2 c =
+    let a = c .before .before .before .before .before .args in
+    sym (row-not (a .width) (a .rows) (a .b .now) (a .i) 0 _ (c .if2 .left))
+
+same-length-3 : tie.Need-same-length-3
+same-length-3 c = search needs
+
+returns-3 : tie.Need-returns-3
+returns-3 c =
+    let a = c .before .before .before .before .args in
+    sym (row-none (a .width) (a .rows) (a .b .now) (a .i) 0 _ (sym (c .before .has-rows .ensures) ∙ c .if1 .left))
+
+pub put-entry-spec : {M : Type 1} → statement M
+put-entry-spec =
+    tie.close
+    (tie.spec
+    has-rows-requires
+    mul-put-row
+    put-row-requires
+    same-length
+    returns
+    same-length-2
+    returns-2
+    same-length-3
+    returns-3)
