@@ -1,6 +1,6 @@
--- Entries and open-file states and their bytes: each is read back from the other, field by field.
+-- Open-file states and their bytes: each is read back from the other, field by field.
 use mathlib.Core.Path.{_≡_, refl, sym, ap, _∙_}
-use mathlib.Core.Bool.{true, _&&_}
+use mathlib.Core.Bool.{Bool, true, false, _&&_}
 use mathlib.Core.List.{List, [], _∷_, _++_}
 use Prim.Native.Nat.{ℕ, _+_, _≤_}
 use native.Mathlib.Omega.{arith}
@@ -12,12 +12,13 @@ use Rattle.geometry.specs.Lists.{every}
 use Rattle.geometry.specs.Sizes.{sector}
 use Rattle.geometry.proofs.Tests.{and-left, and-right, all-getD}
 use Rattle.geometry.specs.declared.Place.{Place}
-use Rattle.directory.specs.declared.Entry.{Entry}
+use Rattle.sessions.specs.Session.{fresh}
 use Rattle.sessions.specs.declared.BufferedFile.{BufferedFile}
 use Rattle.sessions.specs.declared.OpenFile.{OpenFile}
-use Rattle.storing.specs.Fits.{fits, areBytes, entryFits, fileFits, heldFits}
-use Rattle.storing.specs.Numbers.{bytesOf, numberIn, flagOf, isSet, isFlag, isByte}
-use Rattle.storing.specs.Stored.{entryWidth, fileWidth, heldWidth, entryStored, entryIn, placeStored, placeIn, fileStored, fileIn, fileFlags, holdStored, heldStored, heldIn, heldFlags}
+use Rattle.storing.specs.Fits.{fits, areBytes, fileFits, heldFits}
+use Rattle.tables.specs.Numbers.{numberIn, isByte}
+use Rattle.storing.specs.Numbers.{bytesOf, flagOf, isSet, isFlag}
+use Rattle.storing.specs.Stored.{fileWidth, heldWidth, width, placeStored, placeIn, fileStored, fileIn, fileFlags, holdStored, holdOf, heldStored, heldIn, heldFlags, stateStored, stateIn, stateFlags}
 use Rattle.storing.proofs.Laid.{length-file, length-hold}
 use Rattle.storing.proofs.Numbers.{length-bytes}
 use Rattle.storing.proofs.Parts.{Stands, cut, number-at, flag-at, set-back, flag-good, flag-same, next, after, number-same}
@@ -25,42 +26,6 @@ use Rattle.storing.proofs.Parts.{Stands, cut, number-at, flag-at, set-b
 pub bytes-size : (n : ℕ) (x : List ℕ) → areBytes n x ≡ true → length x ≡ n
 unfolding areBytes
 bytes-size n x h = eqb-true (length x) n (and-left (eqb (length x) n) (every isByte x) h)
-
--- ---- an entry
-
-module _ (e : Entry) (h : entryFits e ≡ true) (b : List ℕ) (at : ℕ) (s : Stands b at (entryStored e)) where
-  pub entry-back : entryIn b at ≡ e
-  unfolding entryStored entryIn entryFits
-  entry-back =
-      let c₀ = cut b at (e .name) _ 8 (at + 8) (bytes-size 8 (e .name) (all-getD _ 0 h)) refl s in
-      let c₁ = cut b (at + 8) (bytesOf 2 (e .kind)) _ 2 (at + 10) (length-bytes 2 (e .kind)) (omega arith) (c₀ .1) in
-      let c₂ = cut b (at + 10) (bytesOf 2 (e .length)) _ 2 (at + 12) (length-bytes 2 (e .length)) (omega arith) (c₁ .1) in
-      let c₃ = cut b (at + 12) (bytesOf 2 (e .first)) _ 2 (at + 14) (length-bytes 2 (e .first)) (omega arith) (c₂ .1) in
-      let c₄ = cut b (at + 14) (bytesOf 2 (e .sectors)) _ 2 (at + 16) (length-bytes 2 (e .sectors)) (omega arith) (c₃ .1) in
-      let c₅ = cut b (at + 16) (bytesOf 4 (e .count)) _ 4 (at + 20) (length-bytes 4 (e .count)) (omega arith) (c₄ .1) in
-      let c₆ : part b (at + 20) 2 ≡ bytesOf 2 (e .flags) = ap (part b (at + 20)) (sym (length-bytes 2 (e .flags))) ∙ c₅ .1 in
-      rw (
-        c₀ .0,
-        number-at b (at + 8) 2 (e .kind) (all-getD _ 1 h) (c₁ .0),
-        number-at b (at + 10) 2 (e .length) (all-getD _ 2 h) (c₂ .0),
-        number-at b (at + 12) 2 (e .first) (all-getD _ 3 h) (c₃ .0),
-        number-at b (at + 14) 2 (e .sectors) (all-getD _ 4 h) (c₄ .0),
-        number-at b (at + 16) 4 (e .count) (all-getD _ 5 h) (c₅ .0),
-        number-at b (at + 20) 2 (e .flags) (all-getD _ 6 h) c₆,
-      )
-
-module _ (b : List ℕ) (bytes : every isByte b ≡ true) (at : ℕ) where
-  pub entry-same : at + entryWidth ≤ length b → entryStored (entryIn b at) ≡ part b at entryWidth
-  unfolding entryStored entryIn
-  entry-same h =
-      rw (
-        number-same b bytes (at + 8) 2 (omega arith),
-        number-same b bytes (at + 10) 2 (omega arith),
-        number-same b bytes (at + 12) 2 (omega arith),
-        number-same b bytes (at + 14) 2 (omega arith),
-        number-same b bytes (at + 16) 4 (omega arith),
-        number-same b bytes (at + 20) 2 (omega arith),
-      ) (next b at 8 (at + 8) 14 refl (next b (at + 8) 2 (at + 10) 12 (omega arith) (next b (at + 10) 2 (at + 12) 10 (omega arith) (next b (at + 12) 2 (at + 14) 8 (omega arith) (next b (at + 14) 2 (at + 16) 6 (omega arith) (next b (at + 16) 4 (at + 20) 2 (omega arith) refl))))))
 
 -- ---- a place
 
@@ -141,15 +106,15 @@ module _ (b : List ℕ) (bytes : every isByte b ≡ true) (at : ℕ) where
 -- ---- and one with its buffer
 
 module _ (f : BufferedFile) (b : List ℕ) (at : ℕ) (s : Stands b at (heldStored f)) where
-  abbrev d₀ : (part b at 30 ≡ fileStored (f .file)) × Stands b (at + 30) (holdStored (f .holds) (f .held) (f .changed) ++ f .buffer)
+  abbrev d₀ : (part b at 30 ≡ fileStored (f .file)) × Stands b (at + 30) (holdStored (holdOf f) ++ f .buffer)
   unfolding heldStored
   d₀ = cut b at (fileStored (f .file)) _ 30 (at + 30) (length-file (f .file)) refl s
 
-  abbrev d₁ : (part b (at + 30) 6 ≡ holdStored (f .holds) (f .held) (f .changed)) × Stands b (at + 36) (f .buffer)
-  d₁ = cut b (at + 30) (holdStored (f .holds) (f .held) (f .changed)) (f .buffer) 6 (at + 36) (length-hold (f .holds) (f .held) (f .changed)) (omega arith) (d₀ .1)
+  abbrev d₁ : (part b (at + 30) 6 ≡ holdStored (holdOf f)) × Stands b (at + 36) (f .buffer)
+  d₁ = cut b (at + 30) (holdStored (holdOf f)) (f .buffer) 6 (at + 36) (length-hold (holdOf f)) (omega arith) (d₀ .1)
 
-  hold : Stands b (at + 30) (holdStored (f .holds) (f .held) (f .changed))
-  hold = ap (part b (at + 30)) (length-hold (f .holds) (f .held) (f .changed)) ∙ d₁ .0
+  hold : Stands b (at + 30) (holdStored (holdOf f))
+  hold = ap (part b (at + 30)) (length-hold (holdOf f)) ∙ d₁ .0
 
   abbrev d₂ : (part b (at + 30) 1 ≡ flagOf (f .holds) ∷ []) × Stands b (at + 31) (bytesOf 4 (f .held) ++ (flagOf (f .changed) ∷ []))
   unfolding holdStored
@@ -187,8 +152,8 @@ module _ (f : BufferedFile) (b : List ℕ) (at : ℕ) (s : Stands b at (heldStor
 
 module _ (b : List ℕ) (bytes : every isByte b ≡ true) (at : ℕ) where
   hold-same : at + 36 ≤ length b → isFlag (getD b (at + 30) 0) ≡ true → isFlag (getD b (at + 35) 0) ≡ true
-      → holdStored (isSet (getD b (at + 30) 0)) (numberIn (part b (at + 31) 4)) (isSet (getD b (at + 35) 0)) ≡ part b (at + 30) 6
-  unfolding holdStored part
+      → holdStored (holdOf (heldIn b at)) ≡ part b (at + 30) 6
+  unfolding holdStored heldIn part
   hold-same h k l =
       rw (
         flag-same (getD b (at + 30) 0) k,
@@ -204,3 +169,29 @@ module _ (b : List ℕ) (bytes : every isByte b ≡ true) (at : ℕ) where
         file-same b bytes at (omega arith) (and-left (fileFlags b at) _ g),
         hold-same (omega arith) (and-left (isFlag (getD b (at + 30) 0)) (isFlag (getD b (at + 35) 0)) k) (and-right (isFlag (getD b (at + 30) 0)) (isFlag (getD b (at + 35) 0)) k),
       ) (next b at 30 (at + 30) 366 refl (next b (at + 30) 6 (at + 36) 360 (omega arith) refl))
+
+-- ---- with a buffer or without
+
+-- what is kept of a state: all of it, or what it has without a buffer
+unfoldable pub keptIn : Bool → BufferedFile → BufferedFile
+keptIn true f = f
+keptIn false f = fresh (f .file)
+
+unfoldable pub stateFits : Bool → BufferedFile → Bool
+stateFits true f = heldFits f
+stateFits false f = fileFits (f .file)
+
+pub state-back : (u : Bool) (f : BufferedFile) → stateFits u f ≡ true → (b : List ℕ) (at : ℕ) → Stands b at (stateStored u f) → stateIn u b at ≡ keptIn u f
+unfolding stateStored stateIn keptIn stateFits
+state-back true f h b at s = held-back f b at s h
+state-back false f h b at s = ap fresh (file-back (f .file) b at s h)
+
+pub state-flagged : (u : Bool) (f : BufferedFile) (b : List ℕ) (at : ℕ) → Stands b at (stateStored u f) → stateFlags u b at ≡ true
+unfolding stateStored stateFlags
+state-flagged true f b at s = held-flagged f b at s
+state-flagged false f b at s = file-flagged (f .file) b at s
+
+pub state-same : (u : Bool) (b : List ℕ) → every isByte b ≡ true → (at : ℕ) → at + width u ≤ length b → stateFlags u b at ≡ true → stateStored u (stateIn u b at) ≡ part b at (width u)
+unfolding stateStored stateIn stateFlags width
+state-same true b bytes at h g = held-same b bytes at h g
+state-same false b bytes at h g = file-same b bytes at h g

@@ -11,13 +11,14 @@ use Rattle.geometry.specs.Lists.{every}
 use Rattle.geometry.specs.Sizes.{sector}
 use Rattle.geometry.proofs.Tests.{and-left, and-right, and-both, all-getD}
 use Rattle.geometry.specs.declared.Place.{Place}
-use Rattle.directory.specs.declared.Entry.{Entry}
 use Rattle.sessions.specs.declared.BufferedFile.{BufferedFile}
 use Rattle.sessions.specs.declared.OpenFile.{OpenFile}
-use Rattle.storing.specs.Fits.{areBytes, entryFits, heldFits}
-use Rattle.storing.specs.Numbers.{bytesOf, flagOf, isByte}
-use Rattle.storing.specs.Rows.{rowOf}
-use Rattle.storing.specs.Stored.{entryStored, placeStored, fileStored, holdStored, heldStored}
+use Rattle.storing.specs.Fits.{areBytes, heldFits}
+use Rattle.tables.specs.Numbers.{isByte}
+use Rattle.storing.specs.Numbers.{bytesOf, flagOf}
+use Rattle.tables.specs.Rows.{rowOf}
+use Rattle.storing.specs.Stored.{placeStored, fileStored, holdStored, heldStored, stateStored}
+use Rattle.storing.proofs.Back.{stateFits}
 
 pub every-append : {A : Type 0} (p : A → Bool) (xs ys : List A) → every p xs ≡ true → every p ys ≡ true → every p (xs ++ ys) ≡ true
 unfolding every
@@ -45,19 +46,13 @@ no-bytes : every isByte [] ≡ true
 unfolding every
 no-bytes = refl
 
-array-bytes : (n : ℕ) (x : List ℕ) → areBytes n x ≡ true → every isByte x ≡ true
+pub array-bytes : (n : ℕ) (x : List ℕ) → areBytes n x ≡ true → every isByte x ≡ true
 unfolding areBytes
 array-bytes n x h = and-right (eqb (length x) n) (every isByte x) h
 
 -- numbers, then bytes
 then : (n x : ℕ) (r : List ℕ) → every isByte r ≡ true → every isByte (bytesOf n x ++ r) ≡ true
 then n x r h = every-append isByte (bytesOf n x) r (number-bytes n x) h
-
-pub entry-bytes : (e : Entry) → entryFits e ≡ true → every isByte (entryStored e) ≡ true
-unfolding entryStored entryFits
-entry-bytes e h =
-    every-append isByte (e .name) _ (array-bytes 8 (e .name) (all-getD _ 0 h))
-    (then 2 (e .kind) _ (then 2 (e .length) _ (then 2 (e .first) _ (then 2 (e .sectors) _ (then 4 (e .count) _ (number-bytes 2 (e .flags)))))))
 
 place-bytes : (p : Place) → every isByte (placeStored p) ≡ true
 unfolding placeStored
@@ -73,3 +68,8 @@ unfolding heldStored holdStored heldFits
 held-bytes f h =
     every-append isByte (fileStored (f .file)) _ (file-bytes (f .file))
     (flag-bytes (f .holds) _ (every-append isByte (bytesOf 4 (f .held) ++ (flagOf (f .changed) ∷ [])) (f .buffer) (then 4 (f .held) _ (flag-bytes (f .changed) [] no-bytes)) (array-bytes sector (f .buffer) (all-getD _ 2 h))))
+
+pub state-bytes : (u : Bool) (f : BufferedFile) → stateFits u f ≡ true → every isByte (stateStored u f) ≡ true
+unfolding stateStored stateFits
+state-bytes true f h = held-bytes f h
+state-bytes false f h = file-bytes (f .file)

@@ -1,41 +1,32 @@
 -- Count and flags are the last six bytes of an entry: laid over those of one that stands there, they make it the entry with these.
 use mathlib.Core.Path.{_≡_, refl, sym, ap, _∙_}
-use mathlib.Core.Bool.{true}
+use mathlib.Core.Bool.{Bool, true}
 use mathlib.Core.List.{List, _++_, append-assoc}
 use Prim.Native.Nat.{ℕ, _+_, _*_, _≤_, _<_}
 use native.Mathlib.Omega.{arith}
 use native.Mathlib.Decide.{decLt}
 use lib.ListN.{length, set, length-append, List·getD-eq-default}
 use lib.Seq.{take-append-le, take-length}
-use Rattle.geometry.specs.Bytes.{part, lay}
+use Rattle.geometry.specs.Bytes.{part, lay, word}
 use Rattle.geometry.specs.Lists.{every}
-use Rattle.geometry.specs.Sizes.{entries}
+use Rattle.geometry.specs.Sizes.{entries, mostOpen}
 use Rattle.geometry.proofs.Bytes.{length-part, lay-append, lay-part, part-part}
 use Rattle.directory.specs.Entries.{freeEntry, entryAt}
+use Rattle.directory.specs.Stamp.{restamped}
 use Rattle.directory.specs.declared.Entry.{Entry}
+use Rattle.tables.specs.Numbers.{isByte, long}
+use Rattle.tables.specs.Tables.{twoWordsWide, hasRows, entryIn, entryOf, countOf, layCounts}
+use Rattle.tables.proofs.Entries.{name-is}
+use Rattle.tables.proofs.Laid.{length-entry, row-there, row-not}
+use Rattle.tables.proofs.Tables.{length-entries, entry-is}
+use Rattle.tables.proofs.Widths.{rows-there}
 use Rattle.sessions.specs.declared.BufferedFile.{BufferedFile}
 use Rattle.sessions.specs.declared.BufferedSession.{BufferedSession}
-use Rattle.sessions.specs.declared.OpenFile.{OpenFile}
-use Rattle.sessions.specs.declared.Session.{Session}
-use Rattle.storing.specs.Numbers.{bytesOf, isByte}
-use Rattle.storing.specs.Stored.{entryWidth, fileWidth, heldWidth, filesAt, sessionSize, bufferedSize, entryStored, entryIn, fileFlags, heldStored, heldFlags, stored, bufferedStored, isStored, isBufferedStored, tableIn, sessionIn, bufferedIn, layEntry, layCounts, layFile, layHeld}
-use Rattle.storing.proofs.Back.{entry-same}
-use Rattle.storing.proofs.Laid.{part-there, part-not, length-entry}
-use Rattle.storing.proofs.Laws.{stored-laid, buffered-laid}
-use Rattle.storing.proofs.Lent.{entry-is}
-use Rattle.storing.proofs.Read.{length-table, formed-bytes, formed-size, session-is, buffered-is}
-
--- an entry with another count and other flags
-abbrev pub recounted : Entry → ℕ → ℕ → Entry
-recounted e count flags = record {
-  name = e .name;
-  kind = e .kind;
-  length = e .length;
-  first = e .first;
-  sectors = e .sectors;
-  count = count;
-  flags = flags;
-}
+use Rattle.storing.specs.Stored.{filesAt, width, sizeOf, stateStored, stored, isSession, tableIn, sessionIn, layPart}
+use Rattle.storing.proofs.Entries.{entry-same}
+use Rattle.storing.proofs.Laid.{part-there, part-not}
+use Rattle.storing.proofs.Laws.{stored-laid}
+use Rattle.storing.proofs.Read.{session-bytes, session-size, session-is}
 
 -- the front of what is there, laid there again
 lay-front : (b : List ℕ) (at n : ℕ) (xs ys : List ℕ) → length xs ≤ n → part b at n ≡ xs ++ ys → lay b at xs ≡ b
@@ -51,76 +42,70 @@ lay-front b at n xs ys h e = ap (lay b at) same ∙ lay-part b at (length xs)
 
 -- the bytes before count and flags, and these
 abbrev front : Entry → List ℕ
-front e = e .name ++ (bytesOf 2 (e .kind) ++ (bytesOf 2 (e .length) ++ (bytesOf 2 (e .first) ++ bytesOf 2 (e .sectors))))
+front e = e .name ++ (word (e .kind) ++ (word (e .length) ++ (word (e .first) ++ word (e .sectors))))
 
 abbrev pub back : ℕ → ℕ → List ℕ
-back count flags = bytesOf 4 count ++ bytesOf 2 flags
+back count flags = countOf twoWordsWide count ++ word flags
 
-joined : (e : Entry) → entryStored e ≡ front e ++ back (e .count) (e .flags)
-unfolding entryStored bytesOf
-joined e = sym (append-assoc (e .name) (bytesOf 2 (e .kind) ++ (bytesOf 2 (e .length) ++ (bytesOf 2 (e .first) ++ bytesOf 2 (e .sectors)))) (back (e .count) (e .flags)))
+joined : (e : Entry) → entryOf twoWordsWide e ≡ front e ++ back (e .count) (e .flags)
+unfolding entryOf word
+joined e = sym (append-assoc (e .name) (word (e .kind) ++ (word (e .length) ++ (word (e .first) ++ word (e .sectors)))) (back (e .count) (e .flags)))
 
 front-long : (e : Entry) → length (e .name) ≡ 8 → length (front e) ≡ 16
-unfolding bytesOf
-front-long e n = length-append (e .name) (bytesOf 2 (e .kind) ++ (bytesOf 2 (e .length) ++ (bytesOf 2 (e .first) ++ bytesOf 2 (e .sectors)))) ∙ ap (λ (k : ℕ). k + 8) n
+unfolding word
+front-long e n = length-append (e .name) (word (e .kind) ++ (word (e .length) ++ (word (e .first) ++ word (e .sectors)))) ∙ ap (λ (k : ℕ). k + 8) n
 
 pub back-long : (count flags : ℕ) → length (back count flags) ≡ 6
-unfolding bytesOf
+unfolding countOf long word
 back-long count flags = refl
 
 module _ (b : List ℕ) (bytes : every isByte b ≡ true) (room : filesAt ≤ length b) (i count flags : ℕ) where
   abbrev at : ℕ
-  at = entryWidth * i
+  at = twoWordsWide * i
 
-  here : (e : Entry) → i < entries → e ≡ entryIn b at → lay b (at + 16) (back count flags) ≡ lay b at (entryStored (recounted e count flags))
-  unfolding entryIn
+  pub has-table : hasRows twoWordsWide entries b ≡ true
+  has-table = rows-there twoWordsWide entries b (omega arith, omega arith, refl) room
+
+  entry-named : (e : Entry) → i < entries → e ≡ entryIn twoWordsWide b at → length (e .name) ≡ 8
+  entry-named e h q =
+      ap (λ (e : Entry). length (e .name)) q ∙ (unfold entryIn in (ap length (name-is b at (omega arith)) ∙ length-part b at 8 (omega arith)))
+
+  here : (e : Entry) → i < entries → e ≡ entryIn twoWordsWide b at → lay b (at + 16) (back count flags) ≡ lay b at (entryOf twoWordsWide (restamped e count flags))
   here e h q =
-      let n : length (e .name) ≡ 8 = rw q (length-part b at 8 (omega arith)) in
-      let long : length (front e) ≡ 16 = front-long e n in
+      let long : length (front e) ≡ 16 = front-long e (entry-named e h q) in
       let size : length (back count flags) ≡ 6 = back-long count flags in
-      let whole : part b at entryWidth ≡ front e ++ back (e .count) (e .flags) = sym (ap entryStored q ∙ entry-same b bytes at (omega arith)) ∙ joined e in
+      let whole : part b at twoWordsWide ≡ front e ++ back (e .count) (e .flags) = sym (ap (entryOf twoWordsWide) q ∙ entry-same b bytes at (omega arith)) ∙ joined e in
       ap (λ (m : ℕ). lay b (at + m) (back count flags)) (sym long)
-      ∙ ap (λ (x : List ℕ). lay x (at + length (front e)) (back count flags)) (sym (lay-front b at entryWidth (front e) _ (omega arith) whole))
+      ∙ ap (λ (x : List ℕ). lay x (at + length (front e)) (back count flags)) (sym (lay-front b at twoWordsWide (front e) _ (omega arith) whole))
       ∙ sym (lay-append b at (front e) (back count flags) (omega arith))
-      ∙ ap (lay b at) (sym (joined (recounted e count flags)))
+      ∙ ap (lay b at) (sym (joined (restamped e count flags)))
 
-  counts-laid : layCounts b i count flags ≡ layEntry b i (recounted (entryAt (tableIn b) i) count flags)
+  counts-laid : layCounts twoWordsWide entries b i count flags ≡ layPart entries 0 twoWordsWide b i (entryOf twoWordsWide (restamped (entryAt (tableIn b) i) count flags))
   counts-laid = go (decLt i entries)
     where
-      go : Dec (i < entries) → layCounts b i count flags ≡ layEntry b i (recounted (entryAt (tableIn b) i) count flags)
+      go : Dec (i < entries) → layCounts twoWordsWide entries b i count flags ≡ layPart entries 0 twoWordsWide b i (entryOf twoWordsWide (restamped (entryAt (tableIn b) i) count flags))
       go (yes h) =
-          part-there entries 16 entryWidth b i (back count flags) (at + 16) (omega arith) h
-          ∙ here (entryAt (tableIn b) i) h (entry-is b i at h refl)
-          ∙ sym (part-there entries 0 entryWidth b i (entryStored (recounted (entryAt (tableIn b) i) count flags)) at (omega arith) h)
-      go (no h) = part-not entries 16 entryWidth b i (back count flags) (omega arith) ∙ sym (part-not entries 0 entryWidth b i _ (omega arith))
+          row-there twoWordsWide entries b i 16 (back count flags) (at + 16) refl has-table h
+          ∙ here (entryAt (tableIn b) i) h (entry-is twoWordsWide entries b i at h refl)
+          ∙ sym (part-there entries 0 twoWordsWide b i (entryOf twoWordsWide (restamped (entryAt (tableIn b) i) count flags)) at (omega arith) h)
+      go (no h) = row-not twoWordsWide entries b i 16 (back count flags) (omega arith) ∙ sym (part-not entries 0 twoWordsWide b i _ (omega arith))
 
-  recounted-long : length (entryStored (recounted (entryAt (tableIn b) i) count flags)) ≡ entryWidth
-  recounted-long = length-entry (recounted (entryAt (tableIn b) i) count flags) (named (decLt i entries))
+  recounted-long : length (entryOf twoWordsWide (restamped (entryAt (tableIn b) i) count flags)) ≡ twoWordsWide
+  recounted-long = length-entry (restamped (entryAt (tableIn b) i) count flags) (named (decLt i entries)) twoWordsWide (omega arith, omega arith, refl)
     where
       named : Dec (i < entries) → length (entryAt (tableIn b) i .name) ≡ 8
-      named (yes h) = ap (λ (e : Entry). length (e .name)) (entry-is b i at h refl) ∙ (unfold entryIn in length-part b at 8 (omega arith))
+      named (yes h) = entry-named (entryAt (tableIn b) i) h (entry-is twoWordsWide entries b i at h refl)
       named (no h) =
-          let n : length (tableIn b) ≡ entries = length-table b in
+          let n : length (tableIn b) ≡ entries = length-entries twoWordsWide entries b in
           ap (λ (e : Entry). length (e .name)) (List·getD-eq-default (tableIn b) freeEntry (omega arith))
 
 -- so a session with another count and other flags of an entry, and another state, stands in its bytes with these laid over them
-module _ (b : List ℕ) (i k count flags : ℕ) where
-  pub stored-counted : isStored b ≡ true → (f : OpenFile)
-      → stored (record { table = set (sessionIn b .table) i (recounted (entryAt (sessionIn b .table) i) count flags); files = set (sessionIn b .files) k f })
-      ≡ layFile (layCounts b i count flags) k f
-  stored-counted h f =
-      let bytes = formed-bytes fileFlags fileWidth sessionSize b h in
-      let size : length b ≡ sessionSize = formed-size fileFlags fileWidth sessionSize b h in
-      let t : sessionIn b .table ≡ tableIn b = ap (λ (s : Session). s .table) (session-is b h) in
-      stored-laid b h i k (recounted (entryAt (sessionIn b .table) i) count flags) f (rw t (recounted-long b bytes (omega arith) i count flags))
-      ∙ ap (λ (x : List ℕ). layFile x k f) (rw t (sym (counts-laid b bytes (omega arith) i count flags)))
-
-  pub buffered-counted : isBufferedStored b ≡ true → (f : BufferedFile) → length (heldStored f) ≡ heldWidth
-      → bufferedStored (record { table = set (bufferedIn b .table) i (recounted (entryAt (bufferedIn b .table) i) count flags); files = set (bufferedIn b .files) k f })
-      ≡ layHeld (layCounts b i count flags) k f
-  buffered-counted h f n =
-      let bytes = formed-bytes heldFlags heldWidth bufferedSize b h in
-      let size : length b ≡ bufferedSize = formed-size heldFlags heldWidth bufferedSize b h in
-      let t : bufferedIn b .table ≡ tableIn b = ap (λ (s : BufferedSession). s .table) (buffered-is b h) in
-      buffered-laid b h i k (recounted (entryAt (bufferedIn b .table) i) count flags) f (rw t (recounted-long b bytes (omega arith) i count flags)) n
-      ∙ ap (λ (x : List ℕ). layHeld x k f) (rw t (sym (counts-laid b bytes (omega arith) i count flags)))
+pub stored-counted : (u : Bool) (b : List ℕ) (i k count flags : ℕ) → isSession u b ≡ true → (f : BufferedFile) → length (stateStored u f) ≡ width u
+    → stored u (record { table = set (sessionIn u b .table) i (restamped (entryAt (sessionIn u b .table) i) count flags); files = set (sessionIn u b .files) k f })
+    ≡ layPart mostOpen filesAt (width u) (layCounts twoWordsWide entries b i count flags) k (stateStored u f)
+stored-counted u b i k count flags h f l =
+    let bytes = session-bytes u b h in
+    let size : length b ≡ filesAt + width u * mostOpen = (unfold sizeOf in session-size u b h) in
+    let t : sessionIn u b .table ≡ tableIn b = ap (λ (s : BufferedSession). s .table) (session-is u b h) in
+    stored-laid u b h i k (restamped (entryAt (sessionIn u b .table) i) count flags) f (rw t (recounted-long b bytes (omega arith) i count flags)) l
+    ∙ ap (λ (x : List ℕ). layPart mostOpen filesAt (width u) x k (stateStored u f)) (rw t (sym (counts-laid b bytes (omega arith) i count flags)))

@@ -1,61 +1,24 @@
--- What the code that lays a session meets on its way: an entry written out byte by byte, sizes, and parts that are there or not.
+-- What the code that lays a session meets on its way: a state written out byte by byte, sizes, and parts that are there or not.
 use mathlib.Core.Path.{_≡_, refl, sym, ap, _∙_}
 use mathlib.Core.Logic.{_≢_}
-use mathlib.Core.Bool.{Bool}
-use mathlib.Core.List.{List, [], _∷_, _++_}
+use mathlib.Core.Bool.{Bool, true, false}
+use mathlib.Core.List.{List, [], _∷_, _++_, append-assoc}
 use Prim.Native.Nat.{ℕ, _+_, _*_, _≤_, _<_}
 use native.Mathlib.Omega.{arith}
 use native.Mathlib.Decide.{decLt}
-use lib.ListN.{length, getD, length-append}
-use borrow.Author.Tests.{lt-ltb, le-ltb, eq-eqb, ne-eqb}
+use lib.ListN.{length, getD, replicate, length-append, length-replicate}
+use borrow.Author.Tests.{lt-ltb, le-ltb, eqb-true}
 use Rattle.geometry.specs.Bytes.{lay}
-use Rattle.geometry.specs.Sizes.{mostOpen}
+use Rattle.geometry.specs.Sizes.{sector, mostOpen}
+use Rattle.sessions.specs.Session.{fresh}
 use Rattle.geometry.proofs.Bytes.{lay-all, length-lay, lay-short, lay-append}
-use Rattle.directory.proofs.Back.{eight}
-use Rattle.directory.specs.declared.Entry.{Entry}
 use Rattle.sessions.specs.declared.BufferedFile.{BufferedFile}
-use Rattle.sessions.specs.declared.BufferedSession.{BufferedSession}
+use Rattle.sessions.specs.declared.Holding.{Holding}
 use Rattle.sessions.specs.declared.OpenFile.{OpenFile}
-use Rattle.sessions.specs.declared.Session.{Session}
 use Rattle.storing.specs.Numbers.{bytesOf, flagOf}
-use Rattle.storing.specs.Rows.{rowOf}
-use Rattle.storing.specs.Stored.{entryWidth, fileWidth, heldWidth, filesAt, sessionSize, bufferedSize, entryStored, placeStored, fileStored, holdStored, heldStored, stored, bufferedStored, layPart, layState, laySession, layBuffered}
+use Rattle.storing.specs.Stored.{fileWidth, heldWidth, filesAt, width, sizeOf, hasBuffers, placeStored, fileStored, noHold, holdStored, heldStored, stateStored, frontStored, layPart, layState, layFresh}
 
 -- ---- bytes written out
-
--- the bytes of an entry's numbers
-abbrev numbers : Entry → List ℕ
-numbers e = bytesOf 2 (e .kind) ++ (bytesOf 2 (e .length) ++ (bytesOf 2 (e .first) ++ (bytesOf 2 (e .sectors) ++ (bytesOf 4 (e .count) ++ bytesOf 2 (e .flags)))))
-
--- an entry from its name and the bytes of its numbers
-pub entry-joined : (e : Entry) (k l f s c g : List ℕ) → length (e .name) ≡ 8
-    → k ≡ bytesOf 2 (e .kind) → l ≡ bytesOf 2 (e .length) → f ≡ bytesOf 2 (e .first) → s ≡ bytesOf 2 (e .sectors) → c ≡ bytesOf 4 (e .count) → g ≡ bytesOf 2 (e .flags)
-    → getD (e .name) 0 0
-    ∷ getD (e .name) 1 0
-    ∷ getD (e .name) 2 0
-    ∷ getD (e .name) 3 0
-    ∷ getD (e .name) 4 0
-    ∷ getD (e .name) 5 0
-    ∷ getD (e .name) 6 0
-    ∷ getD (e .name) 7 0
-    ∷ getD k 0 0
-    ∷ getD k 1 0
-    ∷ getD l 0 0
-    ∷ getD l 1 0
-    ∷ getD f 0 0
-    ∷ getD f 1 0
-    ∷ getD s 0 0
-    ∷ getD s 1 0
-    ∷ getD c 0 0
-    ∷ getD c 1 0
-    ∷ getD c 2 0
-    ∷ getD c 3 0
-    ∷ getD g 0 0
-    ∷ getD g 1 0
-    ∷ []
-    ≡ entryStored e
-unfolding entryStored bytesOf
-entry-joined e k l f s c g n hk hl hf hs hc hg = rw (hk, hl, hf, hs, hc, hg) (sym (ap (λ (x : List ℕ). x ++ numbers e) (eight (e .name) n)))
 
 -- an open-file state from the bytes of its numbers
 pub file-joined : (o : OpenFile) (u y : ℕ) (i p h e : List ℕ)
@@ -97,17 +60,13 @@ file-joined o u y i p h e hu hi hp hy hh he = rw (hu, hi, hp, hy, hh, he)
 
 -- ---- sizes
 
-pub length-entry : (e : Entry) → length (e .name) ≡ 8 → length (entryStored e) ≡ entryWidth
-unfolding entryStored bytesOf
-length-entry e n = length-append (e .name) (numbers e) ∙ ap (λ (k : ℕ). k + 14) n
-
 pub length-file : (f : OpenFile) → length (fileStored f) ≡ fileWidth
 unfolding fileStored placeStored bytesOf
 length-file f = refl
 
-pub length-hold : (holds : Bool) (held : ℕ) (changed : Bool) → length (holdStored holds held changed) ≡ 6
+pub length-hold : (h : Holding) → length (holdStored h) ≡ 6
 unfolding holdStored bytesOf
-length-hold holds held changed = refl
+length-hold h = refl
 
 pub length-held : (f : BufferedFile) → length (f .buffer) ≡ 360 → length (heldStored f) ≡ heldWidth
 unfolding heldStored holdStored fileStored placeStored bytesOf
@@ -124,78 +83,93 @@ module _ (n at w : ℕ) (b : List ℕ) (i : ℕ) (x : List ℕ) where
   unfolding layPart
   part-not h = rw (le-ltb i n h, layPart)
 
--- ---- a state with its buffer, laid in three parts
+-- ---- a state laid
 
-pub held-laid : (f : BufferedFile) (b x y b₁ b₂ b₃ : List ℕ) (at : ℕ) → at + heldWidth ≤ length b → length (f .buffer) ≡ 360
-    → x ≡ fileStored (f .file) → y ≡ holdStored (f .holds) (f .held) (f .changed)
-    → b₁ ≡ lay b at x → b₂ ≡ lay b₁ (at + 30) y → b₃ ≡ lay b₂ (at + 36) (f .buffer) → b₃ ≡ lay b at (heldStored f)
-unfolding heldStored
-held-laid f b x y b₁ b₂ b₃ at h n ex ey e₁ e₂ e₃ =
-    let lx : length x ≡ 30 = ap length ex ∙ length-file (f .file) in
-    let ly : length y ≡ 6 = ap length ey ∙ length-hold (f .holds) (f .held) (f .changed) in
-    let l₁ : length (lay b at x) ≡ length b = length-lay b at x in
-    let s : length (y ++ f .buffer) ≡ length y + length (f .buffer) = length-append y (f .buffer) in
-    let z : (at + 30) + length y ≡ at + 36 = omega arith in
-    sym (ap (lay b at) (sym (ap (λ (r : List ℕ). r ++ (y ++ f .buffer)) ex ∙ ap (λ (r : List ℕ). fileStored (f .file) ++ (r ++ f .buffer)) ey))
-    ∙ lay-append b at x (y ++ f .buffer) (omega arith)
-    ∙ ap (λ (k : ℕ). lay (lay b at x) (at + k) (y ++ f .buffer)) lx
-    ∙ lay-append (lay b at x) (at + 30) y (f .buffer) (omega arith)
-    ∙ ap (λ (k : ℕ). lay (lay (lay b at x) (at + 30) y) k (f .buffer)) z
-    ∙ sym (e₃ ∙ ap (λ (r : List ℕ). lay r (at + 36) (f .buffer)) (e₂ ∙ ap (λ (r : List ℕ). lay r (at + 30) y) e₁)))
+-- a state is its front and its buffer, if it has one
+pub length-front : (f : OpenFile) (h : Holding) → length (frontStored true f h) ≡ 36
+unfolding frontStored
+length-front f h = length-append (fileStored f) (holdStored h) ∙ rw (length-file f, length-hold h)
 
--- ---- a state without its buffer, laid in two parts
+pub length-state : (u : Bool) (f : BufferedFile) → length (f .buffer) ≡ sector → length (stateStored u f) ≡ width u
+unfolding stateStored width
+length-state true f l = length-held f l
+length-state false f l = length-file (f .file)
 
-module _ (f : OpenFile) (holds : Bool) (held : ℕ) (changed : Bool) (b : List ℕ) (k : ℕ) where
-  pub length-state : length (fileStored f ++ holdStored holds held changed) ≡ 36
-  length-state = length-append (fileStored f) (holdStored holds held changed) ∙ rw (length-file f, length-hold holds held changed)
+-- the bytes of a state, laid in two parts
+front-laid : (f : OpenFile) (h : Holding) (b x y b₁ b₂ : List ℕ) (at : ℕ) → at + 36 ≤ length b → x ≡ fileStored f → y ≡ holdStored h
+    → b₁ ≡ lay b at x → b₂ ≡ lay b₁ (at + 30) y → b₂ ≡ lay b at (frontStored true f h)
+unfolding frontStored
+front-laid f h b x y b₁ b₂ at r ex ey e₁ e₂ =
+    let lx : length (fileStored f) ≡ 30 = length-file f in
+    let ly : length (holdStored h) ≡ 6 = length-hold h in
+    e₂
+    ∙ ap (λ (r : List ℕ). lay r (at + 30) y) (e₁ ∙ ap (lay b at) ex)
+    ∙ ap (lay (lay b at (fileStored f)) (at + 30)) ey
+    ∙ ap (λ (m : ℕ). lay (lay b at (fileStored f)) (at + m) (holdStored h)) (sym lx)
+    ∙ sym (lay-append b at (fileStored f) (holdStored h) (omega arith))
 
-  pub state-laid : k < mostOpen → filesAt + heldWidth * k + 36 ≤ length b → (x y b₁ b₂ : List ℕ) → x ≡ fileStored f → y ≡ holdStored holds held changed
-      → b₁ ≡ lay b (filesAt + heldWidth * k) x → b₂ ≡ lay b₁ (filesAt + heldWidth * k + 30) y → b₂ ≡ layState b k f holds held changed
-  state-laid n h x y b₁ b₂ ex ey e₁ e₂ =
-      let lx : length (fileStored f) ≡ 30 = length-file f in
-      let ly : length (holdStored holds held changed) ≡ 6 = length-hold holds held changed in
-      let at : ℕ = filesAt + heldWidth * k in
-      e₂
-      ∙ ap (λ (r : List ℕ). lay r (at + 30) y) (e₁ ∙ ap (lay b at) ex)
-      ∙ ap (lay (lay b at (fileStored f)) (at + 30)) ey
-      ∙ ap (λ (m : ℕ). lay (lay b at (fileStored f)) (at + m) (holdStored holds held changed)) (sym lx)
-      ∙ sym (lay-append b at (fileStored f) (holdStored holds held changed) (omega arith))
-      ∙ sym (part-there mostOpen filesAt heldWidth b k _ at refl n)
+-- and in three
+fresh-laid : (f : OpenFile) (b b₁ b₂ : List ℕ) (at : ℕ) → at + heldWidth ≤ length b → b₁ ≡ lay b at (frontStored true f noHold)
+    → b₂ ≡ lay b₁ (at + 36) (replicate sector 0) → b₂ ≡ lay b at (heldStored (fresh f))
+unfolding frontStored heldStored
+fresh-laid f b b₁ b₂ at r e₁ e₂ =
+    let l : length (frontStored true f noHold) ≡ 36 = length-front f noHold in
+    let z : length {A = ℕ} (replicate sector 0) ≡ sector = length-replicate {A = ℕ} sector 0 in
+    e₂ ∙ ap (λ (x : List ℕ). lay x (at + 36) (replicate sector 0)) e₁
+    ∙ ap (λ (m : ℕ). lay (lay b at (frontStored true f noHold)) (at + m) (replicate sector 0)) (sym l)
+    ∙ sym (lay-append b at (frontStored true f noHold) (replicate sector 0) (omega arith))
+    ∙ ap (lay b at) (append-assoc (fileStored f) (holdStored noHold) (replicate sector 0))
 
-  pub state-short : length b < filesAt + heldWidth * k + 36 → b ≡ layState b k f holds held changed
-  state-short h = go (decLt k mostOpen)
-    where
-      go : Dec (k < mostOpen) → b ≡ layState b k f holds held changed
-      go (yes n) =
-          sym (part-there mostOpen filesAt heldWidth b k _ (filesAt + heldWidth * k) refl n ∙ lay-short b (filesAt + heldWidth * k) _ (omega (arith, length-state)))
-      go (no n) = sym (part-not mostOpen filesAt heldWidth b k _ (omega arith))
+pub length-laid : (n at w : ℕ) (b : List ℕ) (i : ℕ) (x : List ℕ) → length (layPart n at w b i x) ≡ length b
+length-laid n at w b i x = go (decLt i n)
+  where
+    go : Dec (i < n) → length (layPart n at w b i x) ≡ length b
+    go (yes k) = ap length (part-there n at w b i x (at + w * i) refl k) ∙ length-lay b (at + w * i) x
+    go (no k) = ap length (part-not n at w b i x (omega arith))
 
--- ---- a whole session, laid in two parts
+-- with buffers, all bytes are there
+held-long : (b : List ℕ) → hasBuffers b ≡ true → length b ≡ 1980
+unfolding hasBuffers sizeOf width
+held-long b h = eqb-true (length b) 1980 h
 
-whole : (b b₁ b₂ t f : List ℕ) (n : ℕ) → length b ≡ n → length t ≡ filesAt → filesAt + length f ≡ n → b₁ ≡ lay b 0 t → b₂ ≡ lay b₁ filesAt f → b₂ ≡ t ++ f
-whole b b₁ b₂ t f n l lt lf e₁ e₂ =
-    let s : length (t ++ f) ≡ length t + length f = length-append t f in
-    let z : filesAt ≡ 0 + length t = omega arith in
-    e₂ ∙ ap (λ (r : List ℕ). lay r filesAt f) e₁ ∙ ap (λ (k : ℕ). lay (lay b 0 t) k f) z
-    ∙ sym (lay-append b 0 t f (omega arith))
-    ∙ lay-all n b (t ++ f) l (omega arith)
+-- ---- as the program lays a state of number k
 
-pub session-laid : (s : Session) (b b₁ b₂ : List ℕ) → length b ≡ sessionSize → length (rowOf entryStored (s .table)) ≡ 396 → length (rowOf fileStored (s .files)) ≡ 120
-    → b₁ ≡ lay b 0 (rowOf entryStored (s .table)) → b₂ ≡ lay b₁ filesAt (rowOf fileStored (s .files)) → b₂ ≡ laySession b s
-unfolding laySession stored
-session-laid s b b₁ b₂ l lt lf e₁ e₂ =
-    rw (eq-eqb (length b) sessionSize l, laySession) (whole b b₁ b₂ _ _ sessionSize l lt (omega arith) e₁ e₂)
+module _ (b : List ℕ) (k : ℕ) (f : OpenFile) where
+  pub state-past : (h : Holding) → mostOpen ≤ k → b ≡ layState (hasBuffers b) b k f h
+  state-past h n = sym (part-not mostOpen filesAt (width (hasBuffers b)) b k _ n)
 
-pub buffered-laid : (s : BufferedSession) (b b₁ b₂ : List ℕ) → length b ≡ bufferedSize → length (rowOf entryStored (s .table)) ≡ 396 → length (rowOf heldStored (s .files)) ≡ 1584
-    → b₁ ≡ lay b 0 (rowOf entryStored (s .table)) → b₂ ≡ lay b₁ filesAt (rowOf heldStored (s .files)) → b₂ ≡ layBuffered b s
-unfolding layBuffered bufferedStored
-buffered-laid s b b₁ b₂ l lt lf e₁ e₂ =
-    rw (eq-eqb (length b) bufferedSize l, layBuffered) (whole b b₁ b₂ _ _ bufferedSize l lt (omega arith) e₁ e₂)
+  module _ (n : k < mostOpen) (u : Bool) (e : u ≡ hasBuffers b) (at : ℕ) (p : at ≡ filesAt + width u * k) (x b₁ : List ℕ) (ex : x ≡ fileStored f) (e₁ : b₁ ≡ lay b at x) where
+    pub plain-put : u ≡ false → (h : Holding) → b₁ ≡ layState (hasBuffers b) b k f h
+    unfolding frontStored
+    plain-put t h = rw (sym e, t) (e₁ ∙ rw ex (sym (part-there mostOpen filesAt (width false) b k (fileStored f) at (sym (p ∙ ap (λ (v : Bool). filesAt + width v * k) t)) n)))
 
-pub session-other : (s : Session) (b : List ℕ) → length b ≢ sessionSize → laySession b s ≡ b
-unfolding laySession
-session-other s b l = rw (ne-eqb (length b) sessionSize l, laySession)
+    pub held-put : u ≡ true → (h : Holding) (y b₂ : List ℕ) → y ≡ holdStored h → b₂ ≡ lay b₁ (at + 30) y → b₂ ≡ layState (hasBuffers b) b k f h
+    held-put t h y b₂ ey e₂ =
+        let v : at ≡ filesAt + 396 * k = p ∙ ap (λ (v : Bool). filesAt + width v * k) t ∙ (unfold width in refl) in
+        let l : length b ≡ 1980 = held-long b (sym e ∙ t) in
+        rw (sym e, t)
+        (front-laid f h b x y b₁ b₂ at (omega arith) ex ey e₁ e₂
+        ∙ sym (part-there mostOpen filesAt (width true) b k (frontStored true f h) at (sym (p ∙ ap (λ (v : Bool). filesAt + width v * k) t)) n))
 
-pub buffered-other : (s : BufferedSession) (b : List ℕ) → length b ≢ bufferedSize → layBuffered b s ≡ b
-unfolding layBuffered
-buffered-other s b l = rw (ne-eqb (length b) bufferedSize l, layBuffered)
+  module _ (b₁ : List ℕ) (e₁ : b₁ ≡ layState (hasBuffers b) b k f noHold) (u : Bool) (e : u ≡ hasBuffers b₁) where
+    same-buffers : hasBuffers b₁ ≡ hasBuffers b
+    unfolding hasBuffers
+    same-buffers = rw (ap length e₁ ∙ length-laid mostOpen filesAt (width (hasBuffers b)) b k (frontStored (hasBuffers b) f noHold))
+
+    pub fresh-put : u ≡ true → k < mostOpen → (at : ℕ) → at ≡ filesAt + width true * k → (b₂ : List ℕ) → b₂ ≡ lay b₁ (at + 36) (replicate sector 0) → b₂ ≡ layFresh (hasBuffers b) b k f
+    unfolding stateStored
+    fresh-put t n at p b₂ e₂ =
+        let q : hasBuffers b ≡ true = sym same-buffers ∙ sym e ∙ t in
+        let l : length b ≡ 1980 = held-long b q in
+        let v : at ≡ filesAt + 396 * k = p ∙ (unfold width in refl) in
+        let g : b₁ ≡ lay b at (frontStored true f noHold) = rw q at e₁ ∙ part-there mostOpen filesAt (width true) b k (frontStored true f noHold) at (sym p) n in
+        rw q
+        (fresh-laid f b b₁ b₂ at (omega arith) g e₂
+        ∙ sym (part-there mostOpen filesAt (width true) b k (heldStored (fresh f)) at (sym p) n))
+
+    pub plain-fresh : u ≡ false → b₁ ≡ layFresh (hasBuffers b) b k f
+    unfolding stateStored frontStored
+    plain-fresh t = let q : hasBuffers b ≡ false = sym same-buffers ∙ sym e ∙ t in rw q at e₁ ∙ rw q
+
+    pub past-fresh : mostOpen ≤ k → b₁ ≡ layFresh (hasBuffers b) b k f
+    past-fresh n = e₁ ∙ part-not mostOpen filesAt (width (hasBuffers b)) b k _ n ∙ sym (part-not mostOpen filesAt (width (hasBuffers b)) b k _ n)

@@ -3,10 +3,10 @@ pub mod Laid
 pub mod Parts
 pub mod Rows
 pub mod Read
-pub mod Lent
 pub mod Back
 pub mod Bytes
-pub mod Forms
+pub mod Entries
 pub mod Laws
 pub mod Illegal
 pub mod Counts
+pub mod Start

@@ -13,7 +13,8 @@ use Rattle.geometry.specs.Lists.{every, numbersFrom}
 use Rattle.geometry.proofs.Bytes.{same-bytes, length-part, getD-part}
 use Rattle.geometry.proofs.Numbered.{length-numbered, getD-numbered}
 use Rattle.geometry.proofs.Tests.{and-left, and-right}
-use Rattle.storing.specs.Numbers.{bytesOf, numberIn, isByte}
+use Rattle.tables.specs.Numbers.{numberIn, isByte}
+use Rattle.storing.specs.Numbers.{bytesOf}
 
 -- ---- bytes written out
 

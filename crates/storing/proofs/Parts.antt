@@ -11,7 +11,8 @@ use Rattle.geometry.specs.Bytes.{part}
 use Rattle.geometry.specs.Lists.{every}
 use Rattle.geometry.proofs.Bytes.{length-part, length-part-min, getD-part, part-part, part-split}
 use Rattle.geometry.proofs.Tests.{every-from, every-getD}
-use Rattle.storing.specs.Numbers.{bytesOf, numberIn, flagOf, isSet, isFlag, isByte}
+use Rattle.tables.specs.Numbers.{numberIn, isByte}
+use Rattle.storing.specs.Numbers.{bytesOf, flagOf, isSet, isFlag}
 use Rattle.storing.specs.Fits.{fits}
 use Rattle.storing.proofs.Numbers.{number-back, bytes-back}
 

@@ -1,39 +1,43 @@
--- What the code that reads a session meets on its way: the table entry by entry, and bytes that are known to be bytes.
-use mathlib.Core.Path.{_≡_, sym, ap, _∙_}
+-- What is asked of bytes before they are read as a session, and what that gives.
+use mathlib.Core.Path.{_≡_, refl, sym, ap, _∙_}
 use mathlib.Core.Logic.{_≢_}
 use mathlib.Core.Bool.{Bool, true, false, _&&_, and-true, and-false}
-use mathlib.Core.List.{List, _++_}
-use Prim.Native.Nat.{ℕ, _+_, _*_, _<_}
+use mathlib.Core.List.{List, [], _∷_, map}
+use Prim.Native.Nat.{ℕ, zero, suc, _+_, _<_, _≤_}
 use native.Mathlib.Omega.{arith}
-use lib.ListN.{length, take, drop, getD, set, replicate, length-replicate}
+use lib.ListN.{length, getD, replicate}
 use lib.Dec.{eqb}
 use borrow.Author.Tests.{lt-ltb, eq-eqb, ne-eqb, eqb-true}
 use Rattle.geometry.specs.Lists.{all, every}
-use Rattle.geometry.specs.Sizes.{entries, mostOpen}
+use Rattle.geometry.specs.Sizes.{mostOpen}
 use Rattle.geometry.proofs.Tests.{and-left, and-right, every-from}
-use Rattle.directory.specs.Entries.{freeEntry}
-use Rattle.sessions.specs.Session.{unheld}
-use Rattle.directory.proofs.Table.{front-more}
-use Rattle.directory.specs.declared.Entry.{Entry}
-use Rattle.storing.specs.Numbers.{isByte}
-use Rattle.storing.specs.Rows.{rowIn}
-use Rattle.storing.specs.Stored.{entryWidth, fileWidth, heldWidth, filesAt, entryIn, fileIn, heldIn, formed, isStored, isBufferedStored, tableIn, unlawful, sessionIn, bufferedIn}
-use Rattle.storing.proofs.Rows.{length-row, getD-row}
+use Rattle.tables.specs.Numbers.{isByte}
+use Rattle.tables.specs.Rows.{rowIn}
+use Rattle.sessions.specs.Session.{idle, fresh, bare, unheld}
+use Rattle.sessions.specs.declared.BufferedFile.{BufferedFile}
+use Rattle.sessions.specs.declared.BufferedSession.{BufferedSession}
+use Rattle.sessions.specs.declared.OpenFile.{OpenFile}
+use Rattle.storing.specs.Stored.{fileWidth, heldWidth, filesAt, width, sizeOf, hasBuffers, fileIn, heldIn, stateIn, stateFlags, isSession, tableIn, statesIn, unlawful, sessionIn}
 
-pub length-table : (b : List ℕ) → length (tableIn b) ≡ entries
-unfolding tableIn
-length-table b = length-row entryIn entryWidth entries b 0
+-- ---- sizes
 
--- a turn of the loop that reads the table
-pub table-more : (b : List ℕ) (i : ℕ) (e : Entry) → i < entries → e ≡ entryIn b (entryWidth * i)
-    → set (take i (tableIn b) ++ drop i (replicate entries freeEntry)) i e ≡ take (i + 1) (tableIn b) ++ drop (i + 1) (replicate entries freeEntry)
-unfolding tableIn
-table-more b i e h p =
-    let l : length (tableIn b) ≡ entries = length-table b in
-    let r : length (replicate entries freeEntry) ≡ entries = length-replicate entries freeEntry in
-    let z : entryWidth * i ≡ 0 + entryWidth * i = omega arith in
-    front-more (tableIn b) (replicate entries freeEntry) i freeEntry e (omega arith) (omega arith)
-    (p ∙ ap (entryIn b) z ∙ sym (getD-row entryIn entryWidth entries b 0 i freeEntry h))
+pub size-plain : sizeOf false ≡ 516
+unfolding sizeOf width
+size-plain = refl
+
+pub size-buffered : sizeOf true ≡ 1980
+unfolding sizeOf width
+size-buffered = refl
+
+pub width-least : (u : Bool) → fileWidth ≤ width u
+unfolding width
+width-least true = omega arith
+width-least false = omega arith
+
+pub width-most : (u : Bool) → width u ≤ heldWidth
+unfolding width
+width-most true = omega arith
+width-most false = omega arith
 
 -- bytes of which each is known to be one
 pub bytes : (b : List ℕ) → ((k : ℕ) → getD b k 0 < 256) → every isByte b ≡ true
@@ -41,43 +45,74 @@ bytes b h = every-from isByte b 0 λ (k : ℕ) (q : k < length b). lt-ltb (getD 
 
 -- ---- what is asked of bytes
 
-module _ (flags : List ℕ → ℕ → Bool) (w size : ℕ) (b : List ℕ) where
+module _ (u : Bool) (b : List ℕ) where
   -- each truth value of the four states
-  pub asked : every isByte b ≡ true → length b ≡ size
-      → formed flags w size b ≡ (flags b filesAt && (flags b (filesAt + w) && (flags b (filesAt + w + w) && flags b (filesAt + w + w + w))))
-  unfolding formed all rowIn
-  asked h l = rw (h, eq-eqb (length b) size l, and-true (flags b (filesAt + w + w + w)))
+  pub asked : every isByte b ≡ true → length b ≡ sizeOf u
+      → isSession u b ≡ (stateFlags u b filesAt && (stateFlags u b (filesAt + width u) && (stateFlags u b (filesAt + width u + width u) && stateFlags u b (filesAt + width u + width u + width u))))
+  unfolding isSession all rowIn
+  asked h l = rw (h, eq-eqb (length b) (sizeOf u) l, and-true (stateFlags u b (filesAt + width u + width u + width u)))
 
-  pub other-size : length b ≢ size → formed flags w size b ≡ false
-  unfolding formed
-  other-size l = rw (ne-eqb (length b) size l) (and-false (every isByte b))
+  pub other-size : length b ≢ sizeOf u → isSession u b ≡ false
+  unfolding isSession
+  other-size l = rw (ne-eqb (length b) (sizeOf u) l) (and-false (every isByte b))
 
-  pub formed-bytes : formed flags w size b ≡ true → every isByte b ≡ true
-  unfolding formed
-  formed-bytes h = and-left (every isByte b) _ h
+  pub session-bytes : isSession u b ≡ true → every isByte b ≡ true
+  unfolding isSession
+  session-bytes h = and-left (every isByte b) _ h
 
-  pub formed-size : formed flags w size b ≡ true → length b ≡ size
-  unfolding formed
-  formed-size h = eqb-true (length b) size (and-left (eqb (length b) size) _ (and-right (every isByte b) _ h))
+  pub session-size : isSession u b ≡ true → length b ≡ sizeOf u
+  unfolding isSession
+  session-size h = eqb-true (length b) (sizeOf u) (and-left (eqb (length b) (sizeOf u)) _ (and-right (every isByte b) _ h))
 
-  pub formed-flags : formed flags w size b ≡ true → all (rowIn flags w mostOpen b filesAt) ≡ true
-  unfolding formed
-  formed-flags h = and-right (eqb (length b) size) _ (and-right (every isByte b) _ h)
+  pub session-flags : isSession u b ≡ true → all (rowIn (stateFlags u) (width u) mostOpen b filesAt) ≡ true
+  unfolding isSession
+  session-flags h = and-right (eqb (length b) (sizeOf u)) _ (and-right (every isByte b) _ h)
 
--- ---- the session that bytes are
+  -- the session that bytes are
+  pub session-is : isSession u b ≡ true → sessionIn u b ≡ record { table = tableIn b; files = statesIn u b }
+  unfolding sessionIn
+  session-is h = rw (h, sessionIn)
 
-pub session-is : (b : List ℕ) → isStored b ≡ true → sessionIn b ≡ record { table = tableIn b; files = rowIn fileIn fileWidth mostOpen b filesAt }
+  pub session-none : isSession u b ≡ false → sessionIn u b ≡ unlawful
+  unfolding sessionIn
+  session-none h = rw (h, sessionIn)
+
+-- their number says whether they have buffers
+pub told-by-size : (u : Bool) (b : List ℕ) → length b ≡ sizeOf u → hasBuffers b ≡ u
+unfolding hasBuffers
+told-by-size true b l = eq-eqb (length b) (sizeOf true) l
+told-by-size false b l = ne-eqb (length b) (sizeOf true) λ (h : length b ≡ sizeOf true). omega (arith, sym l ∙ h, size-plain, size-buffered)
+
+-- ---- states without their buffers
+
+bare-state : (u : Bool) (b : List ℕ) (at : ℕ) → stateIn u b at .file ≡ fileIn b at
+unfolding stateIn
+bare-state true b at = unfold heldIn in refl
+bare-state false b at = refl
+
+bare-row : (u : Bool) (w n : ℕ) (b : List ℕ) (at : ℕ) → map (λ f. f .file) (rowIn (stateIn u) w n b at) ≡ rowIn fileIn w n b at
+unfolding rowIn
+bare-row u w zero b at = refl
+bare-row u w (suc n) b at = rw (bare-state u b at) (ap (λ (fs : List OpenFile). fileIn b at ∷ fs) (bare-row u w n b (at + w)))
+
+pub bare-states : (u : Bool) (b : List ℕ) → map (λ f. f .file) (statesIn u b) ≡ rowIn fileIn (width u) mostOpen b filesAt
+unfolding statesIn
+bare-states u b = bare-row u (width u) mostOpen b filesAt
+
+-- with no buffers, nothing is held
+unheld-row : (w n : ℕ) (b : List ℕ) (at : ℕ) → map fresh (map (λ f. f .file) (rowIn (stateIn false) w n b at)) ≡ rowIn (stateIn false) w n b at
+unfolding rowIn stateIn
+unheld-row w zero b at = refl
+unheld-row w (suc n) b at = ap (λ (fs : List BufferedFile). fresh (fileIn b at) ∷ fs) (unheld-row w n b (at + w))
+
+unheld-unlawful : unheld (bare unlawful) ≡ unlawful
+unfolding unheld bare unlawful
+unheld-unlawful = refl
+
+pub plain-holds-nothing : (b : List ℕ) → unheld (bare (sessionIn false b)) ≡ sessionIn false b
 unfolding sessionIn
-session-is b h = rw (h, sessionIn)
-
-pub session-none : (b : List ℕ) → isStored b ≡ false → sessionIn b ≡ unlawful
-unfolding sessionIn
-session-none b h = rw (h, sessionIn)
-
-pub buffered-is : (b : List ℕ) → isBufferedStored b ≡ true → bufferedIn b ≡ record { table = tableIn b; files = rowIn heldIn heldWidth mostOpen b filesAt }
-unfolding bufferedIn
-buffered-is b h = rw (h, bufferedIn)
-
-pub buffered-none : (b : List ℕ) → isBufferedStored b ≡ false → bufferedIn b ≡ unheld unlawful
-unfolding bufferedIn
-buffered-none b h = rw (h, bufferedIn)
+plain-holds-nothing b = go (isSession false b)
+  where
+    go : (t : Bool) → (let s : BufferedSession = elim t [ true ↦ record { table = tableIn b; files = statesIn false b } | false ↦ unlawful ] in unheld (bare s) ≡ s)
+    go true = unfold unheld bare statesIn in ap (λ (fs : List BufferedFile). record { table = tableIn b; files = fs }) (unheld-row (width false) mostOpen b filesAt)
+    go false = unheld-unlawful

@@ -11,7 +11,7 @@ use Rattle.sessions.specs.declared.BufferedFile.{BufferedFile}
 use Rattle.sessions.specs.declared.BufferedSession.{BufferedSession}
 use Rattle.sessions.specs.declared.OpenFile.{OpenFile}
 use Rattle.sessions.specs.declared.Session.{Session}
-use Rattle.storing.specs.Numbers.{isByte}
+use Rattle.tables.specs.Numbers.{isByte}
 
 -- a number of n bytes
 unfoldable pub fits : ℕ → ℕ → Bool

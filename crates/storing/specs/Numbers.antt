@@ -1,18 +1,13 @@
 -- Numbers in bytes, low byte first, and truth values in one byte. Definitions only.
 use mathlib.Core.Bool.{Bool, true, false}
 use mathlib.Core.List.{List, [], _∷_}
-use Prim.Native.Nat.{ℕ, zero, suc, _+_, _*_, _/_, _%_}
-use lib.Dec.{eqb, leb, ltb}
+use Prim.Native.Nat.{ℕ, zero, suc, _/_, _%_}
+use lib.Dec.{eqb, leb}
 
--- the n bytes of a number
+-- the n bytes of a number; `numberIn` of tables is the number that bytes hold
 unfoldable pub bytesOf : ℕ → ℕ → List ℕ
 bytesOf zero x = []
 bytesOf (suc n) x = x % 256 ∷ bytesOf n (x / 256)
-
--- the number that bytes hold
-unfoldable pub numberIn : List ℕ → ℕ
-numberIn [] = 0
-numberIn (b ∷ bs) = b + 256 * numberIn bs
 
 -- 1 for yes, 0 for no
 unfoldable pub flagOf : Bool → ℕ
@@ -26,7 +21,3 @@ isSet b = eqb b 1
 -- whether a byte says yes or no
 abbrev pub isFlag : ℕ → Bool
 isFlag b = leb b 1
-
--- whether a number is a byte
-abbrev pub isByte : ℕ → Bool
-isByte b = ltb b 256

@@ -1,4 +1,4 @@
--- A session in bytes that a caller lends: each field at a fixed place, numbers low byte first. Definitions only.
+-- A session in bytes that a caller lends: 18 entries of 22 bytes, then four open-file states, with a buffer each or without. Definitions only.
 use mathlib.Core.Bool.{Bool, true, false, _&&_}
 use mathlib.Core.List.{List, [], _∷_, _++_}
 use Prim.Native.Nat.{ℕ, _+_, _*_}
@@ -7,21 +7,21 @@ use lib.ListN.{length, getD, replicate}
 use Rattle.geometry.specs.Bytes.{part, lay}
 use Rattle.geometry.specs.Lists.{all, every}
 use Rattle.geometry.specs.Sizes.{sector, entries, mostOpen}
-use Rattle.sessions.specs.Session.{idle, unheld}
+use Rattle.tables.specs.Numbers.{numberIn, isByte}
+use Rattle.tables.specs.Rows.{rowOf, rowIn}
+use Rattle.directory.specs.Entries.{tableOf, freeEntry}
+use Rattle.tables.specs.Tables.{oneWordWide, twoWordsWide, hasRows, entryOf, entriesIn}
+use Rattle.sessions.specs.Session.{idle, fresh, bare, unheld}
 use Rattle.geometry.specs.declared.Place.{Place}
 use Rattle.directory.specs.declared.Entry.{Entry}
 use Rattle.sessions.specs.declared.BufferedFile.{BufferedFile}
 use Rattle.sessions.specs.declared.BufferedSession.{BufferedSession}
+use Rattle.sessions.specs.declared.Holding.{Holding}
 use Rattle.sessions.specs.declared.OpenFile.{OpenFile}
 use Rattle.sessions.specs.declared.Session.{Session}
-use Rattle.storing.specs.Numbers.{bytesOf, numberIn, flagOf, isSet, isFlag, isByte}
-use Rattle.storing.specs.Rows.{rowOf, rowIn}
+use Rattle.storing.specs.Numbers.{bytesOf, flagOf, isSet, isFlag}
 
 -- ---- sizes
-
--- an entry: 8 for the name, then 2, 2, 2, 2, 4, 2
-abbrev pub entryWidth : ℕ
-entryWidth = 22
 
 -- an open-file state: 1, 8, 4, 1, then 4 and 4 for each of two places
 abbrev pub fileWidth : ℕ
@@ -35,31 +35,18 @@ heldWidth = 396
 abbrev pub filesAt : ℕ
 filesAt = 396
 
--- "of a size that one function tells"
-abbrev pub sessionSize : ℕ
-sessionSize = 516
+-- "Two engines": a session has a buffer for each open file, or none; the bytes of a state
+unfoldable pub width : Bool → ℕ
+width true = heldWidth
+width false = fileWidth
 
-abbrev pub bufferedSize : ℕ
-bufferedSize = 1980
+-- the bytes of a session: 1,980 or 516
+unfoldable pub sizeOf : Bool → ℕ
+sizeOf u = filesAt + width u * mostOpen
 
--- ---- an entry
-
-unfoldable pub entryStored : Entry → List ℕ
-entryStored e =
-    e .name
-    ++ (bytesOf 2 (e .kind)
-    ++ (bytesOf 2 (e .length) ++ (bytesOf 2 (e .first) ++ (bytesOf 2 (e .sectors) ++ (bytesOf 4 (e .count) ++ bytesOf 2 (e .flags))))))
-
-unfoldable pub entryIn : List ℕ → ℕ → Entry
-entryIn b at = record {
-  name = part b at 8;
-  kind = numberIn (part b (at + 8) 2);
-  length = numberIn (part b (at + 10) 2);
-  first = numberIn (part b (at + 12) 2);
-  sectors = numberIn (part b (at + 14) 2);
-  count = numberIn (part b (at + 16) 4);
-  flags = numberIn (part b (at + 20) 2);
-}
+-- the number of the bytes lent says which
+unfoldable pub hasBuffers : List ℕ → Bool
+hasBuffers b = eqb (length b) (sizeOf true)
 
 -- ---- an open-file state
 
@@ -92,11 +79,19 @@ fileFlags b at = isFlag (getD b at 0) && isFlag (getD b (at + 13) 0)
 -- ---- and one with its buffer
 
 -- whether it holds a sector, which, and whether that is changed
-unfoldable pub holdStored : Bool → ℕ → Bool → List ℕ
-holdStored holds held changed = (flagOf holds ∷ []) ++ (bytesOf 4 held ++ (flagOf changed ∷ []))
+unfoldable pub holdStored : Holding → List ℕ
+holdStored h = (flagOf (h .holds) ∷ []) ++ (bytesOf 4 (h .held) ++ (flagOf (h .changed) ∷ []))
+
+-- what a state holds, without the bytes
+abbrev pub holdOf : BufferedFile → Holding
+holdOf f = record { holds = f .holds; held = f .held; changed = f .changed }
+
+-- nothing held
+abbrev pub noHold : Holding
+noHold = record { holds = false; held = 0; changed = false }
 
 unfoldable pub heldStored : BufferedFile → List ℕ
-heldStored f = fileStored (f .file) ++ (holdStored (f .holds) (f .held) (f .changed) ++ f .buffer)
+heldStored f = fileStored (f .file) ++ (holdStored (holdOf f) ++ f .buffer)
 
 unfoldable pub heldIn : List ℕ → ℕ → BufferedFile
 heldIn b at = record {
@@ -110,49 +105,60 @@ heldIn b at = record {
 unfoldable pub heldFlags : List ℕ → ℕ → Bool
 heldFlags b at = fileFlags b at && (isFlag (getD b (at + 30) 0) && isFlag (getD b (at + 35) 0))
 
+-- ---- a state of a session with buffers, or of one with none, where it holds nothing
+
+unfoldable pub stateStored : Bool → BufferedFile → List ℕ
+stateStored true f = heldStored f
+stateStored false f = fileStored (f .file)
+
+unfoldable pub stateIn : Bool → List ℕ → ℕ → BufferedFile
+stateIn true b at = heldIn b at
+stateIn false b at = fresh (fileIn b at)
+
+unfoldable pub stateFlags : Bool → List ℕ → ℕ → Bool
+stateFlags true b at = heldFlags b at
+stateFlags false b at = fileFlags b at
+
 -- ---- a session
 
 -- 18 entries, then four open-file states
-unfoldable pub stored : Session → List ℕ
-stored s = rowOf entryStored (s .table) ++ rowOf fileStored (s .files)
+unfoldable pub stored : Bool → BufferedSession → List ℕ
+stored u s = rowOf (entryOf twoWordsWide) (s .table) ++ rowOf (stateStored u) (s .files)
 
-unfoldable pub bufferedStored : BufferedSession → List ℕ
-bufferedStored s = rowOf entryStored (s .table) ++ rowOf heldStored (s .files)
-
--- whether bytes are a session with states of w bytes each: as many as it takes, each truth value 0 or 1
-unfoldable pub formed : (List ℕ → ℕ → Bool) → ℕ → ℕ → List ℕ → Bool
-formed flags w size b = every isByte b && (eqb (length b) size && all (rowIn flags w mostOpen b filesAt))
-
-abbrev pub isStored : List ℕ → Bool
-isStored b = formed fileFlags fileWidth sessionSize b
-
-abbrev pub isBufferedStored : List ℕ → Bool
-isBufferedStored b = formed heldFlags heldWidth bufferedSize b
+-- whether bytes are a session: as many as it takes, each truth value 0 or 1
+unfoldable pub isSession : Bool → List ℕ → Bool
+isSession u b = every isByte b && (eqb (length b) (sizeOf u) && all (rowIn (stateFlags u) (width u) mostOpen b filesAt))
 
 -- the table that bytes hold
-unfoldable pub tableIn : List ℕ → List Entry
-tableIn b = rowIn entryIn entryWidth entries b 0
+abbrev pub tableIn : List ℕ → List Entry
+tableIn b = entriesIn twoWordsWide entries b
+
+-- the open-file states
+unfoldable pub statesIn : Bool → List ℕ → List BufferedFile
+statesIn u b = rowIn (stateIn u) (width u) mostOpen b filesAt
 
 -- an entry of no kind, which no table may have
 abbrev pub unlawfulEntry : Entry
 unlawfulEntry = record { name = replicate 8 0; kind = 5; length = 0; first = 0; sectors = 0; count = 0; flags = 0 }
 
 -- "bytes that are no session are a session that is not legal": its entries are of no kind that there is
-unfoldable pub unlawful : Session
-unlawful = record {
-  table = replicate entries unlawfulEntry;
-  files = replicate mostOpen idle;
-}
+unfoldable pub unlawful : BufferedSession
+unlawful = record { table = replicate entries unlawfulEntry; files = replicate mostOpen (fresh idle) }
 
 -- the session that bytes are
-unfoldable pub sessionIn : List ℕ → Session
-sessionIn b = elim (isStored b) [ true ↦ record { table = tableIn b; files = rowIn fileIn fileWidth mostOpen b filesAt } | false ↦ unlawful ]
+unfoldable pub sessionIn : Bool → List ℕ → BufferedSession
+sessionIn u b = elim (isSession u b) [ true ↦ record { table = tableIn b; files = statesIn u b } | false ↦ unlawful ]
 
-unfoldable pub bufferedIn : List ℕ → BufferedSession
-bufferedIn b = elim (isBufferedStored b) [
-  | true ↦ record { table = tableIn b; files = rowIn heldIn heldWidth mostOpen b filesAt }
-  | false ↦ unheld unlawful
-]
+-- with buffers or without, by the number of the bytes
+abbrev pub lentSession : List ℕ → BufferedSession
+lentSession b = sessionIn (hasBuffers b) b
+
+-- of the engine with no buffer
+abbrev pub plainIn : List ℕ → Session
+plainIn b = bare (sessionIn false b)
+
+abbrev pub plainStored : Session → List ℕ
+plainStored s = stored false (unheld s)
 
 -- ---- laying a part of a session
 
@@ -160,29 +166,25 @@ bufferedIn b = elim (isBufferedStored b) [
 unfoldable pub layPart : ℕ → ℕ → ℕ → List ℕ → ℕ → List ℕ → List ℕ
 layPart n at w b i x = elim (ltb i n) [ true ↦ lay b (at + w * i) x | false ↦ b ]
 
--- another entry of number i
-abbrev pub layEntry : List ℕ → ℕ → Entry → List ℕ
-layEntry b i e = layPart entries 0 entryWidth b i (entryStored e)
+-- a state, but for its buffer
+unfoldable pub frontStored : Bool → OpenFile → Holding → List ℕ
+frontStored true f h = fileStored f ++ holdStored h
+frontStored false f h = fileStored f
 
--- another count and other flags of entry i, which stand behind its first 16 bytes
-abbrev pub layCounts : List ℕ → ℕ → ℕ → ℕ → List ℕ
-layCounts b i count flags = layPart entries 16 entryWidth b i (bytesOf 4 count ++ bytesOf 2 flags)
+-- another state of number k, whose buffer stays
+abbrev pub layState : Bool → List ℕ → ℕ → OpenFile → Holding → List ℕ
+layState u b k f h = layPart mostOpen filesAt (width u) b k (frontStored u f h)
 
--- another state of number k
-abbrev pub layFile : List ℕ → ℕ → OpenFile → List ℕ
-layFile b k f = layPart mostOpen filesAt fileWidth b k (fileStored f)
+-- and one with a fresh buffer
+abbrev pub layFresh : Bool → List ℕ → ℕ → OpenFile → List ℕ
+layFresh u b k f = layPart mostOpen filesAt (width u) b k (stateStored u (fresh f))
 
-abbrev pub layHeld : List ℕ → ℕ → BufferedFile → List ℕ
-layHeld b k f = layPart mostOpen filesAt heldWidth b k (heldStored f)
+-- the directory of an image that is mounted; else a table with no used entry
+unfoldable pub startTable : Bool → List ℕ → List Entry
+startTable mounted image = elim (mounted && hasRows oneWordWide entries image) [ true ↦ tableOf image | false ↦ replicate entries freeEntry ]
 
--- and one whose buffer stays
-abbrev pub layState : List ℕ → ℕ → OpenFile → Bool → ℕ → Bool → List ℕ
-layState b k f holds held changed = layPart mostOpen filesAt heldWidth b k (fileStored f ++ holdStored holds held changed)
-
--- ---- laying a whole session, over bytes that are as many as it takes
-
-unfoldable pub laySession : List ℕ → Session → List ℕ
-laySession b s = elim (eqb (length b) sessionSize) [ true ↦ stored s | false ↦ b ]
-
-unfoldable pub layBuffered : List ℕ → BufferedSession → List ℕ
-layBuffered b s = elim (eqb (length b) bufferedSize) [ true ↦ bufferedStored s | false ↦ b ]
+-- a session with that table and nothing open, over bytes that are as many as one takes
+unfoldable pub layStart : List ℕ → List Entry → List ℕ
+layStart b table =
+    let u : Bool = hasBuffers b in
+    elim (eqb (length b) (sizeOf u)) [ true ↦ stored u (record { table = table; files = replicate mostOpen (fresh idle) }) | false ↦ b ]

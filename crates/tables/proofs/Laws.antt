@@ -127,7 +127,7 @@ in-named : (w : ℕ) (b : List ℕ) (at : ℕ) → isNamed (entryIn w b at) ≡ 
 unfolding entryIn
 in-named w b at = eq-eqb (length (padded 0 8 (part b at 8))) 8 (length-padded 0 8 (part b at 8) (omega (arith, length-part-min b at 8)))
 
-all-named : (w n : ℕ) (b : List ℕ) → every isNamed (entriesIn w n b) ≡ true
+pub all-named : (w n : ℕ) (b : List ℕ) → every isNamed (entriesIn w n b) ≡ true
 all-named w n b =
     every-from isNamed (entriesIn w n b) freeEntry λ (i : ℕ) (q : i < length (entriesIn w n b)).
     ap isNamed (entry-is w n b i (w * i) (omega (arith, length-entries w n b)) refl) ∙ in-named w b (w * i)
