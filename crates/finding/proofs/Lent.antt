@@ -1,227 +1,83 @@
--- Sessions in lent bytes, read where they lie: an entry stands at 22·i, a state at w·k behind the first, and what is tested of those bytes is tested of the entry or state that they hold.
+-- Sessions in lent bytes, read where they lie: a state stands at w·k behind the first, and what is tested of its bytes is tested of the state that they hold.
 use mathlib.Core.Path.{_≡_, refl, sym, ap, _∙_}
-use mathlib.Core.Bool.{Bool, true, false, _&&_, _||_, not, false≢true}
-use mathlib.Core.List.{List, [], _∷_, map}
-use Prim.Native.Nat.{ℕ, zero, suc, _+_, _-_, _*_, _≤_, _<_}
+use mathlib.Core.Bool.{Bool, true, false, _&&_, not, false≢true}
+use mathlib.Core.List.{List, []}
+use Prim.Native.Nat.{ℕ, zero, suc, _+_, _*_, _≤_, _<_}
 use native.Mathlib.Omega.{arith}
 use native.Mathlib.Decide.{decLt}
 use lib.Dec.{eqb, ltb}
 use lib.ListN.{length, take, drop, getD, List·getD-eq-default}
 use lib.Seq.{length-take-le, getD-take}
-use borrow.Author.Tests.{eq-eqb, ne-eqb, eqb-true, lt-ltb, ltb-true, not-true}
+use borrow.Author.Tests.{eq-eqb, eqb-true, lt-ltb, not-true}
 use Rattle.geometry.specs.Bytes.{part}
-use Rattle.geometry.specs.Lists.{every, firstWith, howMany, same}
+use Rattle.geometry.specs.Lists.{every, firstWith, howMany}
 use Rattle.geometry.specs.Sizes.{sector, entries, mostOpen}
-use Rattle.geometry.proofs.Bytes.{length-part, getD-part, part-split}
 use Rattle.geometry.proofs.Left.{every-on, every-off, every-end}
-use Rattle.geometry.proofs.Tests.{either, alike, and-left, and-right, and-both, every-alike, every-from, first-holds}
-use Rattle.directory.specs.Entries.{entryBytes, freeEntry, entryAt, isFree}
-use Rattle.directory.specs.Grouped.{entryGood, usedGood, twoGood}
-use Rattle.directory.specs.Rules.{isName}
-use Rattle.directory.proofs.Free.{every-append, zero-entry, free-good}
-use Rattle.directory.proofs.Grouped.{used-unnamed, used-named, two-free, two-before, two-behind, two-shared}
-use Rattle.sessions.specs.Session.{idle, fresh, bare, unheld, isOf, ofOther, stand, fileOf, slotOf, openFiles, spotOf, heldGood, legal, bufferedLegal}
+use Rattle.geometry.proofs.Tests.{either, alike, every-alike, every-from, first-holds}
+use Rattle.directory.specs.Entries.{entryAt}
+use Rattle.directory.specs.declared.Entry.{Entry}
+use Rattle.sessions.specs.Session.{idle, fresh, bare, isOf, ofOther, stand, fileOf, slotOf, openFiles, spotOf, heldGood, legal, bufferedLegal}
 use Rattle.sessions.specs.Grouped.{fileGood, openGood, holdGood}
 use Rattle.sessions.proofs.Files.{Finds, opened, closed, finds}
 use Rattle.sessions.proofs.Grouped.{file-told, held-unused, held-told}
-use Rattle.sessions.proofs.Unheld.{bare-unheld}
-use Rattle.directory.specs.declared.Entry.{Entry}
 use Rattle.sessions.specs.declared.BufferedFile.{BufferedFile}
 use Rattle.sessions.specs.declared.BufferedSession.{BufferedSession}
 use Rattle.sessions.specs.declared.Holding.{Holding}
 use Rattle.sessions.specs.declared.OpenFile.{OpenFile}
-use Rattle.sessions.specs.declared.Session.{Session}
 use Rattle.sessions.specs.declared.Spot.the-variants.{Closed}
-use Rattle.storing.specs.Numbers.{numberIn, isSet, isByte}
-use Rattle.storing.specs.Rows.{rowIn}
-use Rattle.storing.specs.Stored.{entryWidth, fileWidth, heldWidth, filesAt, entryIn, fileIn, heldIn, isStored, isBufferedStored, tableIn, unlawful, sessionIn, bufferedIn}
-use Rattle.storing.specs.Lent.{filesIn, bareIn, ifUsed, inUse, stateAt, holdOf, noHold, lentBy, lentIn, ownState, seenOf, seenIn, seenBufferedIn}
-use Rattle.storing.proofs.Rows.{length-row, getD-row}
-use Rattle.storing.proofs.Read.{session-is, session-none, buffered-is, buffered-none}
-use Rattle.storing.proofs.Illegal.{none-legal, none-legal-buffered}
+use Rattle.tables.specs.Numbers.{numberIn, isByte}
+use Rattle.tables.specs.Tables.{twoWordsWide, hasRows}
+use Rattle.tables.specs.Tables as Tables
+use Rattle.tables.proofs.Rows.{length-row, getD-row}
+use Rattle.tables.proofs.Widths.{rows-there}
+use Rattle.storing.specs.Numbers.{isSet, isFlag}
+use Rattle.storing.specs.Stored.{heldWidth, filesAt, width, sizeOf, hasBuffers, fileIn, fileFlags, heldIn, heldFlags, stateFlags, stateIn, holdOf, noHold, isSession, tableIn, statesIn, unlawful, sessionIn, lentSession}
+use Rattle.storing.proofs.Read.{width-least, width-most, asked, other-size, session-size, session-is, session-none, bare-states}
+use Rattle.storing.proofs.Illegal.{unlawful-held}
+use Rattle.finding.specs.Lent.{Spaced, filesIn, bareIn, ifUsed, inUse, stateAt, lentBy, lentIn, bufferAt, ownState, seenOf, seenIn}
 
--- ---- zero bytes
+-- ---- the table
 
-abbrev zero-byte : ℕ → Bool
-zero-byte x = eqb x 0
+pub has-table : (b : List ℕ) → filesAt ≤ length b → hasRows twoWordsWide entries b ≡ true
+has-table b room = rows-there twoWordsWide entries b (omega arith, omega arith, refl) room
 
--- a number is zero if its bytes are
-zero-number : (xs : List ℕ) → eqb (numberIn xs) 0 ≡ every zero-byte xs
-unfolding numberIn every
-zero-number [] = refl
-zero-number (x ∷ xs) =
-    let n : eqb (numberIn xs) 0 ≡ every zero-byte xs = zero-number xs in
-    alike _ _
-    (λ (h : eqb (x + 256 * numberIn xs) 0 ≡ true).
-    let e : x + 256 * numberIn xs ≡ 0 = eqb-true (x + 256 * numberIn xs) 0 h in
-    and-both (eqb x 0) (every zero-byte xs) (eq-eqb x 0 (omega arith)) (sym n ∙ eq-eqb (numberIn xs) 0 (omega arith)))
-    (λ (h : (eqb x 0 && every zero-byte xs) ≡ true).
-    let a : x ≡ 0 = eqb-true x 0 (and-left (eqb x 0) (every zero-byte xs) h) in
-    let c : numberIn xs ≡ 0 = eqb-true (numberIn xs) 0 (n ∙ and-right (eqb x 0) (every zero-byte xs) h) in
-    eq-eqb (x + 256 * numberIn xs) 0 (omega arith))
+pub table-is : (b : List ℕ) → filesAt ≤ length b → Tables.tableIn twoWordsWide entries b ≡ tableIn b
+unfolding Tables.tableIn
+table-is b room = rw (has-table b room, Tables.tableIn)
 
-twice : (x y z : Bool) → (x && (y && z)) ≡ ((x && y) && (y && z))
-twice false y z = refl
-twice true false z = refl
-twice true true z = refl
+-- ---- bytes that are a session
 
-module _ (b : List ℕ) where
-  -- the first k of n bytes, and what is behind them
-  front-zero : (k at n next : ℕ) (r : Bool) → k ≤ n → next ≡ at + k → every zero-byte (part b next (n - k)) ≡ r
-      → every zero-byte (part b at n) ≡ (every zero-byte (part b at k) && r)
-  front-zero k at n next r h e p =
-      ap (every zero-byte) (part-split b at n k h)
-      ∙ every-append zero-byte (part b at k) (part b (at + k) (n - k))
-      ∙ ap (λ (q : Bool). every zero-byte (part b at k) && q) (ap (λ (m : ℕ). every zero-byte (part b m (n - k))) (sym e) ∙ p)
+pub held-wide : (u : Bool) → u ≡ true → width u ≡ 396
+unfolding width
+held-wide u t = ap width t
 
-  -- the same, the first k told as a number
-  next-zero : (k at n next : ℕ) (r : Bool) → k ≤ n → next ≡ at + k → every zero-byte (part b next (n - k)) ≡ r
-      → every zero-byte (part b at n) ≡ (eqb (numberIn (part b at k)) 0 && r)
-  next-zero k at n next r h e p = front-zero k at n next r h e p ∙ ap (λ (q : Bool). q && r) (sym (zero-number (part b at k)))
+module _ (u : Bool) (b : List ℕ) (at : ℕ) (x : Bool) (px : x ≡ fileFlags b at) where
+  pub flags-held : u ≡ true → (y z : Bool) → y ≡ isFlag (getD b (at + 30) 0) → z ≡ isFlag (getD b (at + 35) 0) → (x && (y && z)) ≡ stateFlags u b at
+  flags-held t y z py pz = rw (px, py, pz) (sym (ap (λ (v : Bool). stateFlags v b at) t ∙ (unfold stateFlags heldFlags in refl)))
 
-  -- two parts of which the second begins in the first
-  over-zero : (at next last : ℕ) → next ≡ at + 6 → last ≡ next + 2
-      → every zero-byte (part b at 14) ≡ (every zero-byte (part b at 8) && every zero-byte (part b next 8))
-  over-zero at next last p q =
-      let whole : every zero-byte (part b at 14) ≡ (every zero-byte (part b at 6) && every zero-byte (part b next 8)) = front-zero 6 at 14 next _ (omega arith) p refl in
-      let first : every zero-byte (part b at 8) ≡ (every zero-byte (part b at 6) && every zero-byte (part b next 2)) = front-zero 6 at 8 next _ (omega arith) p refl in
-      let second : every zero-byte (part b next 8) ≡ (every zero-byte (part b next 2) && every zero-byte (part b last 6)) = front-zero 2 next 8 last _ (omega arith) q refl in
-      rw (whole, first, second) (twice (every zero-byte (part b at 6)) (every zero-byte (part b next 2)) (every zero-byte (part b last 6)))
+  pub flags-plain : u ≡ false → x ≡ stateFlags u b at
+  flags-plain t = px ∙ sym (ap (λ (v : Bool). stateFlags v b at) t ∙ (unfold stateFlags in refl))
 
-  -- as three numbers of eight bytes
-  zero-by-eight : (at : ℕ) → every (λ x. eqb x 0) (part b at 22)
-      ≡ (eqb (numberIn (part b at 8)) 0 && (eqb (numberIn (part b (at + 8) 8)) 0 && eqb (numberIn (part b (at + 14) 8)) 0))
-  zero-by-eight at =
-      next-zero 8 at 22 (at + 8) _ (omega arith) refl
-      (over-zero (at + 8) (at + 14) (at + 16) (omega arith) (omega arith) ∙ rw (zero-number (part b (at + 8) 8), zero-number (part b (at + 14) 8)))
+module _ (u : Bool) (b : List ℕ) (w : ℕ) (pw : w ≡ width u) where
+  size : sizeOf u ≡ 396 + 4 * w
+  unfolding sizeOf
+  size = omega (arith, pw)
 
-  -- read one after another, up to the first that is not zero
-  module _ (at x : ℕ) (p : x ≡ numberIn (part b at 8)) where
-    pub zero-not : ¬ (x ≡ 0) → false ≡ every (λ x. eqb x 0) (part b at 22)
-    zero-not h = sym (zero-by-eight at ∙ rw (sym p, ne-eqb x 0 h))
+  pub session-told : length b ≡ 396 + 4 * w → every isByte b ≡ true → (p q r s : Bool)
+      → p ≡ stateFlags u b 396 → q ≡ stateFlags u b (396 + w) → r ≡ stateFlags u b (396 + 2 * w) → s ≡ stateFlags u b (396 + 3 * w) → (p && (q && (r && s))) ≡ isSession u b
+  session-told l bytes p q r s pp pq pr ps =
+      let z₁ : 396 + w ≡ filesAt + width u = omega arith in
+      let z₂ : 396 + 2 * w ≡ filesAt + width u + width u = omega arith in
+      let z₃ : 396 + 3 * w ≡ filesAt + width u + width u + width u = omega arith in
+      rw (pp, pq ∙ ap (stateFlags u b) z₁, pr ∙ ap (stateFlags u b) z₂, ps ∙ ap (stateFlags u b) z₃) (sym (asked u b bytes (l ∙ sym size)))
 
-    module _ (e : x ≡ 0) (y : ℕ) (q : y ≡ numberIn (part b (at + 8) 8)) where
-      pub zero-not-next : ¬ (y ≡ 0) → false ≡ every (λ x. eqb x 0) (part b at 22)
-      zero-not-next h = sym (zero-by-eight at ∙ rw (sym p, eq-eqb x 0 e, sym q, ne-eqb y 0 h))
+  pub session-not : ¬ (length b ≡ 396 + 4 * w) → false ≡ isSession u b
+  session-not h = sym (other-size u b λ (l : length b ≡ sizeOf u). h (l ∙ size))
 
-      pub zero-last : y ≡ 0 → (z : ℕ) → z ≡ numberIn (part b (at + 14) 8) → eqb z 0 ≡ every (λ x. eqb x 0) (part b at 22)
-      zero-last f z r = sym (zero-by-eight at ∙ rw (sym p, eq-eqb x 0 e, sym q, eq-eqb y 0 f, sym r))
-
-  -- as the name and the numbers of an entry
-  zero-by-field : (at : ℕ) → every zero-byte (part b at 22) ≡ every zero-byte (entryBytes (entryIn b at))
-  unfolding entryIn
-  zero-by-field at =
-      front-zero 8 at 22 (at + 8) _ (omega arith) refl
-      (next-zero 2 (at + 8) 14 (at + 10) _ (omega arith) (omega arith)
-      (next-zero 2 (at + 10) 12 (at + 12) _ (omega arith) (omega arith)
-      (next-zero 2 (at + 12) 10 (at + 14) _ (omega arith) (omega arith)
-      (next-zero 2 (at + 14) 8 (at + 16) _ (omega arith) (omega arith)
-      (next-zero 4 (at + 16) 6 (at + 20) _ (omega arith) (omega arith) (sym (zero-number (part b (at + 20) 2))))))))
-      ∙ sym (zero-entry (entryIn b at))
-
--- ---- an entry where it lies
-
-module _ (b : List ℕ) (i at : ℕ) (h : i < entries) (q : at ≡ entryWidth * i) where
-  pub entry-is : getD (tableIn b) i freeEntry ≡ entryIn b at
-  unfolding tableIn
-  entry-is =
-      let e : 0 + entryWidth * i ≡ at = omega arith in
-      getD-row entryIn entryWidth entries b 0 i freeEntry h ∙ ap (entryIn b) e
-
-  module _ (N : ℕ) where
-    -- the rules of one entry: of a free one, and of a used one, its name where it lies and the others of what is read
-    pub free-told : (kind : ℕ) (r : Bool) → kind ≡ numberIn (part b (at + 8) 2) → kind ≡ 0 → r ≡ every (λ x. eqb x 0) (part b at 22)
-        → entryGood N (getD (tableIn b) i freeEntry) ≡ r
-    unfolding entryIn
-    free-told kind r k z p = ap (entryGood N) entry-is ∙ free-good N (entryIn b at) (sym k ∙ z) ∙ sym (zero-by-field b at) ∙ sym p
-
-    module _ (kind : ℕ) (k : kind ≡ numberIn (part b (at + 8) 2)) (u : ¬ (kind ≡ 0)) (r : Bool) (p : r ≡ isName (take ((at + 8) - at) (drop at b))) where
-      used : ¬ (entryIn b at .kind ≡ 0)
-      unfolding entryIn
-      used z = u (k ∙ z)
-
-      name-is : isName (entryIn b at .name) ≡ r
-      unfolding entryIn part
-      name-is =
-          let e : (at + 8) - at ≡ 8 = omega arith in
-          ap (λ (n : ℕ). isName (take n (drop at b))) (sym e) ∙ sym p
-
-      pub unnamed-told : r ≡ false → entryGood N (getD (tableIn b) i freeEntry) ≡ false
-      unnamed-told f = ap (entryGood N) entry-is ∙ used-unnamed N (entryIn b at) used (name-is ∙ f)
-
-      pub used-told : r ≡ true → (e : Entry) (s : Bool) → e ≡ entryIn b at → s ≡ usedGood N e → entryGood N (getD (tableIn b) i freeEntry) ≡ s
-      used-told t e s q m = ap (entryGood N) entry-is ∙ used-named N (entryIn b at) used (name-is ∙ t) ∙ ap (usedGood N) (sym q) ∙ sym m
-
-  pub free-kind : (kind : ℕ) → kind ≡ numberIn (part b (at + 8) 2) → kind ≡ 0 → getD (tableIn b) i freeEntry .kind ≡ 0
-  unfolding entryIn
-  free-kind kind k z = ap (λ (e : Entry). e .kind) entry-is ∙ sym k ∙ z
-
-  -- the rules of two, with one behind it, and with all before it
-  pub two-told : (e : Entry) (r : Bool) → r ≡ twoGood (entryIn b at) e → twoGood (getD (tableIn b) i freeEntry) e ≡ r
-  two-told e r s = ap (λ (x : Entry). twoGood x e) entry-is ∙ sym s
-
-  pub all-told : (r : Bool) → r ≡ every (λ f. twoGood f (entryIn b at)) (take i (tableIn b))
-      → every (λ f. twoGood f (getD (tableIn b) i freeEntry)) (take i (tableIn b)) ≡ r
-  all-told r s = ap (λ (x : Entry). every (λ f. twoGood f x) (take i (tableIn b))) entry-is ∙ sym s
-
--- ---- two entries where they lie
-
--- bytes are the same if their numbers are
-same-number : (xs ys : List ℕ) → length xs ≡ length ys → every isByte xs ≡ true → every isByte ys ≡ true → eqb (numberIn xs) (numberIn ys) ≡ same xs ys
-unfolding numberIn every same
-same-number [] [] l g h = refl
-same-number [] (y ∷ ys) l g h = absurd (omega arith)
-same-number (x ∷ xs) [] l g h = absurd (omega arith)
-same-number (x ∷ xs) (y ∷ ys) l g h =
-    let k : length xs ≡ length ys = omega arith in
-    let n : eqb (numberIn xs) (numberIn ys) ≡ same xs ys = same-number xs ys k (and-right (isByte x) (every isByte xs) g) (and-right (isByte y) (every isByte ys) h) in
-    let u : x < 256 = ltb-true x 256 (and-left (isByte x) (every isByte xs) g) in
-    let v : y < 256 = ltb-true y 256 (and-left (isByte y) (every isByte ys) h) in
-    alike _ _
-    (λ (q : eqb (x + 256 * numberIn xs) (y + 256 * numberIn ys) ≡ true).
-    let e : x + 256 * numberIn xs ≡ y + 256 * numberIn ys = eqb-true _ _ q in
-    and-both (eqb x y) (same xs ys) (eq-eqb x y (omega arith)) (sym n ∙ eq-eqb (numberIn xs) (numberIn ys) (omega arith)))
-    (λ (q : (eqb x y && same xs ys) ≡ true).
-    let a : x ≡ y = eqb-true x y (and-left (eqb x y) (same xs ys) q) in
-    let c : numberIn xs ≡ numberIn ys = eqb-true (numberIn xs) (numberIn ys) (n ∙ and-right (eqb x y) (same xs ys) q) in
-    eq-eqb (x + 256 * numberIn xs) (y + 256 * numberIn ys) (omega arith))
-
-module _ (b : List ℕ) (g : (k : ℕ) → getD b k 0 < 256) where
-  part-bytes : (at : ℕ) → at + 8 ≤ length b → every isByte (part b at 8) ≡ true
-  part-bytes at h =
-      every-from isByte (part b at 8) 0 λ (i : ℕ) (q : i < length (part b at 8)).
-      let n : length (part b at 8) ≡ 8 = length-part b at 8 h in
-      lt-ltb (getD (part b at 8) i 0) 256 (omega (arith, getD-part b at 8 i 0 (omega arith), g (at + i)))
-
-  pub same-told : (at end : ℕ) → at + 8 ≤ length b → end + 8 ≤ length b → (v w : ℕ) → v ≡ numberIn (part b at 8) → w ≡ numberIn (part b end 8)
-      → eqb v w ≡ same (part b at 8) (part b end 8)
-  same-told at end h k v w p q =
-      rw (p, q)
-      (same-number (part b at 8) (part b end 8) (length-part b at 8 h ∙ sym (length-part b end 8 k)) (part-bytes at h) (part-bytes end k))
-
-module _ (b : List ℕ) (at end j k : ℕ) (pj : j ≡ numberIn (part b (at + 8) 2)) (pk : k ≡ numberIn (part b (end + 8) 2)) where
-  pub pair-free : (eqb j 0 || eqb k 0) ≡ true → true ≡ twoGood (entryIn b at) (entryIn b end)
-  unfolding entryIn
-  pair-free h = sym (two-free (entryIn b at) (entryIn b end) (rw (sym pj, sym pk) h))
-
-  module _ (u : (eqb j 0 || eqb k 0) ≡ false) (f n s : ℕ) (pf : f ≡ numberIn (part b (at + 12) 2)) (pn : n ≡ numberIn (part b (end + 12) 2))
-      (ps : s ≡ numberIn (part b (at + 14) 2)) where
-    both-used : (isFree (entryIn b at) || isFree (entryIn b end)) ≡ false
-    unfolding entryIn
-    both-used = rw (sym pj, sym pk) u
-
-    pub pair-shared : (t : ℕ) → t ≡ numberIn (part b (end + 14) 2) → n < f + s → f < n + t → false ≡ twoGood (entryIn b at) (entryIn b end)
-    unfolding entryIn
-    pair-shared t pt h l = sym (two-shared (entryIn b at) (entryIn b end) both-used (rw (sym pf, sym pn, sym ps) h) (rw (sym pf, sym pn, sym pt) l))
-
-    module _ (r : Bool) (pr : r ≡ same (part b at 8) (part b end 8)) where
-      pub pair-before : f + s ≤ n → not r ≡ twoGood (entryIn b at) (entryIn b end)
-      unfolding entryIn
-      pair-before h = rw pr (sym (two-before (entryIn b at) (entryIn b end) both-used (rw (sym pf, sym pn, sym ps) h)))
-
-      pub pair-behind : (t : ℕ) → t ≡ numberIn (part b (end + 14) 2) → n + t ≤ f → not r ≡ twoGood (entryIn b at) (entryIn b end)
-      unfolding entryIn
-      pair-behind t pt h = rw pr (sym (two-behind (entryIn b at) (entryIn b end) both-used (rw (sym pf, sym pn, sym pt) h)))
+  pub spaced : isSession u b ≡ true → Spaced w b
+  spaced t =
+      let l : length b ≡ filesAt + width u * mostOpen = session-size u b t ∙ (unfold sizeOf in refl) in
+      (omega (arith, width-least u), omega (arith, width-most u), omega arith)
 
 -- ---- those before number i
 
@@ -317,20 +173,21 @@ one-file-told t x f q e r p s u = ap (fileGood t) q ∙ file-told t f e r p s (s
 
 -- ---- a held sector where it lies
 
-module _ (b : List ℕ) (k at : ℕ) (h : k < mostOpen) (q : at ≡ filesAt + heldWidth * k) (d : BufferedFile) (u v : Bool) (pu : u ≡ isSet (getD b at 0))
-    (pv : v ≡ isSet (getD b (at + 30) 0)) where
-  held-is : getD (rowIn heldIn heldWidth mostOpen b filesAt) k d ≡ heldIn b at
-  held-is = getD-row heldIn heldWidth mostOpen b filesAt k d h ∙ ap (heldIn b) (sym q)
+module _ (b : List ℕ) (k at : ℕ) (h : k < mostOpen) (q : at ≡ filesAt + heldWidth * k) (d : BufferedFile) where
+  held-is : getD (statesIn true b) k d ≡ heldIn b at
+  unfolding statesIn stateIn width
+  held-is = getD-row (stateIn true) heldWidth mostOpen b filesAt k d h ∙ ap (heldIn b) (sym q)
 
-  pub hold-told : (i : ℕ) (e : Entry) (held : ℕ) (r : Bool) → i ≡ numberIn (part b (at + 1) 8) → e ≡ entryAt (tableIn b) i → held ≡ numberIn (part b (at + 31) 4)
-      → r ≡ holdGood e held → (u && v) ≡ true → heldGood (tableIn b) (getD (rowIn heldIn heldWidth mostOpen b filesAt) k d) ≡ r
-  unfolding heldIn fileIn
-  hold-told i e held r pi pe ph pr t =
-      ap (heldGood (tableIn b)) held-is ∙ held-told (tableIn b) (heldIn b at) e r (rw pi at pe) (rw ph at pr) (rw (pu, pv) at t)
+  module _ (u v : Bool) (pu : u ≡ isSet (getD b at 0)) (pv : v ≡ isSet (getD b (at + 30) 0)) where
+    pub hold-told : (i : ℕ) (e : Entry) (held : ℕ) (r : Bool) → i ≡ numberIn (part b (at + 1) 8) → e ≡ entryAt (tableIn b) i → held ≡ numberIn (part b (at + 31) 4)
+        → r ≡ holdGood e held → (u && v) ≡ true → heldGood (tableIn b) (getD (statesIn true b) k d) ≡ r
+    unfolding heldIn fileIn
+    hold-told i e held r pi pe ph pr t =
+        ap (heldGood (tableIn b)) held-is ∙ held-told (tableIn b) (heldIn b at) e r (rw pi at pe) (rw ph at pr) (rw (pu, pv) at t)
 
-  pub hold-none : (u && v) ≡ false → heldGood (tableIn b) (getD (rowIn heldIn heldWidth mostOpen b filesAt) k d) ≡ true
-  unfolding heldIn fileIn
-  hold-none t = ap (heldGood (tableIn b)) held-is ∙ held-unused (tableIn b) (heldIn b at) (rw (pu, pv) at t)
+    pub hold-none : (u && v) ≡ false → heldGood (tableIn b) (getD (statesIn true b) k d) ≡ true
+    unfolding heldIn fileIn
+    hold-none t = ap (heldGood (tableIn b)) held-is ∙ held-unused (tableIn b) (heldIn b at) (rw (pu, pv) at t)
 
 -- what a state holds: one that is used has it in its bytes, any other holds nothing
 module _ (b : List ℕ) (at : ℕ) (u : Bool) (pu : u ≡ isSet (getD b at 0)) where
@@ -343,30 +200,67 @@ module _ (b : List ℕ) (at : ℕ) (u : Bool) (pu : u ≡ isSet (getD b at 0)) w
   unfolding inUse heldIn fileIn
   hold-idle t = rw (sym pu, t)
 
+pub length-states : (u : Bool) (b : List ℕ) → length (statesIn u b) ≡ mostOpen
+unfolding statesIn
+length-states u b = length-row (stateIn u) (width u) mostOpen b filesAt
+
+-- a fresh state holds nothing, in use or not
+fresh-holds : (f : OpenFile) → holdOf (inUse (fresh f)) ≡ noHold
+unfolding inUse
+fresh-holds f = either (f .used) (λ (t : f .used ≡ true). rw t) (λ (t : f .used ≡ false). rw t)
+
+plain-at : (b : List ℕ) (k : ℕ) → k < mostOpen → getD (statesIn false b) k (fresh idle) ≡ fresh (fileIn b (filesAt + width false * k))
+unfolding statesIn stateIn
+plain-at b k h = getD-row (stateIn false) (width false) mostOpen b filesAt k (fresh idle) h
+
+-- without buffers nothing is held
+plain-state : (b : List ℕ) (k : ℕ) → holdOf (stateAt (statesIn false b) k) ≡ noHold
+unfolding stateAt
+plain-state b k = go (decLt k mostOpen)
+  where
+    go : Dec (k < mostOpen) → holdOf (inUse (getD (statesIn false b) k (fresh idle))) ≡ noHold
+    go (yes h) = ap (λ (f : BufferedFile). holdOf (inUse f)) (plain-at b k h) ∙ fresh-holds (fileIn b (filesAt + width false * k))
+    go (no h) =
+        let l : length (statesIn false b) ≡ mostOpen = length-states false b in
+        ap (λ (f : BufferedFile). holdOf (inUse f)) (List·getD-eq-default (statesIn false b) (fresh idle) (omega arith)) ∙ fresh-holds idle
+
+pub plain-good : (t : List Entry) (b : List ℕ) → every (heldGood t) (statesIn false b) ≡ true
+plain-good t b =
+    every-from (heldGood t) (statesIn false b) (fresh idle) λ (k : ℕ) (q : k < length (statesIn false b)).
+    let l : length (statesIn false b) ≡ mostOpen = length-states false b in
+    ap (heldGood t) (plain-at b k (omega arith)) ∙ good (fileIn b (filesAt + width false * k))
+  where
+    good : (f : OpenFile) → heldGood t (fresh f) ≡ true
+    good f = held-unused t (fresh f) (either (f .used) (λ (z : f .used ≡ true). rw z) (λ (z : f .used ≡ false). rw z))
+
 module _ (b : List ℕ) (k : ℕ) where
-  abbrev row : List BufferedFile
-  row = rowIn heldIn heldWidth mostOpen b filesAt
-
-  state-here : (at : ℕ) → k < mostOpen → at ≡ filesAt + heldWidth * k → inUse (heldIn b at) ≡ stateAt row k
+  state-here : (at : ℕ) → k < mostOpen → at ≡ filesAt + heldWidth * k → inUse (heldIn b at) ≡ stateAt (statesIn true b) k
   unfolding stateAt
-  state-here at h q = ap inUse (sym (getD-row heldIn heldWidth mostOpen b filesAt k (fresh idle) h ∙ ap (heldIn b) (sym q)))
+  state-here at h q = ap inUse (sym (held-is b k at h q (fresh idle)))
 
-  state-past : mostOpen ≤ k → fresh idle ≡ stateAt row k
+  state-past : (u : Bool) → mostOpen ≤ k → fresh idle ≡ stateAt (statesIn u b) k
   unfolding stateAt inUse
-  state-past h =
-      let n : length row ≡ mostOpen = length-row heldIn heldWidth mostOpen b filesAt in
-      let l : length row ≤ k = omega arith in
-      ap inUse (sym (List·getD-eq-default row (fresh idle) l))
+  state-past u h =
+      let n : length (statesIn u b) ≡ mostOpen = length-states u b in
+      let l : length (statesIn u b) ≤ k = omega arith in
+      ap inUse (sym (List·getD-eq-default (statesIn u b) (fresh idle) l))
 
-  pub hold-here : (at : ℕ) → k < mostOpen → at ≡ filesAt + heldWidth * k → holdOf (inUse (heldIn b at)) ≡ holdOf (stateAt row k)
-  hold-here at h q = ap holdOf (state-here at h q)
+  -- as the program tells it
+  pub hold-here : (u : Bool) → (u && ltb k mostOpen) ≡ true → (at : ℕ) → at ≡ filesAt + heldWidth * k → k < mostOpen → holdOf (inUse (heldIn b at)) ≡ holdOf (stateAt (statesIn u b) k)
+  hold-here true t at q h = ap holdOf (state-here at h q)
+  hold-here false t at q h = absurd (false≢true t)
 
-  pub hold-past : mostOpen ≤ k → noHold ≡ holdOf (stateAt row k)
-  hold-past h = ap holdOf (state-past h)
+  pub hold-past : (u : Bool) → (u && ltb k mostOpen) ≡ false → noHold ≡ holdOf (stateAt (statesIn u b) k)
+  hold-past true t = ap holdOf (state-past true (past (decLt k mostOpen)))
+    where
+      past : Dec (k < mostOpen) → mostOpen ≤ k
+      past (yes h) = absurd (false≢true (sym t ∙ lt-ltb k mostOpen h))
+      past (no h) = omega arith
+  hold-past false t = sym (plain-state b k)
 
   -- one that holds a sector has it in the bytes of its buffer
   abbrev Lends : BufferedFile → Type 0
-  Lends y = y .holds ≡ true → (k < mostOpen) × (y .buffer ≡ part b (filesAt + heldWidth * k + 36) sector)
+  Lends y = y .holds ≡ true → (k < mostOpen) × (y .buffer ≡ part b (bufferAt k) sector)
 
   told-part : (xs : List ℕ) (z : Bool) → z ≡ true → elim z [ true ↦ xs | false ↦ [] ] ≡ xs
   told-part xs z e = rw e
@@ -378,109 +272,100 @@ module _ (b : List ℕ) (k : ℕ) where
   module _ (h : Bool) (xs : List ℕ) where
     pub lent-part : (h && ltb k mostOpen) ≡ true → (at : ℕ) → at ≡ filesAt + heldWidth * k → xs ≡ part b (at + 36) sector → xs ≡ lentIn b k h
     unfolding lentIn
-    lent-part t at q p = p ∙ ap (λ (m : ℕ). part b (m + 36) sector) q ∙ sym (told-part (part b (filesAt + heldWidth * k + 36) sector) (h && ltb k mostOpen) t)
+    lent-part t at q p = p ∙ ap (λ (m : ℕ). part b (m + 36) sector) q ∙ sym (told-part (part b (bufferAt k) sector) (h && ltb k mostOpen) t)
 
     pub lent-none : (h && ltb k mostOpen) ≡ false → xs ≡ part b 0 0 → xs ≡ lentIn b k h
     unfolding lentIn part
-    lent-none t p = p ∙ sym (untold-part (part b (filesAt + heldWidth * k + 36) sector) (h && ltb k mostOpen) t)
+    lent-none t p = p ∙ sym (untold-part (part b (bufferAt k) sector) (h && ltb k mostOpen) t)
 
   lends : (y : BufferedFile) → Lends y → lentIn b k (y .holds) ≡ lentBy y
   unfolding lentIn lentBy
   lends y h = either (y .holds)
-      (λ (t : y .holds ≡ true). rw t (told-part (part b (filesAt + heldWidth * k + 36) sector) (ltb k mostOpen) (lt-ltb k mostOpen (h t .0)) ∙ sym (h t .1)))
+      (λ (t : y .holds ≡ true). rw t (told-part (part b (bufferAt k) sector) (ltb k mostOpen) (lt-ltb k mostOpen (h t .0)) ∙ sym (h t .1)))
       (λ (t : y .holds ≡ false). rw t)
 
   used-lends : k < mostOpen → Lends (inUse (heldIn b (filesAt + heldWidth * k)))
   unfolding inUse heldIn fileIn
   used-lends h = either (isSet (getD b (filesAt + heldWidth * k) 0)) (λ u. rw u (λ t. (h, refl))) (λ u. rw u (λ (t : false ≡ true). absurd (false≢true t)))
 
-  state-lends : Lends (stateAt row k)
-  state-lends = go (decLt k mostOpen)
+  nothing-lends : (y : BufferedFile) → holdOf y ≡ noHold → Lends y
+  nothing-lends y e t = absurd (false≢true (sym (ap (λ (h : Holding). h .holds) e) ∙ t))
+
+  state-lends : (u : Bool) → Lends (stateAt (statesIn u b) k)
+  state-lends true = go (decLt k mostOpen)
     where
-      go : Dec (k < mostOpen) → Lends (stateAt row k)
+      go : Dec (k < mostOpen) → Lends (stateAt (statesIn true b) k)
       go (yes h) = rw (state-here (filesAt + heldWidth * k) h refl) at (used-lends h)
-      go (no h) = rw (sym (state-past (omega arith))) (λ (t : false ≡ true). absurd (false≢true t))
+      go (no h) = rw (sym (state-past true (omega arith))) (λ (t : false ≡ true). absurd (false≢true t))
+  state-lends false = nothing-lends (stateAt (statesIn false b) k) (plain-state b k)
 
 -- ---- sessions
 
 -- without their buffers
-bare-row : (w n : ℕ) (b : List ℕ) (at : ℕ) → map (λ f. f .file) (rowIn heldIn w n b at) ≡ rowIn fileIn w n b at
-unfolding rowIn heldIn
-bare-row w zero b at = refl
-bare-row w (suc n) b at = ap (λ (fs : List OpenFile). fileIn b at ∷ fs) (bare-row w n b (at + w))
-
-pub plain-is : (b : List ℕ) → isStored b ≡ true → sessionIn b ≡ bareIn fileWidth b
-unfolding filesIn
-plain-is b h = session-is b h
-
-pub bare-is : (b : List ℕ) → isBufferedStored b ≡ true → bare (bufferedIn b) ≡ bareIn heldWidth b
+pub bare-is : (u : Bool) (b : List ℕ) → isSession u b ≡ true → bare (sessionIn u b) ≡ bareIn (width u) b
 unfolding bare filesIn
-bare-is b h = ap bare (buffered-is b h) ∙ ap (λ (fs : List OpenFile). record { table = tableIn b; files = fs }) (bare-row heldWidth mostOpen b filesAt)
+bare-is u b h = ap bare (session-is u b h) ∙ ap (λ (fs : List OpenFile). record { table = tableIn b; files = fs }) (bare-states u b)
 
-pub bare-none : (b : List ℕ) → isBufferedStored b ≡ false → bare (bufferedIn b) ≡ unlawful
-bare-none b h = ap bare (buffered-none b h) ∙ bare-unheld unlawful
+pub bare-none : (u : Bool) (b : List ℕ) → isSession u b ≡ false → bare (sessionIn u b) ≡ bare unlawful
+bare-none u b h = ap bare (session-none u b h)
 
 -- with the rule of held sectors
-pub buffered-legal : (image b : List ℕ) → isBufferedStored b ≡ true
-    → bufferedLegal image (bufferedIn b) ≡ (legal image (bareIn heldWidth b) && every (heldGood (tableIn b)) (rowIn heldIn heldWidth mostOpen b filesAt))
+legal-is : (u : Bool) (image b : List ℕ) → isSession u b ≡ true
+    → bufferedLegal image (sessionIn u b) ≡ (legal image (bareIn (width u) b) && every (heldGood (tableIn b)) (statesIn u b))
 unfolding bufferedLegal
-buffered-legal image b h =
-    rw (bare-is b h) (ap (λ (s : BufferedSession). legal image (bareIn heldWidth b) && every (heldGood (s .table)) (s .files)) (buffered-is b h))
+legal-is u image b h =
+    rw (bare-is u b h) (ap (λ (s : BufferedSession). legal image (bareIn (width u) b) && every (heldGood (s .table)) (s .files)) (session-is u b h))
 
--- ---- what is seen of a session
-
-module _ (l : Bool) (s : Session) (i : ℕ) (h : Holding) (n k : ℕ) (e : Entry) (f : OpenFile) where
-  pub seen-is : n ≡ openFiles (s .files) → k ≡ slotOf (s .files) i → e ≡ entryAt (s .table) i → f ≡ fileOf (s .files) i
-      → seenOf l s i h ≡ record { lawful = l; opened = n; slot = k; entry = e; file = f; hold = h }
-  unfolding seenOf
-  seen-is pn pk pe pf = rw (pn, pk, pe, pf)
-
--- of one with no file open
-none-held : (k : ℕ) → holdOf (stateAt (unheld unlawful .files) k) ≡ noHold
-unfolding stateAt inUse unlawful unheld
+-- a session with none open, which is legal for no image
+none-held : (k : ℕ) → holdOf (stateAt (unlawful .files) k) ≡ noHold
+unfolding stateAt inUse unlawful
 none-held zero = refl
 none-held (suc zero) = refl
 none-held (suc (suc zero)) = refl
 none-held (suc (suc (suc zero))) = refl
 none-held (suc (suc (suc (suc k)))) = refl
 
-none-lends : (b : List ℕ) (k : ℕ) → Lends b k (stateAt (unheld unlawful .files) k)
-none-lends b k t = absurd (false≢true (sym (ap (λ (h : Holding). h .holds) (none-held k)) ∙ t))
-
-pub none-stands : (i : ℕ) → spotOf unlawful i ≡ Closed
-unfolding spotOf stand fileOf unlawful isOf firstWith
+pub none-stands : (i : ℕ) → spotOf (bare unlawful) i ≡ Closed
+unfolding spotOf stand fileOf unlawful bare isOf firstWith
 none-stands i = refl
 
-pub none-seen : (i : ℕ) (e : Entry) → e ≡ entryAt (unlawful .table) i
-    → record { lawful = false; opened = 0; slot = 0; entry = e; file = idle; hold = noHold } ≡ seenOf false unlawful i noHold
-unfolding seenOf unlawful slotOf fileOf openFiles isOf firstWith howMany
-none-seen i e p = rw p
+pub none-seen : (image : List ℕ) (i : ℕ) (e : Entry) → e ≡ entryAt (unlawful .table) i
+    → record { lawful = false; opened = 0; slot = 0; entry = e; file = idle; hold = noHold } ≡ seenOf image unlawful i
+none-seen image i e p = sym (unfold seenOf slotOf fileOf openFiles isOf firstWith howMany bare unlawful stateAt inUse in rw (unlawful-is, p))
+  where
+    unlawful-is : bufferedLegal image unlawful ≡ false
+    unlawful-is = unlawful-held image
 
--- in bytes that are a session of either form, and in bytes that are none
-module _ (image b : List ℕ) (i : ℕ) where
-  pub seen-plain : isStored b ≡ true → (l : Bool) → l ≡ legal image (bareIn fileWidth b) → seenOf l (bareIn fileWidth b) i noHold ≡ seenIn image b i
-  unfolding seenIn
-  seen-plain t l p = rw (p, plain-is b t)
+-- ---- what is seen of a session
 
-  pub seen-none : isStored b ≡ false → seenOf false unlawful i noHold ≡ seenIn image b i
-  unfolding seenIn
-  seen-none t = rw (none-legal image b t, session-none b t)
+module _ (image b : List ℕ) (u : Bool) (told : u ≡ hasBuffers b) (i : ℕ) where
+  pub seen-none : isSession u b ≡ false → seenOf image unlawful i ≡ seenIn image b i
+  seen-none t = rw (sym told, session-none u b t)
 
-  pub seen-buffered : isBufferedStored b ≡ true → (l : Bool) (h : Holding) (k : ℕ)
-      → l ≡ (legal image (bareIn heldWidth b) && every (heldGood (tableIn b)) (rowIn heldIn heldWidth mostOpen b filesAt))
-      → k ≡ slotOf (filesIn heldWidth b) i → h ≡ holdOf (stateAt (rowIn heldIn heldWidth mostOpen b filesAt) k)
-      → seenOf l (bareIn heldWidth b) i h ≡ seenBufferedIn image b i
-  unfolding seenBufferedIn
-  seen-buffered t l h k pl pk ph = rw (buffered-legal image b t, bare-is b t, buffered-is b t, pl, ph, pk)
+  pub seen-is : isSession u b ≡ true → (w : ℕ) → w ≡ width u → (l m : Bool) (n k : ℕ) (h : Holding) (e : Entry) (f : OpenFile)
+      → l ≡ legal image (bareIn w b) → m ≡ every (heldGood (tableIn b)) (statesIn u b)
+      → n ≡ openFiles (filesIn w b) → k ≡ slotOf (filesIn w b) i → h ≡ holdOf (stateAt (statesIn u b) k)
+      → e ≡ entryAt (tableIn b) i → f ≡ fileOf (filesIn w b) i
+      → record { lawful = l && m; opened = n; slot = k; entry = e; file = f; hold = h } ≡ seenIn image b i
+  unfolding seenOf
+  seen-is t w pw l m n k h e f pl pm pn pk ph pe pf =
+      let ql : l ≡ legal image (bareIn (width u) b) = pl ∙ ap (λ (v : ℕ). legal image (bareIn v b)) pw in
+      let qn : n ≡ openFiles (filesIn (width u) b) = pn ∙ ap (λ (v : ℕ). openFiles (filesIn v b)) pw in
+      let qk : k ≡ slotOf (filesIn (width u) b) i = pk ∙ ap (λ (v : ℕ). slotOf (filesIn v b) i) pw in
+      let qf : f ≡ fileOf (filesIn (width u) b) i = pf ∙ ap (λ (v : ℕ). fileOf (filesIn v b) i) pw in
+      rw (sym told, legal-is u image b t, bare-is u b t, session-is u b t, ql, pm, qn, ph, qk, pe, qf)
 
-  pub seen-none-buffered : isBufferedStored b ≡ false → seenOf false unlawful i noHold ≡ seenBufferedIn image b i
-  unfolding seenBufferedIn
-  seen-none-buffered t = rw (none-legal-buffered image b t, bare-none b t, buffered-none b t) (ap (seenOf false unlawful i) (sym (none-held (slotOf (unlawful .files) i))))
+  pub spot-is : isSession u b ≡ true → (f : OpenFile) → f ≡ fileOf (filesIn (width u) b) i → stand f ≡ spotOf (bare (lentSession b)) i
+  unfolding spotOf
+  spot-is t f p = rw (sym told, bare-is u b t, p)
 
-  -- the held sector lies where the bytes have it
-  pub lent-own : lentIn b (slotOf (bare (bufferedIn b) .files) i) (ownState (bufferedIn b) i .holds) ≡ lentBy (ownState (bufferedIn b) i)
-  lent-own =
-      lends b (slotOf (bare (bufferedIn b) .files) i) (ownState (bufferedIn b) i)
-      (either (isBufferedStored b)
-      (λ (t : isBufferedStored b ≡ true). rw (buffered-is b t) (state-lends b _))
-      (λ (t : isBufferedStored b ≡ false). rw (buffered-none b t) (none-lends b _)))
+  pub spot-none : isSession u b ≡ false → Closed ≡ spotOf (bare (lentSession b)) i
+  spot-none t = rw (sym told, session-none u b t) (sym (none-stands i))
+
+-- the held sector lies where the bytes have it
+pub lent-own : (b : List ℕ) (i : ℕ) → lentIn b (slotOf (bare (lentSession b) .files) i) (ownState (lentSession b) i .holds) ≡ lentBy (ownState (lentSession b) i)
+lent-own b i =
+    lends b (slotOf (bare (lentSession b) .files) i) (ownState (lentSession b) i)
+    (either (isSession (hasBuffers b) b)
+    (λ (t : isSession (hasBuffers b) b ≡ true). rw (session-is (hasBuffers b) b t) (state-lends b _ (hasBuffers b)))
+    (λ (t : isSession (hasBuffers b) b ≡ false). rw (session-none (hasBuffers b) b t) (nothing-lends b _ (stateAt (unlawful .files) (slotOf (bare unlawful .files) i)) (none-held (slotOf (bare unlawful .files) i)))))

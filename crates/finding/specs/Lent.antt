@@ -11,7 +11,6 @@ use Rattle.tables.specs.Rows.{rowIn}
 use Rattle.sessions.specs.Session.{idle, fresh, bare, fileOf, slotOf, openFiles, bufferedLegal}
 use Rattle.sessions.specs.declared.BufferedFile.{BufferedFile}
 use Rattle.sessions.specs.declared.BufferedSession.{BufferedSession}
-use Rattle.sessions.specs.declared.Holding.{Holding}
 use Rattle.sessions.specs.declared.OpenFile.{OpenFile}
 use Rattle.sessions.specs.declared.Session.{Session}
 use Rattle.storing.specs.Stored.{fileWidth, heldWidth, filesAt, fileIn, holdOf, tableIn, lentSession}

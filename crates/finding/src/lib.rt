@@ -21,18 +21,18 @@ use tables::entry_in;
 use tables::table_good;
 ghost use mathlib.Core.Path.{_≡_};
 ghost use mathlib.Core.Bool.{true, false, not};
-ghost use mathlib.Core.List.{List, [], _∷_};
-ghost use Prim.Native.Nat.{ℕ, _+_, _*_, _≤_, _<_};
+ghost use mathlib.Core.List.{[], _∷_};
+ghost use Prim.Native.Nat.{_+_, _*_, _≤_, _<_};
 ghost use lib.ListN.{length, getD, take};
 ghost use Rattle.geometry.specs.Bytes as Bytes;
 ghost use Rattle.geometry.specs.Lists.{every, firstWith};
 ghost use Rattle.directory.specs.Entries.{entryAt};
 ghost use Rattle.tables.specs.Numbers.{numberIn, isByte};
-ghost use Rattle.sessions.specs.Session.{bare, isOf, fileOf, slotOf, openFiles, spotOf, heldGood, legal};
+ghost use Rattle.sessions.specs.Session.{idle, bare, isOf, fileOf, slotOf, openFiles, spotOf, heldGood, legal};
 ghost use Rattle.sessions.specs.Grouped.{filesGood};
 ghost use Rattle.storing.specs.Numbers.{isSet, isFlag};
-ghost use Rattle.storing.specs.Stored.{heldWidth, filesAt, width, placeIn, fileIn, fileFlags, stateFlags, heldIn, holdOf, isSession, tableIn, statesIn, unlawful, lentSession};
-ghost use Rattle.finding.specs.Lent.{Spaced, filesIn, bareIn, ifUsed, inUse, stateAt, lentIn, seenOf, seenIn};
+ghost use Rattle.storing.specs.Stored.{heldWidth, filesAt, width, placeIn, fileIn, fileFlags, stateFlags, heldIn, holdOf, noHold, isSession, tableIn, statesIn, unlawful, lentSession};
+ghost use Rattle.finding.specs.Lent.{Spaced, filesIn, bareIn, ifUsed, inUse, stateAt, lentIn, seenIn};
 
 // What a request asks of a session: whether it is legal for the image, how many files are open, which state is the entry's or is to be,
 // the entry, its file, and what that holds.
@@ -401,7 +401,7 @@ fn unlawful_at(i: usize) -> Entry
 
 // What is seen of bytes that are no session.
 fn unseen(i: usize) -> Seen
-    ensures { λ r. ⌜ (image : List ℕ) → r ≡ seenOf image unlawful i ⌝ }
+    ensures { λ r. ⌜ r ≡ record { lawful = false; opened = 0; slot = 0; entry = entryAt (unlawful .table) i; file = idle; hold = noHold } ⌝ }
 {
     let e = unlawful_at(i);
     let f = idle();
@@ -445,7 +445,11 @@ pub fn lent_in(b: &[u8], k: usize, holds: bool) -> &[u8]
     ensures { λ r. ⌜ now r ≡ lentIn (now (b .entry)) k holds ⌝ }
 {
     if holds & (k < 4) {
-        part(b, state_place(Form::HELD, k) + Form::BUFFER, Geometry::SECTOR)
+        part(
+            b,
+            state_place(Form::HELD, k) + Form::BUFFER,
+            Geometry::SECTOR,
+        )
     } else {
         part(b, 0, 0)
     }

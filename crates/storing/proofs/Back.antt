@@ -16,8 +16,8 @@ use Rattle.sessions.specs.Session.{fresh}
 use Rattle.sessions.specs.declared.BufferedFile.{BufferedFile}
 use Rattle.sessions.specs.declared.OpenFile.{OpenFile}
 use Rattle.storing.specs.Fits.{fits, areBytes, fileFits, heldFits}
-use Rattle.tables.specs.Numbers.{numberIn, isByte}
-use Rattle.storing.specs.Numbers.{bytesOf, flagOf, isSet, isFlag}
+use Rattle.tables.specs.Numbers.{isByte}
+use Rattle.storing.specs.Numbers.{bytesOf, flagOf, isFlag}
 use Rattle.storing.specs.Stored.{fileWidth, heldWidth, width, placeStored, placeIn, fileStored, fileIn, fileFlags, holdStored, holdOf, heldStored, heldIn, heldFlags, stateStored, stateIn, stateFlags}
 use Rattle.storing.proofs.Laid.{length-file, length-hold}
 use Rattle.storing.proofs.Numbers.{length-bytes}

@@ -1,21 +1,21 @@
 -- An entry of 22 bytes and its bytes, each read back from the other: words and long numbers are, and a name is its eight bytes.
 use mathlib.Core.Path.{_≡_, refl, sym, ap, _∙_}
 use mathlib.Core.Bool.{true}
-use mathlib.Core.List.{List, [], _∷_, _++_}
+use mathlib.Core.List.{List}
 use Prim.Native.Nat.{ℕ, _+_, _*_, _/_, _%_, _≤_, _<_, _^_}
 use native.Mathlib.Omega.{arith}
 use lib.ListN.{length, getD}
-use borrow.Author.Tests.{lt-ltb, ltb-true, eqb-true}
-use Rattle.geometry.specs.Bytes.{part, padded, word, wordAt}
+use borrow.Author.Tests.{lt-ltb, ltb-true}
+use Rattle.geometry.specs.Bytes.{part, word, wordAt}
 use Rattle.geometry.specs.Lists.{every}
-use Rattle.geometry.proofs.Tests.{and-left, and-right, and-both, all-getD, every-getD}
+use Rattle.geometry.proofs.Tests.{and-both, all-getD, every-getD}
 use Rattle.directory.specs.declared.Entry.{Entry}
 use Rattle.tables.specs.Numbers.{isByte, long, longAt}
 use Rattle.tables.specs.Tables.{countAt, countOf, entryIn, entryOf}
 use Rattle.tables.proofs.Entries.{name-is}
 use Rattle.tables.proofs.Laid.{length-entry}
 use Rattle.tables.proofs.Laws.{entry-back-at}
-use Rattle.storing.specs.Fits.{fits, areBytes, entryFits}
+use Rattle.storing.specs.Fits.{fits, entryFits}
 use Rattle.storing.proofs.Back.{bytes-size}
 use Rattle.storing.proofs.Bytes.{every-append, array-bytes}
 use Rattle.storing.proofs.Parts.{Stands, next, after}

@@ -1,8 +1,7 @@
 -- What the code that lays a session meets on its way: a state written out byte by byte, sizes, and parts that are there or not.
 use mathlib.Core.Path.{_≡_, refl, sym, ap, _∙_}
-use mathlib.Core.Logic.{_≢_}
 use mathlib.Core.Bool.{Bool, true, false}
-use mathlib.Core.List.{List, [], _∷_, _++_, append-assoc}
+use mathlib.Core.List.{List, [], _∷_, append-assoc}
 use Prim.Native.Nat.{ℕ, _+_, _*_, _≤_, _<_}
 use native.Mathlib.Omega.{arith}
 use native.Mathlib.Decide.{decLt}
@@ -11,7 +10,7 @@ use borrow.Author.Tests.{lt-ltb, le-ltb, eqb-true}
 use Rattle.geometry.specs.Bytes.{lay}
 use Rattle.geometry.specs.Sizes.{sector, mostOpen}
 use Rattle.sessions.specs.Session.{fresh}
-use Rattle.geometry.proofs.Bytes.{lay-all, length-lay, lay-short, lay-append}
+use Rattle.geometry.proofs.Bytes.{length-lay, lay-append}
 use Rattle.sessions.specs.declared.BufferedFile.{BufferedFile}
 use Rattle.sessions.specs.declared.Holding.{Holding}
 use Rattle.sessions.specs.declared.OpenFile.{OpenFile}

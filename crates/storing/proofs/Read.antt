@@ -2,10 +2,10 @@
 use mathlib.Core.Path.{_≡_, refl, sym, ap, _∙_}
 use mathlib.Core.Logic.{_≢_}
 use mathlib.Core.Bool.{Bool, true, false, _&&_, and-true, and-false}
-use mathlib.Core.List.{List, [], _∷_, map}
+use mathlib.Core.List.{List, _∷_, map}
 use Prim.Native.Nat.{ℕ, zero, suc, _+_, _<_, _≤_}
 use native.Mathlib.Omega.{arith}
-use lib.ListN.{length, getD, replicate}
+use lib.ListN.{length, getD}
 use lib.Dec.{eqb}
 use borrow.Author.Tests.{lt-ltb, eq-eqb, ne-eqb, eqb-true}
 use Rattle.geometry.specs.Lists.{all, every}
@@ -13,7 +13,7 @@ use Rattle.geometry.specs.Sizes.{mostOpen}
 use Rattle.geometry.proofs.Tests.{and-left, and-right, every-from}
 use Rattle.tables.specs.Numbers.{isByte}
 use Rattle.tables.specs.Rows.{rowIn}
-use Rattle.sessions.specs.Session.{idle, fresh, bare, unheld}
+use Rattle.sessions.specs.Session.{fresh, bare, unheld}
 use Rattle.sessions.specs.declared.BufferedFile.{BufferedFile}
 use Rattle.sessions.specs.declared.BufferedSession.{BufferedSession}
 use Rattle.sessions.specs.declared.OpenFile.{OpenFile}

@@ -2,19 +2,19 @@
 -- another one there.
 use mathlib.Core.Path.{_≡_, refl, sym, ap, _∙_}
 use mathlib.Core.Bool.{Bool, true}
-use mathlib.Core.List.{List, [], _∷_, _++_, map, append-assoc, append-nil}
+use mathlib.Core.List.{List, [], _∷_, _++_, map, append-assoc}
 use Prim.Native.Nat.{ℕ, zero, suc, _+_, _*_, _≤_, _<_}
 use native.Mathlib.Nat.{not-suc-le-zero, le-of-suc-le-suc, mul-le-mul-left, mul-suc}
-use native.Mathlib.Numerals.{add-one, unary-clauses}
+use native.Mathlib.Numerals.{unary-clauses}
 use native.Mathlib.Omega.{arith}
 use native.Mathlib.Decide.{decLt}
 use lib.Dec.{eqb}
-use lib.ListN.{length, take, drop, getD, set, length-append}
-use lib.Seq.{take-suc, take-append-le, drop-append-le, take-append-add, drop-append-add, set-out}
+use lib.ListN.{length, take, drop, set, length-append}
+use lib.Seq.{take-append-le, drop-append-le, take-append-add, drop-append-add, set-out}
 use borrow.Author.Tests.{eqb-true, eq-eqb}
 use Rattle.geometry.specs.Bytes.{part, lay}
 use Rattle.geometry.specs.Lists.{all, every}
-use Rattle.geometry.proofs.Bytes.{lay-all, length-lay, length-part, lay-fits, lay-nil, lay-append}
+use Rattle.geometry.proofs.Bytes.{lay-all, length-part, lay-fits}
 use Rattle.geometry.proofs.Tests.{and-left, and-right, and-both}
 use Rattle.tables.specs.Rows.{rowOf, rowIn}
 use Rattle.storing.specs.Stored.{layPart}

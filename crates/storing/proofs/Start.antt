@@ -11,7 +11,7 @@ use Rattle.geometry.specs.Bytes.{lay, word}
 use Rattle.geometry.specs.Sizes.{entries, mostOpen}
 use Rattle.geometry.proofs.Bytes.{lay-all, lay-fits}
 use Rattle.geometry.proofs.Tests.{either, or-either, neither-left, neither-right}
-use Rattle.directory.specs.Entries.{entryBytes, freeEntry, tableOf}
+use Rattle.directory.specs.Entries.{freeEntry, tableOf}
 use Rattle.directory.specs.declared.Entry.{Entry}
 use Rattle.tables.specs.Numbers.{long}
 use Rattle.tables.specs.Rows.{rowOf}
@@ -21,7 +21,6 @@ use Rattle.tables.proofs.Laws.{isNamed, all-named, on-image}
 use Rattle.tables.proofs.Tables.{length-entries}
 use Rattle.tables.proofs.Widths.{rows-there}
 use Rattle.sessions.specs.Session.{idle, fresh}
-use Rattle.sessions.specs.declared.BufferedFile.{BufferedFile}
 use Rattle.storing.specs.Numbers.{bytesOf, flagOf}
 use Rattle.storing.specs.Stored.{filesAt, width, sizeOf, hasBuffers, placeStored, fileStored, holdStored, heldStored, stateStored, stored, startTable, layStart}
 use Rattle.storing.proofs.Read.{size-plain, size-buffered, told-by-size}

@@ -1,8 +1,8 @@
 -- Each field is read at its place.
 use Rattle.storing.specs.Stored.{fileIn}
 use borrow.Author.Needs.{needs}
-use Rattle.storing.proofs.file_at.Statement.{statement}
-use Rattle.storing.proofs.file_at.Tie as tie
+use Rattle.finding.proofs.file_at.Statement.{statement}
+use Rattle.finding.proofs.file_at.Tie as tie
 
 is-set-requires : tie.Need-is-set-requires
 is-set-requires c κs = search needs

@@ -1,10 +1,10 @@
 -- The state of that number is the entry's own, or one that is not in use.
 use mathlib.Core.Path.{_∙_}
 use native.Mathlib.Omega.{arith}
-use Rattle.storing.proofs.Lent.{file-here, file-none}
+use Rattle.finding.proofs.Lent.{file-here, file-none}
 use borrow.Author.Needs.{needs}
-use Rattle.storing.proofs.lawful.file_in.Statement.{statement}
-use Rattle.storing.proofs.lawful.file_in.Tie as tie
+use Rattle.finding.proofs.file_in.Statement.{statement}
+use Rattle.finding.proofs.file_in.Tie as tie
 
 state-place-requires : tie.Need-state-place-requires
 state-place-requires c κs = search needs

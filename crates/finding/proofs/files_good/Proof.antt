@@ -10,12 +10,12 @@ use Rattle.geometry.proofs.Front.{Front, front-none, front-on, front-one, front
 use Rattle.sessions.specs.Session.{idle, ofOther}
 use Rattle.sessions.specs.Grouped.{fileGood}
 use Rattle.sessions.proofs.Grouped.{files-grouped, file-unused, others-unused}
 use Rattle.storing.specs.Stored.{tableIn}
-use Rattle.storing.specs.Lent.{filesIn}
-use Rattle.storing.proofs.Lent.{length-files, state-is, state-used, one-file-told, others-told}
+use Rattle.finding.specs.Lent.{filesIn}
+use Rattle.finding.proofs.Lent.{length-files, state-is, state-used, one-file-told, others-told}
 use borrow.Author.Needs.{needs}
-use Rattle.storing.proofs.lawful.files_good.Statement.{statement}
-use Rattle.storing.proofs.lawful.files_good.Tie as tie
+use Rattle.finding.proofs.files_good.Statement.{statement}
+use Rattle.finding.proofs.files_good.Tie as tie
 
 abbrev Inv-loop : tie.InvT-loop
 Inv-loop b w k₀ k = (Front (fileGood (tableIn b)) ofOther (filesIn w b) k ≡ true) × (k ≤ 4)
@@ -37,8 +37,8 @@ is-set-requires c κs = search needs
 file-at-requires : tie.Need-file-at-requires Inv-loop μ-loop
 file-at-requires c κs = search needs
 
-entry-in-requires : tie.Need-entry-in-requires Inv-loop μ-loop
-entry-in-requires c κs = search needs
+entry-of-requires : tie.Need-entry-of-requires Inv-loop μ-loop
+entry-of-requires c κs = search needs
 
 file-good-requires : tie.Need-file-good-requires Inv-loop μ-loop
 file-good-requires c κs = search needs
@@ -55,7 +55,7 @@ returns c =
     let n : length (filesIn (a .w) (a .b .now)) ≡ 4 = length-files (a .w) (a .b .now) in
     let at = state-is (a .w) (a .b .now) k _ (omega arith) (p .state-place .ensures .0) in
     let used = state-used (a .w) (a .b .now) k _ (omega arith) (p .state-place .ensures .0) _ (g .before .before .is-set .ensures) ∙ g .before .if1 .taken in
-    let bad = one-file-told t _ _ (at ∙ sym (g .file-at .ensures)) _ _ (c .before .before .entry-in .ensures) (c .before .file-good .ensures) used ∙ not-true _ (c .if2 .taken) in
+    let bad = one-file-told t _ _ (at ∙ sym (g .file-at .ensures)) _ _ (c .before .before .entry-of .ensures) (c .before .file-good .ensures) used ∙ not-true _ (c .if2 .taken) in
     sym (files-grouped t fs (omega arith) ∙ front-one (fileGood t) ofOther fs k idle (omega arith) bad)
 
 none-before-requires : tie.Need-none-before-requires Inv-loop μ-loop
@@ -120,7 +120,7 @@ files-good-spec =
     state-place-requires
     is-set-requires
     file-at-requires
-    entry-in-requires
+    entry-of-requires
     file-good-requires
     returns
     none-before-requires

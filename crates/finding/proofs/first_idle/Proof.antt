@@ -7,11 +7,11 @@ use lib.ListN.{length, getD}
 use borrow.Author.Count.{below-more}
 use Rattle.geometry.proofs.Tests.{first-is}
 use Rattle.sessions.specs.Session.{idle}
-use Rattle.storing.specs.Lent.{filesIn}
-use Rattle.storing.proofs.Lent.{length-files, state-used}
+use Rattle.finding.specs.Lent.{filesIn}
+use Rattle.finding.proofs.Lent.{length-files, state-used}
 use borrow.Author.Needs.{needs}
-use Rattle.storing.proofs.lawful.first_idle.Statement.{statement}
-use Rattle.storing.proofs.lawful.first_idle.Tie as tie
+use Rattle.finding.proofs.first_idle.Statement.{statement}
+use Rattle.finding.proofs.first_idle.Tie as tie
 
 abbrev Inv-loop : tie.InvT-loop
 Inv-loop b w k₀ k = ((j : ℕ) → j < k → not (getD (filesIn w b) j idle .used) ≡ false) × (k ≤ 4)

@@ -7,11 +7,11 @@ use lib.ListN.{length, getD}
 use borrow.Author.Count.{below-more}
 use Rattle.geometry.proofs.Tests.{first-is}
 use Rattle.sessions.specs.Session.{idle, isOf}
-use Rattle.storing.specs.Lent.{filesIn}
-use Rattle.storing.proofs.Lent.{length-files, state-of}
+use Rattle.finding.specs.Lent.{filesIn}
+use Rattle.finding.proofs.Lent.{length-files, state-of}
 use borrow.Author.Needs.{needs}
-use Rattle.storing.proofs.lawful.first_of.Statement.{statement}
-use Rattle.storing.proofs.lawful.first_of.Tie as tie
+use Rattle.finding.proofs.first_of.Statement.{statement}
+use Rattle.finding.proofs.first_of.Tie as tie
 
 abbrev Inv-loop : tie.InvT-loop
 Inv-loop b w i k₀ k = ((j : ℕ) → j < k → isOf i (getD (filesIn w b) j idle) ≡ false) × (k ≤ 4)

@@ -1,9 +1,9 @@
 -- A state that is used has what it holds in its bytes; any other holds nothing.
 use mathlib.Core.Path.{_∙_}
-use Rattle.storing.proofs.Lent.{hold-used, hold-idle}
+use Rattle.finding.proofs.Lent.{hold-used, hold-idle}
 use borrow.Author.Needs.{needs}
-use Rattle.storing.proofs.lawful.hold_at.Statement.{statement}
-use Rattle.storing.proofs.lawful.hold_at.Tie as tie
+use Rattle.finding.proofs.hold_at.Statement.{statement}
+use Rattle.finding.proofs.hold_at.Tie as tie
 
 is-set-requires : tie.Need-is-set-requires
 is-set-requires c κs = search needs

@@ -2,10 +2,10 @@
 use Prim.Native.Nat.{ℕ}
 use native.Mathlib.Omega.{arith}
 use mathlib.Core.Path.{refl}
 use Rattle.storing.proofs.Read.{bytes}
 use borrow.Author.Needs.{needs}
-use Rattle.storing.proofs.is_flag.Statement.{statement}
-use Rattle.storing.proofs.is_flag.Tie as tie
+use Rattle.finding.proofs.is_flag.Statement.{statement}
+use Rattle.finding.proofs.is_flag.Tie as tie
 
 shared-slice-read-result : tie.Need-shared-slice-read-result
 shared-slice-read-result c = search needs

@@ -1,12 +1,13 @@
--- `storing::lawful::is_lawful` meets its contract: the rules of the image and the table, then those of the files.
+-- The rules of the image and the table, then those of the files.
 use mathlib.Core.Path.{sym, _∙_}
 use native.Mathlib.Omega.{arith}
 use Rattle.geometry.proofs.Places.{lawful-most}
 use Rattle.sessions.proofs.Grouped.{grouped}
-use Rattle.storing.specs.Lent.{bareIn}
+use Rattle.finding.specs.Lent.{bareIn}
+use Rattle.finding.proofs.Lent.{has-table}
 use borrow.Author.Needs.{needs}
-use Rattle.storing.proofs.lawful.is_lawful.Statement.{statement}
-use Rattle.storing.proofs.lawful.is_lawful.Tie as tie
+use Rattle.finding.proofs.is_lawful.Statement.{statement}
+use Rattle.finding.proofs.is_lawful.Tie as tie
 
 lawful-length-requires : tie.Need-lawful-length-requires
 lawful-length-requires c κs = search needs
@@ -28,7 +29,7 @@ returns c =
     let b = c .before .before in
     let a = b .before .before .before .before .before .args in
     let l = sym (b .before .before .lawful-length .ensures) ∙ b .before .if1 .taken in
-    sym (grouped (a .image .now) (bareIn (a .w) (a .b .now)) ∙ rw (l, c .before .table-good .ensures, b .sectors-of .ensures, c .files-good .ensures))
+    sym (grouped (a .image .now) (bareIn (a .w) (a .b .now)) ∙ rw (l, c .before .table-good .ensures, has-table (a .b .now) (omega (arith, b .before .before .before .before .before .pre .2)), b .sectors-of .ensures, c .files-good .ensures))
 
 returns-2 : tie.Need-returns-2
 returns-2 c =

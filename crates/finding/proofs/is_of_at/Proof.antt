@@ -1,9 +1,9 @@
 -- `storing::lawful::is_of_at` meets its contract: the first byte says whether the state is in use, and the next eight whose it is.
 use Rattle.sessions.specs.Session.{isOf}
 use Rattle.storing.specs.Stored.{fileIn}
 use borrow.Author.Needs.{needs}
-use Rattle.storing.proofs.lawful.is_of_at.Statement.{statement}
-use Rattle.storing.proofs.lawful.is_of_at.Tie as tie
+use Rattle.finding.proofs.is_of_at.Statement.{statement}
+use Rattle.finding.proofs.is_of_at.Tie as tie
 
 is-set-requires : tie.Need-is-set-requires
 is-set-requires c κs = search needs

@@ -1,9 +1,9 @@
 -- `storing::long` meets its contract: each byte counts 256 times the one before it.
 use native.Mathlib.Omega.{arith}
-use Rattle.storing.specs.Numbers.{numberIn}
+use Rattle.tables.specs.Numbers.{numberIn}
 use borrow.Author.Needs.{needs}
-use Rattle.storing.proofs.long.Statement.{statement}
-use Rattle.storing.proofs.long.Tie as tie
+use Rattle.finding.proofs.long.Statement.{statement}
+use Rattle.finding.proofs.long.Tie as tie
 
 mul-result : tie.Need-mul-result
 mul-result c = search needs

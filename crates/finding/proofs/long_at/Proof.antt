@@ -1,10 +1,10 @@
 -- The bytes that stand there, taken together.
-use Rattle.storing.specs.Numbers.{numberIn}
+use Rattle.tables.specs.Numbers.{numberIn}
 use mathlib.Core.Path.{sym, ap, _∙_}
 use Rattle.storing.proofs.Numbers.{written}
 use borrow.Author.Needs.{needs}
-use Rattle.storing.proofs.long_at.Statement.{statement}
-use Rattle.storing.proofs.long_at.Tie as tie
+use Rattle.finding.proofs.long_at.Statement.{statement}
+use Rattle.finding.proofs.long_at.Tie as tie
 
 shared-slice-read-long : tie.Need-shared-slice-read-long
 shared-slice-read-long c = search needs

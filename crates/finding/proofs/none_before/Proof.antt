@@ -6,11 +6,11 @@ use native.Mathlib.Omega.{arith}
 use lib.ListN.{length, take, drop}
 use Rattle.geometry.specs.Lists.{every}
 use Rattle.sessions.specs.Session.{idle, isOf}
-use Rattle.storing.specs.Lent.{filesIn}
-use Rattle.storing.proofs.Lent.{length-files, state-of, before-on, before-off, before-end}
+use Rattle.finding.specs.Lent.{filesIn}
+use Rattle.finding.proofs.Lent.{length-files, state-of, before-on, before-off, before-end}
 use borrow.Author.Needs.{needs}
-use Rattle.storing.proofs.lawful.none_before.Statement.{statement}
-use Rattle.storing.proofs.lawful.none_before.Tie as tie
+use Rattle.finding.proofs.none_before.Statement.{statement}
+use Rattle.finding.proofs.none_before.Tie as tie
 
 abbrev Inv-loop : tie.InvT-loop
 Inv-loop b w k i j₀ j = (every (λ f. not (isOf i f)) (take k (filesIn w b)) ≡ every (λ f. not (isOf i f)) (drop j (take k (filesIn w b)))) × (j ≤ k)

@@ -8,11 +8,11 @@ use lib.Seq.{take-all}
 use Rattle.geometry.specs.Lists.{howMany}
 use Rattle.geometry.proofs.Tests.{many-more-yes, many-more-no}
 use Rattle.sessions.specs.Session.{idle, openFiles}
-use Rattle.storing.specs.Lent.{filesIn}
-use Rattle.storing.proofs.Lent.{length-files, state-used}
+use Rattle.finding.specs.Lent.{filesIn}
+use Rattle.finding.proofs.Lent.{length-files, state-used}
 use borrow.Author.Needs.{needs}
-use Rattle.storing.proofs.lawful.opened_in.Statement.{statement}
-use Rattle.storing.proofs.lawful.opened_in.Tie as tie
+use Rattle.finding.proofs.opened_in.Statement.{statement}
+use Rattle.finding.proofs.opened_in.Tie as tie
 
 abbrev Inv-loop : tie.InvT-loop
 Inv-loop b w n₀ k₀ n k = (n ≡ howMany (λ f. f .used) (take k (filesIn w b))) × ((n ≤ k) × (k ≤ 4))

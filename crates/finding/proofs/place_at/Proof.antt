@@ -1,8 +1,8 @@
 -- Each field is read at its place.
 use Rattle.storing.specs.Stored.{placeIn}
 use borrow.Author.Needs.{needs}
-use Rattle.storing.proofs.place_at.Statement.{statement}
-use Rattle.storing.proofs.place_at.Tie as tie
+use Rattle.finding.proofs.place_at.Statement.{statement}
+use Rattle.finding.proofs.place_at.Tie as tie
 
 long-at-requires : tie.Need-long-at-requires
 long-at-requires c κs = search needs

@@ -3,11 +3,11 @@ use mathlib.Core.Path.{_≡_, sym, _∙_}
 use native.Mathlib.Omega.{arith}
 use lib.ListN.{length}
 use Rattle.sessions.proofs.Files.{slot-own, slot-new}
-use Rattle.storing.specs.Lent.{filesIn}
-use Rattle.storing.proofs.Lent.{length-files}
+use Rattle.finding.specs.Lent.{filesIn}
+use Rattle.finding.proofs.Lent.{length-files}
 use borrow.Author.Needs.{needs}
-use Rattle.storing.proofs.lawful.slot_in.Statement.{statement}
-use Rattle.storing.proofs.lawful.slot_in.Tie as tie
+use Rattle.finding.proofs.slot_in.Statement.{statement}
+use Rattle.finding.proofs.slot_in.Tie as tie
 
 first-of-requires : tie.Need-first-of-requires
 first-of-requires c κs = search needs

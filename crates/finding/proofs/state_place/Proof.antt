@@ -3,8 +3,8 @@ use Prim.Native.Nat.{_*_, _≤_}
 use mathlib.Core.Path.{refl}
 use native.Mathlib.Nat.{mul-le-mul, mul-le-mul-left}
 use native.Mathlib.Omega.{arith}
-use Rattle.storing.proofs.lawful.state_place.Statement.{statement}
-use Rattle.storing.proofs.lawful.state_place.Tie as tie
+use Rattle.finding.proofs.state_place.Statement.{statement}
+use Rattle.finding.proofs.state_place.Tie as tie
 
 mul-result : tie.Need-mul-result
 mul-result c =

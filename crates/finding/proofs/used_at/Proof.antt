@@ -1,10 +1,10 @@
 -- A state that is used is read, any other is idle.
 use mathlib.Core.Path.{_∙_}
 use Rattle.storing.specs.Stored.{fileIn}
-use Rattle.storing.proofs.Lent.{used-is, used-not}
+use Rattle.finding.proofs.Lent.{used-is, used-not}
 use borrow.Author.Needs.{needs}
-use Rattle.storing.proofs.lawful.used_at.Statement.{statement}
-use Rattle.storing.proofs.lawful.used_at.Tie as tie
+use Rattle.finding.proofs.used_at.Statement.{statement}
+use Rattle.finding.proofs.used_at.Tie as tie
 
 is-set-requires : tie.Need-is-set-requires
 is-set-requires c κs = search needs

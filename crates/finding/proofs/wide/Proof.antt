@@ -1,9 +1,9 @@
 -- `storing::wide` meets its contract: the number in the last four bytes, 2^32 times, and that in the first four.
 use native.Mathlib.Omega.{arith}
-use Rattle.storing.specs.Numbers.{numberIn}
+use Rattle.tables.specs.Numbers.{numberIn}
 use borrow.Author.Needs.{needs}
-use Rattle.storing.proofs.wide.Statement.{statement}
-use Rattle.storing.proofs.wide.Tie as tie
+use Rattle.finding.proofs.wide.Statement.{statement}
+use Rattle.finding.proofs.wide.Tie as tie
 
 long-requires : tie.Need-long-requires
 long-requires c κs = search needs

@@ -1,6 +1,5 @@
 -- The number of the bytes.
 use Rattle.storing.specs.Stored.{width, sizeOf, hasBuffers}
-use mathlib.Core.Path.{refl}
 use borrow.Author.Needs.{needs}
 use Rattle.storing.proofs.has_buffers.Statement.{statement}
 use Rattle.storing.proofs.has_buffers.Tie as tie

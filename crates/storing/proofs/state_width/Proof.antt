@@ -1,8 +1,7 @@
 -- One width for each.
 use Rattle.storing.specs.Stored.{width}
-use mathlib.Core.Path.{refl, sym, ap, _∙_}
+use mathlib.Core.Path.{sym, ap}
 use native.Mathlib.Omega.{arith}
-use borrow.Author.Needs.{needs}
 use Rattle.storing.proofs.state_width.Statement.{statement}
 use Rattle.storing.proofs.state_width.Tie as tie
 
