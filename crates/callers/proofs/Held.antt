@@ -26,7 +26,7 @@ use Rattle.requests.specs.declared.Answer.the-variants.{Done, Met, Refused}
 use Rattle.requests.specs.declared.Edge.{Edge}
 use Rattle.requests.specs.declared.Facts.{Facts}
 use Rattle.requests.specs.declared.Request.{Request}
-use Rattle.sessions.specs.Session.{idle, fresh, bare, fileOf, slotOf, openFiles, legal, bufferedLegal, typed}
+use Rattle.sessions.specs.Session.{idle, fresh, bare, holdsOne, fileOf, slotOf, openFiles, legal, bufferedLegal, typed}
 use Rattle.sessions.proofs.Legal.{lawful-length, good-table, bare-legal}
 use Rattle.sessions.specs.declared.BufferedFile.{BufferedFile}
 use Rattle.sessions.specs.declared.BufferedSession.{BufferedSession}
@@ -95,14 +95,14 @@ pub record BenchFits (e : Entry) (w : Bench) : Type 0 where
 module _ (e : Entry) (few : e .sectors ≤ mostSectors) where
   putting-fits : (w : Bench) → BenchFits e w → BenchFits e (puttingBack e w)
   unfolding puttingBack
-  putting-fits w f = either (w .file .holds && w .file .changed)
-      (λ (t : (w .file .holds && w .file .changed) ≡ true). rw (t, puttingBack) (record {
+  putting-fits w f = either (holdsOne e (w .file) && w .file .changed)
+      (λ (t : (holdsOne e (w .file) && w .file .changed) ≡ true). rw (t, puttingBack) (record {
         bytes = lay-bytes (w .image) _ (w .file .buffer) (f .bytes) (are-all sector (w .file .buffer) (f .buffer));
         room = rw (length-lay (w .image) (sectorAt e (w .file .held)) (w .file .buffer)) (f .room);
         held = f .held;
         buffer = f .buffer;
       }))
-      (λ (t : (w .file .holds && w .file .changed) ≡ false). rw (t, puttingBack) f)
+      (λ (t : (holdsOne e (w .file) && w .file .changed) ≡ false). rw (t, puttingBack) f)
 
   loaded-fits : (k : ℕ) → k < e .sectors → (w : Bench) → BenchFits e w → BenchFits e (loaded e k w)
   unfolding loaded

@@ -17,7 +17,7 @@ use Rattle.steps.specs.Effects.{Effect, hold, change, store, stamp, putBack, st
 use Rattle.steps.specs.Next.{Scene}
 use Rattle.steps.proofs.Frame.{Unstamped, choice, all-changes}
 use Rattle.steps.proofs.Inside.{Suits, AllSuit}
-use Rattle.sessions.specs.Session.{idle}
+use Rattle.sessions.specs.Session.{idle, holdsOne}
 use Rattle.straight.specs.Straight.{writing}
 use Rattle.directory.specs.declared.Entry.{Entry}
 use Rattle.held.proofs.Cases.{take-held, take-other}
@@ -29,15 +29,15 @@ use Rattle.held.specs.Held.{bench, scene, isThere, canDo, heldDo, heldAl
 module _ (e : Entry) (w : Bench) where
   length-put : length (puttingBack e w .image) ≡ length (w .image)
   unfolding puttingBack
-  length-put = either (w .file .holds && w .file .changed)
-      (λ (h : w .file .holds && w .file .changed ≡ true). rw (h, puttingBack) (length-lay _ _ _))
-      (λ (h : w .file .holds && w .file .changed ≡ false). rw (h, puttingBack))
+  length-put = either (holdsOne e (w .file) && w .file .changed)
+      (λ (h : holdsOne e (w .file) && w .file .changed ≡ true). rw (h, puttingBack) (length-lay _ _ _))
+      (λ (h : holdsOne e (w .file) && w .file .changed ≡ false). rw (h, puttingBack))
 
   whole-put : puttingBack e w .file .buffer ≡ w .file .buffer
   unfolding puttingBack
-  whole-put = either (w .file .holds && w .file .changed)
-      (λ (h : w .file .holds && w .file .changed ≡ true). rw (h, puttingBack))
-      (λ (h : w .file .holds && w .file .changed ≡ false). rw (h, puttingBack))
+  whole-put = either (holdsOne e (w .file) && w .file .changed)
+      (λ (h : holdsOne e (w .file) && w .file .changed ≡ true). rw (h, puttingBack))
+      (λ (h : holdsOne e (w .file) && w .file .changed ≡ false). rw (h, puttingBack))
 
   length-take : (k : ℕ) → length (taking e k w .image) ≡ length (w .image)
   unfolding loaded

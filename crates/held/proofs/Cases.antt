@@ -15,7 +15,7 @@ use Rattle.geometry.proofs.Tests.{either, and-left, and-right}
 use Rattle.directory.specs.Stamp.{stampBytes, stamped}
 use Rattle.packing.specs.Placing.{fitsHere, filled, changes}
 use Rattle.steps.specs.Effects.{hold, change, stamp, putBack, storeEffect, blockedEffect, effects, sectorAt, plainDo, holding, Bench, puttingBack, loaded, taking, working, bufferedDo}
-use Rattle.sessions.specs.Session.{idle}
+use Rattle.sessions.specs.Session.{idle, hasBuffer, holdsOne}
 use Rattle.straight.specs.Straight.{writing}
 use Rattle.requests.proofs.Order as order
 use Rattle.geometry.specs.declared.Place.{Place}
@@ -30,16 +30,21 @@ use Rattle.held.specs.Held.{bench, lent, scene, isThere, isWhole, canDo,
 -- ---- the buffer
 
 module _ (e : Entry) (w : Bench) where
-  pub put-changed : isWhole w && (w .file .holds && w .file .changed) ≡ true
+  pub put-changed : isWhole w && (holdsOne e (w .file) && w .file .changed) ≡ true
       → bench (lay (w .image) (sectorAt e (w .file .held)) (w .file .buffer)) (holding (w .file) (w .file .held) false (w .file .buffer)) ≡ heldDo (scene 0 e) putBack w
   unfolding heldDo canDo bufferedDo puttingBack
-  put-changed h = rw (and-left (isWhole w) (w .file .holds && w .file .changed) h, and-right (isWhole w) (w .file .holds && w .file .changed) h, heldDo, puttingBack)
+  put-changed h = rw (and-left (isWhole w) (holdsOne e (w .file) && w .file .changed) h, and-right (isWhole w) (holdsOne e (w .file) && w .file .changed) h, heldDo, puttingBack)
 
-  pub put-unchanged : isWhole w && (w .file .holds && w .file .changed) ≡ false → w ≡ heldDo (scene 0 e) putBack w
+  pub put-unchanged : isWhole w && (holdsOne e (w .file) && w .file .changed) ≡ false → w ≡ heldDo (scene 0 e) putBack w
   unfolding heldDo canDo bufferedDo puttingBack
   put-unchanged h = either (isWhole w)
-      (λ (t : isWhole w ≡ true). let z : w .file .holds && w .file .changed ≡ false = rw t at h in rw (t, z, heldDo, puttingBack))
+      (λ (t : isWhole w ≡ true). let z : holdsOne e (w .file) && w .file .changed ≡ false = rw t at h in rw (t, z, heldDo, puttingBack))
       (λ (t : isWhole w ≡ false). rw (t, heldDo))
+
+  -- the test, t saying whether the file has a buffer
+  pub put-test : (t : Bool) → t ≡ hasBuffer e → isWhole w && (holdsOne e (w .file) && w .file .changed) ≡ isWhole w && ((w .file .holds && t) && w .file .changed)
+  unfolding holdsOne
+  put-test t told = rw told
 
   pub put-whole : length (w .file .buffer) ≡ sector → heldDo (scene 0 e) putBack w ≡ puttingBack e w
   unfolding heldDo canDo bufferedDo

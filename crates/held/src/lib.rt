@@ -1,5 +1,5 @@
 // The blocking buffer: document 01's "Where a record lies". A file takes the sectors that it reads or changes into its buffer, which is lent.
-// A buffer of another size than a sector's stays as it is, and nothing is put back from it.
+// A buffer of another size than a sector's stays as it is, and nothing is put back from it; nor is anything of a file that has no buffer.
 use directory::Entry;
 use directory::stamp;
 use geometry::Geometry;
@@ -22,6 +22,7 @@ ghost use Rattle.geometry.specs.Bytes.{part, padded};
 ghost use Rattle.geometry.specs.Sizes.{sector};
 ghost use Rattle.packing.specs.Placing.{changes};
 ghost use Rattle.requests.specs.declared.Request.the-variants.{Position};
+ghost use Rattle.sessions.specs.Session.{hasBuffer};
 ghost use Rattle.steps.specs.Effects.{effects, sectorAt, taking};
 ghost use Rattle.steps.specs.Effects as Effects;
 ghost use Rattle.straight.specs.Straight.{writing};
@@ -29,11 +30,18 @@ ghost use Rattle.held.specs.Held.{lent, scene, isThere, heldDo, heldAll,
 
 // ---- the buffer
 
+// Whether a file has a blocking buffer: a blocked or compressed one.
+fn has_buffer(e: Entry) -> bool
+    ensures { λ r. ⌜ r ≡ hasBuffer e ⌝ }
+{
+    (e.kind == Geometry::BLOCKED) | (e.kind == Geometry::COMPRESSED)
+}
+
 // A changed buffer goes back to its sector; one that is not changed is not written.
 pub fn put_back(image: &mut [u8], e: Entry, h: Holding, buffer: &[u8]) -> Holding
     ensures { λ r. ⌜ lent (now (image .exit)) r (now (buffer .entry)) ≡ heldDo (scene 0 e) Effects.putBack (lent (now (image .entry)) h (now (buffer .entry))) ⌝ }
 {
-    if (buffer.len() == Geometry::SECTOR) & (h.holds & h.changed) {
+    if (buffer.len() == Geometry::SECTOR) & ((h.holds & has_buffer(e)) & h.changed) {
         lay(image, sector_at(e, h.held), buffer);
         Holding {
             holds: true,

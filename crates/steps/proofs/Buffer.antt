@@ -5,6 +5,7 @@ use mathlib.Core.List.{List, [], _∷_}
 use Prim.Native.Nat.{ℕ}
 use lib.Dec.{eqb}
 use Rattle.geometry.proofs.Tests.{either}
+use Rattle.sessions.specs.Session.{holdsOne}
 use Rattle.steps.specs.Effects.{Effect, hold, change, store, stamp, putBack, Bench, puttingBack, loaded, taking, working, bufferedDo, bufferedAll}
 use Rattle.steps.specs.Next.{Scene}
 use Rattle.directory.specs.declared.Entry.{Entry}
@@ -16,10 +17,10 @@ ofFile f w = record { image = w .image; file = record { file = f; holds = w .fil
 
 module _ (f : OpenFile) (e : Entry) (w : Bench) where
   puts : puttingBack e (ofFile f w) ≡ ofFile f (puttingBack e w)
-  unfolding puttingBack
-  puts = either (w .file .holds && w .file .changed)
-      (λ (h : w .file .holds && w .file .changed ≡ true). rw (h, puttingBack))
-      (λ (h : w .file .holds && w .file .changed ≡ false). rw (h, puttingBack))
+  unfolding puttingBack holdsOne
+  puts = either (holdsOne e (w .file) && w .file .changed)
+      (λ (h : holdsOne e (w .file) && w .file .changed ≡ true). rw (h, puttingBack))
+      (λ (h : holdsOne e (w .file) && w .file .changed ≡ false). rw (h, puttingBack))
 
   takes : (k : ℕ) → taking e k (ofFile f w) ≡ ofFile f (taking e k w)
   unfolding taking loaded

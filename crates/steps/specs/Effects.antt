@@ -12,6 +12,7 @@ use Rattle.directory.specs.Entries.{isKind}
 use Rattle.directory.specs.Stamp.{stampBytes}
 use Rattle.packing.specs.Placing.{Change, changes}
 use Rattle.packing.specs.Reading.{startOf, goesOn}
+use Rattle.sessions.specs.Session.{holdsOne}
 use Rattle.steps.specs.Next.{Scene}
 use Rattle.geometry.specs.declared.Place.{Place}
 use Rattle.directory.specs.declared.Entry.{Entry}
@@ -101,9 +102,9 @@ pub record Bench : Type 0 where
 abbrev pub holding : BufferedFile → ℕ → Bool → List ℕ → BufferedFile
 holding b k c xs = record { file = b .file; holds = true; held = k; changed = c; buffer = xs }
 
--- a changed buffer is laid over its sector, and is then not changed
+-- a changed buffer is laid over its sector, and is then not changed; a file that has no buffer puts nothing back
 unfoldable pub puttingBack : Entry → Bench → Bench
-puttingBack e w = elim (w .file .holds && w .file .changed) [
+puttingBack e w = elim (holdsOne e (w .file) && w .file .changed) [
   | true ↦ record { image = lay (w .image) (sectorAt e (w .file .held)) (w .file .buffer); file = holding (w .file) (w .file .held) false (w .file .buffer) }
   | false ↦ w
 ]
