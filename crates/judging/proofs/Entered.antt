@@ -22,12 +22,12 @@ use Rattle.steps.specs.Next.{Scene, factsWith}
 use Rattle.steps.specs.Verdict.{seenBytes, entryNext, fileWith, bufferNext, answerOf, verdictOf}
 use Rattle.steps.proofs.Lawful.{Lawful}
 use Rattle.steps.proofs.Inside.{lawful}
-use Rattle.storing.specs.Lent.{lentBy, lentIn, ownState, seenOf, seenIn, seenBufferedIn}
-use Rattle.storing.specs.Stored.{sessionIn, bufferedIn}
-use Rattle.storing.proofs.Lent.{lent-own}
+use Rattle.finding.specs.Lent.{lentBy, lentIn, ownState, seenOf, seenIn}
+use Rattle.storing.specs.Stored.{lentSession}
+use Rattle.finding.proofs.Lent.{lent-own}
 use Rattle.straight.specs.Straight.{codeGiven}
 use Rattle.judging.specs.Judged.{sceneSeen, judgedBy, bufferBy}
-use Rattle.storing.specs.declared.lawful.Seen.{Seen}
+use Rattle.finding.specs.declared.Seen.{Seen}
 use Rattle.judging.specs.Turns.{Stands, sceneOf, fileFrom, verdictFrom}
 use Rattle.geometry.specs.declared.Place.{Place}
 use Rattle.directory.specs.declared.Entry.{Entry}
@@ -124,30 +124,17 @@ stands image s i e f ok ee ef el l used =
 
 -- ---- a session in lent bytes
 
-pub part-none : (xs : List ℕ) → part xs 0 0 ≡ []
-unfolding part
-part-none xs = refl
-
--- what is seen of a legal session stands
-pub seen-stands : (image : List ℕ) (s : Session) (i : ℕ) (x : Seen) (l : Bool) (h : Holding) → x ≡ seenOf l s i h → (l ≡ true → legal image s ≡ true)
-    → Stands image (x .lawful) (x .entry) (x .file)
-unfolding seenOf
-seen-stands image s i x l h ex el =
-    stands image s i (x .entry) (x .file) (x .lawful) (ap (λ (y : Seen). y .entry) ex) (ap (λ (y : Seen). y .file) ex) (λ t. el (sym (ap (λ (y : Seen). y .lawful) ex) ∙ t))
-
-module _ (image b : List ℕ) (i : ℕ) (x : Seen) where
-  pub plain-stands : x ≡ seenIn image b i → Stands image (x .lawful) (x .entry) (x .file)
-  unfolding seenIn
-  plain-stands ex = seen-stands image (sessionIn b) i x _ _ ex (λ t. t)
-
-  pub buffered-stands : x ≡ seenBufferedIn image b i → Stands image (x .lawful) (x .entry) (x .file)
-  unfolding seenBufferedIn
-  buffered-stands ex = seen-stands image (bare (bufferedIn b)) i x _ _ ex (bare-legal image (bufferedIn b))
+module _ (image b : List ℕ) (i : ℕ) (x : Seen) (ex : x ≡ seenIn image b i) where
+  -- what is seen of a legal session stands
+  pub seen-stands : Stands image (x .lawful) (x .entry) (x .file)
+  unfolding seenOf bare
+  seen-stands =
+      stands image (bare (lentSession b)) i (x .entry) (x .file) (x .lawful) (ap (λ (y : Seen). y .entry) ex) (ap (λ (y : Seen). y .file) ex) (λ t. bare-legal image (lentSession b) (sym (ap (λ (y : Seen). y .lawful) ex) ∙ t))
 
   -- the held sector is lent
-  pub buffered-lent : x ≡ seenBufferedIn image b i → lentIn b (x .slot) (x .hold .holds) ≡ lentBy (ownState (bufferedIn b) i)
-  unfolding seenBufferedIn seenOf
-  buffered-lent ex = ap (λ (y : Seen). lentIn b (y .slot) (y .hold .holds)) ex ∙ lent-own image b i
+  pub seen-lent : lentIn b (x .slot) (x .hold .holds) ≡ lentBy (ownState (lentSession b) i)
+  unfolding seenOf
+  seen-lent = ap (λ (y : Seen). lentIn b (y .slot) (y .hold .holds)) ex ∙ lent-own b i
 
 -- the verdict that a ruling on what is seen makes
 pub judged : (image : List ℕ) (x : Seen) (over : List ℕ) (i : ℕ) (q : Request) (given : List ℕ) (size : ℕ) (buffer : List ℕ) (z : Seen) (lent : List ℕ)

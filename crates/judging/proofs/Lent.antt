@@ -7,7 +7,7 @@ use Rattle.geometry.proofs.Tests.{either}
 use Rattle.steps.specs.Next.{Scene, counted, entryDone}
 use Rattle.steps.specs.Step.{After}
 use Rattle.steps.specs.Verdict.{entryNext}
-use Rattle.storing.proofs.Counts.{recounted}
+use Rattle.directory.specs.Stamp.{restamped}
 use Rattle.requests.specs.declared.Answer.{Answer}
 use Rattle.requests.specs.declared.Answer.the-variants.{Done, Met, Refused}
 use Rattle.requests.specs.declared.Order.the-variants.{WriteMark, RewindOnline, RewindOffline, RecordForward, RecordBack, FileForward, FileBack}
@@ -44,7 +44,7 @@ module _ {S : Type 0} (told : List ℕ → Bool) (stored : S → List ℕ) (b : 
           (λ (t : told b ≡ false). sym (lent-none old t))
 
 -- a request changes nothing of an entry but its count and flags
-entry-done : (q : Request) (c : Scene) → entryDone q c ≡ recounted (c .entry) (entryDone q c .count) (entryDone q c .flags)
+entry-done : (q : Request) (c : Scene) → entryDone q c ≡ restamped (c .entry) (entryDone q c .count) (entryDone q c .flags)
 unfolding entryDone counted
 entry-done Open c = refl
 entry-done Read c = refl
@@ -60,7 +60,7 @@ entry-done (Position RecordBack) c = refl
 entry-done (Position FileForward) c = refl
 entry-done (Position FileBack) c = refl
 
-pub entry-kept : (a : Answer) (q : Request) (c : Scene) → entryNext a q c ≡ recounted (c .entry) (entryNext a q c .count) (entryNext a q c .flags)
+pub entry-kept : (a : Answer) (q : Request) (c : Scene) → entryNext a q c ≡ restamped (c .entry) (entryNext a q c .count) (entryNext a q c .flags)
 unfolding entryNext
 entry-kept Done q c = entry-done q c
 entry-kept (Met x) q c = refl

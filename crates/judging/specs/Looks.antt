@@ -2,7 +2,7 @@
 use mathlib.Core.Bool.{false}
 use Prim.Native.Nat.{ℕ}
 use Rattle.requests.specs.Judge.{judge}
-use Rattle.storing.specs.declared.lawful.Seen.{Seen}
+use Rattle.finding.specs.declared.Seen.{Seen}
 use Rattle.judging.specs.Turns.{factsBut}
 use Rattle.judging.specs.declared.Looked.{Looked}
 use Rattle.requests.specs.declared.Request.the-variants.{GranuleLook}

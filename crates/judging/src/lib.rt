@@ -3,10 +3,12 @@
 use directory::Entry;
 use directory::is_marked;
 use directory::is_protected;
+use finding::Seen;
+use finding::find_in;
+use finding::lent_in;
 use geometry::Geometry;
 use geometry::Place;
 use geometry::lay;
-use geometry::part;
 use packing::Led;
 use packing::goes_to_byte;
 use packing::goes_to_sector;
@@ -26,10 +28,6 @@ use requests::past_code;
 use sessions::OpenFile;
 use sessions::idle;
 use steps::Verdict;
-use storing::Seen;
-use storing::find_buffered_in;
-use storing::find_in;
-use storing::lent_in;
 use straight::encode_given;
 ghost use mathlib.Core.Path.{_≡_};
 ghost use mathlib.Core.Bool.{true, false, _&&_};
@@ -44,12 +42,12 @@ ghost use Rattle.geometry.specs.Sizes.{blocked, compressed, random};
 ghost use Rattle.geometry.specs.Sizes as Sizes;
 ghost use Rattle.directory.specs.Entries.{entryAt, isKind};
 ghost use Rattle.sessions.specs.Session.{extent};
-ghost use Rattle.steps.specs.Look.{plainLookAnswer, bufferedLookAnswer};
+ghost use Rattle.steps.specs.Look.{bufferedLookAnswer};
 ghost use Rattle.requests.specs.declared.Answer.the-variants.{Done};
-ghost use Rattle.storing.specs.Stored.{sessionIn, bufferedIn};
-ghost use Rattle.storing.specs.Lent.{lentBy, ownState, seenIn, seenBufferedIn};
+ghost use Rattle.storing.specs.Stored.{lentSession};
+ghost use Rattle.finding.specs.Lent.{seenIn};
 ghost use Rattle.straight.specs.Straight.{codeGiven};
-ghost use Rattle.judging.specs.Judged.{sceneSeen, judgedBy, bufferBy};
+ghost use Rattle.judging.specs.Judged.{sceneSeen, judgedIn, bufferIn};
 ghost use Rattle.judging.specs.Looks.{lookedBy};
 ghost use Rattle.steps.specs.Next.{moved, counted, fileMet, entryDone};
 ghost use Rattle.steps.specs.Verdict.{seenBytes, bufferNext, answerOf, verdictOf};
@@ -510,7 +508,8 @@ pub struct Judged {
     pub size: usize,
 }
 
-// The verdict on a request on entry i of the session that the lent bytes are; the code of the bytes given goes into code.
+// The verdict on a request on entry i of the session that the lent bytes are; the code of the bytes given goes into code. The held sector of the file,
+// if there is one, is read where it lies.
 pub fn verdict_in(
     image: &[u8],
     session: &[u8],
@@ -520,41 +519,11 @@ pub fn verdict_in(
     code: &mut [u8],
     buffer: &mut [u8],
 ) -> Judged
-    ensures { λ r. ⌜ (r ≡ judgedBy (now (image .entry)) (seenIn (now (image .entry)) (now (session .entry)) i) [] i q (now (given .entry)) (length (now (buffer .entry))))
-        × (now (buffer .exit) ≡ bufferBy (now (image .entry)) (seenIn (now (image .entry)) (now (session .entry)) i) [] i q (now (given .entry)) (now (buffer .entry)))
+    ensures { λ r. ⌜ (r ≡ judgedIn (now (image .entry)) (now (session .entry)) i q (now (given .entry)) (length (now (buffer .entry))))
+        × (now (buffer .exit) ≡ bufferIn (now (image .entry)) (now (session .entry)) i q (now (given .entry)) (now (buffer .entry)))
         × (now (code .exit) ≡ sets (now (code .entry)) 0 (codeGiven (seenIn (now (image .entry)) (now (session .entry)) i .entry) (now (given .entry)))) ⌝ }
 {
     let seen = find_in(image, session, i);
-    let e = seen.entry;
-    let size = encode_given(e, given, code);
-    let none = part(given, 0, 0);
-    let r = ruling_on(image, seen, none, i, q, given, size, buffer);
-    let a = r.answer;
-    let p = r.place;
-    let f = seen.file;
-    let v = next(a, q, i, e, f, p);
-    Judged {
-        verdict: v,
-        seen: seen,
-        size: size,
-    }
-}
-
-// The same on a session with buffers; the held sector of the file, if there is one, is read where it lies.
-pub fn verdict_buffered_in(
-    image: &[u8],
-    session: &[u8],
-    i: usize,
-    q: Request,
-    given: &[u8],
-    code: &mut [u8],
-    buffer: &mut [u8],
-) -> Judged
-    ensures { λ r. ⌜ (r ≡ judgedBy (now (image .entry)) (seenBufferedIn (now (image .entry)) (now (session .entry)) i) (lentBy (ownState (bufferedIn (now (session .entry))) i)) i q (now (given .entry)) (length (now (buffer .entry))))
-        × (now (buffer .exit) ≡ bufferBy (now (image .entry)) (seenBufferedIn (now (image .entry)) (now (session .entry)) i) (lentBy (ownState (bufferedIn (now (session .entry))) i)) i q (now (given .entry)) (now (buffer .entry)))
-        × (now (code .exit) ≡ sets (now (code .entry)) 0 (codeGiven (seenBufferedIn (now (image .entry)) (now (session .entry)) i .entry) (now (given .entry)))) ⌝ }
-{
-    let seen = find_buffered_in(image, session, i);
     let e = seen.entry;
     let size = encode_given(e, given, code);
     let h = seen.hold;
@@ -594,16 +563,8 @@ fn look_seen(seen: Seen, g: u32) -> Looked
 
 // A look at granule g of entry i of the session that the lent bytes are.
 pub fn look_in(image: &[u8], session: &[u8], i: usize, g: u32) -> Looked
-    ensures { λ r. ⌜ (r .answer ≡ plainLookAnswer (now (image .entry)) (sessionIn (now (session .entry))) i g)
-        × (r .entry ≡ entryAt (sessionIn (now (session .entry)) .table) i) ⌝ }
+    ensures { λ r. ⌜ (r .answer ≡ bufferedLookAnswer (now (image .entry)) (lentSession (now (session .entry))) i g)
+        × (r .entry ≡ entryAt (lentSession (now (session .entry)) .table) i) ⌝ }
 {
     look_seen(find_in(image, session, i), g)
-}
-
-// A look at granule g of entry i of the session with buffers that the lent bytes are.
-pub fn look_buffered_in(image: &[u8], session: &[u8], i: usize, g: u32) -> Looked
-    ensures { λ r. ⌜ (r .answer ≡ bufferedLookAnswer (now (image .entry)) (bufferedIn (now (session .entry))) i g)
-        × (r .entry ≡ entryAt (bufferedIn (now (session .entry)) .table) i) ⌝ }
-{
-    look_seen(find_buffered_in(image, session, i), g)
 }

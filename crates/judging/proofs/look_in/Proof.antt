@@ -1,8 +1,8 @@
 -- What is seen is the entry and the state of the session that the bytes are.
 use mathlib.Core.Path.{ap, _∙_}
-use Rattle.storing.specs.declared.lawful.Seen.{Seen}
+use Rattle.finding.specs.declared.Seen.{Seen}
 use Rattle.judging.specs.Looks.{lookedBy}
-use Rattle.judging.proofs.Looks.{looked-plain}
+use Rattle.judging.proofs.Looks.{looked}
 use borrow.Author.Needs.{needs}
 use Rattle.judging.proofs.look_in.Statement.{statement}
 use Rattle.judging.proofs.look_in.Tie as tie
@@ -16,7 +16,7 @@ look-seen-requires c κs = search needs
 returns : tie.Need-returns
 returns c =
     let a = c .before .before .before .before .args in
-    looked-plain (a .image .now) (a .session .now) (a .i) (a .g) _ (c .look-seen .ensures ∙ ap (λ (x : Seen). lookedBy x (a .g)) (c .before .find-in .ensures))
+    looked (a .image .now) (a .session .now) (a .i) (a .g) _ (c .look-seen .ensures ∙ ap (λ (x : Seen). lookedBy x (a .g)) (c .before .find-in .ensures))
 
 pub look-in-spec : {M : Type 1} → statement M
 look-in-spec = tie.close (tie.spec find-in-requires look-seen-requires returns)
