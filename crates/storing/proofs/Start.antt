@@ -71,13 +71,16 @@ module _ (b image : List ℕ) where
   unfolding layStart stored
   start-is table l = rw (eq-eqb (length b) (sizeOf u) l, layStart)
 
-  pub start-other : (table : List Entry) → isSize ≡ false → b ≡ layStart b table
-  unfolding layStart
-  start-other table h = rw (ne-eqb (length b) (sizeOf u) (differs u), layStart)
+  pub other-number : isSize ≡ false → eqb (length b) (sizeOf u) ≡ false
+  other-number h = ne-eqb (length b) (sizeOf u) (differs u)
     where
       differs : (v : Bool) → ¬ (length b ≡ sizeOf v)
       differs true l = false≢true (sym (neither-right (eqb (length b) 516) (eqb (length b) 1980) h) ∙ eq-eqb (length b) 1980 (l ∙ size-buffered))
       differs false l = false≢true (sym (neither-left (eqb (length b) 516) (eqb (length b) 1980) h) ∙ eq-eqb (length b) 516 (l ∙ size-plain))
+
+  pub start-other : (table : List Entry) → isSize ≡ false → b ≡ layStart b table
+  unfolding layStart
+  start-other table h = rw (other-number h, layStart)
 
   module _ (size : length b ≡ sizeOf u) (b₁ : List ℕ) (filled : b₁ ≡ lay b 0 (replicate (length b) 0)) where
     zeros : b₁ ≡ replicate (sizeOf u) 0

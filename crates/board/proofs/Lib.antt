@@ -1,4 +1,0 @@
-pub mod Codes
-pub mod Served
-pub mod Looks
-pub mod Mounts

@@ -1,0 +1,109 @@
+-- What the calls meet on their way: the table that mounting lays is the one that it hands out, and a look that shows something shows a granule of a session.
+use mathlib.Core.Path.{_≡_, refl, sym, ap, _∙_}
+use mathlib.Core.Bool.{Bool, true, false, _||_}
+use mathlib.Core.List.{List}
+use Prim.Native.Nat.{ℕ, _+_, _*_, _≤_}
+use native.Mathlib.Omega.{arith}
+use lib.Dec.{eqb}
+use lib.ListN.{length}
+use borrow.Author.Tests.{eq-eqb, ne-eqb}
+use Rattle.geometry.specs.Places.{placeOf, byteOf}
+use Rattle.geometry.specs.Sizes.{sector, entries, random, lawfulLength, sectorsOf}
+use Rattle.geometry.proofs.Places.{lawful-whole, lawful-some}
+use Rattle.geometry.proofs.Tests.{either, and-left}
+use Rattle.directory.specs.Entries.{entryAt}
+use Rattle.directory.specs.declared.Entry.{Entry}
+use Rattle.tables.specs.Tables.{oneWordWide, twoWordsWide, hasRows}
+use Rattle.tables.specs.Tables as Tables
+use Rattle.tables.proofs.Widths.{rows-there}
+use Rattle.requests.specs.Numbers.{numberOf}
+use Rattle.mounting.specs.Mounting.{mounts, startWith, plainMount}
+use Rattle.storing.specs.Stored.{sizeOf, hasBuffers, startTable, layStart}
+use Rattle.storing.proofs.Start.{sized, other-number, start-other}
+use Rattle.looking.specs.Looking.{lookIn, lookAnswerIn}
+use Rattle.judging.specs.Lent.{afterIn}
+use Rattle.steps.specs.Step.{After}
+use Rattle.engines.specs.Engines as Engines
+use Rattle.requests.specs.declared.Answer.{Answer}
+use Rattle.requests.specs.declared.Asked.{Asked}
+use Rattle.requests.specs.declared.Asked.the-variants.{For, Unknown}
+use Rattle.requests.specs.declared.Request.{Request}
+use Rattle.lleuadrys.specs.Codes.{unknownNumber}
+use Rattle.lleuadrys.specs.Calls.{left, requested, mountNumber, mountBytes, lookPlace}
+
+-- ---- mounting
+
+module _ (image : List ℕ) where
+  has-directory : mounts image ≡ true → hasRows oneWordWide entries image ≡ true
+  unfolding mounts
+  has-directory h =
+      let ok : lawfulLength image ≡ true = and-left (lawfulLength image) _ h in
+      let l : length image ≡ sector * sectorsOf image = lawful-whole image ok in
+      let s : 1 ≤ sectorsOf image = lawful-some image ok in
+      rows-there oneWordWide entries image (omega arith, omega arith, refl) (omega arith)
+
+  table-is : startTable (mounts image) image ≡ plainMount image .session .table
+  unfolding startTable plainMount startWith
+  table-is = either (mounts image) (λ (t : mounts image ≡ true). rw (t, has-directory t, startTable, plainMount)) (λ (t : mounts image ≡ false). rw (t, startTable, plainMount))
+
+module _ (image b : List ℕ) where
+  abbrev isSize : Bool
+  isSize = eqb (length b) 516 || eqb (length b) 1980
+
+  -- of bytes that are as many as a session takes
+  module _ (t : isSize ≡ true) (g : Bool) (e : g ≡ mounts image) where
+    number-is : mountNumber image b ≡ numberOf (plainMount image .answer)
+    unfolding mountNumber
+    number-is = rw (eq-eqb (length b) (sizeOf (hasBuffers b)) (sized b image t), mountNumber)
+
+    pub mount-done : g ≡ true → 0 ≡ mountNumber image b
+    mount-done h = sym (number-is ∙ done)
+      where
+        done : numberOf (plainMount image .answer) ≡ 0
+        done = unfold plainMount in rw (sym e ∙ h, plainMount)
+
+    pub mount-bad : g ≡ false → 11 ≡ mountNumber image b
+    mount-bad h = sym (number-is ∙ bad)
+      where
+        bad : numberOf (plainMount image .answer) ≡ 11
+        bad = unfold plainMount in rw (sym e ∙ h, plainMount)
+
+    pub mount-leaves : (b′ : List ℕ) → b′ ≡ layStart b (startTable g image) → b′ ≡ mountBytes image b
+    unfolding mountBytes
+    mount-leaves b′ h = h ∙ ap (λ (x : Bool). layStart b (startTable x image)) e ∙ ap (layStart b) (table-is image)
+
+  -- and of others
+  pub mount-none : isSize ≡ false → (12 ≡ mountNumber image b) × (b ≡ mountBytes image b)
+  unfolding mountNumber mountBytes
+  mount-none t = (sym (rw (other-number b image t, mountNumber)), start-other b image (plainMount image .session .table) t)
+
+-- ---- looks
+
+module _ (image b : List ℕ) (i g : ℕ) (r : List ℕ) (e : r ≡ lookIn image b i g) (n : ℕ) (p : n ≡ length r) (old : ℕ) where
+  shown-size : n ≡ length (lookIn image b i g)
+  shown-size = p ∙ ap length e
+
+  pub look-none : n ≡ 0 → (0 ≡ length (lookIn image b i g)) × (old ≡ lookPlace image b i g old)
+  unfolding lookPlace
+  look-none z = (sym z ∙ shown-size, sym (rw (eq-eqb (length (lookIn image b i g)) 0 (sym shown-size ∙ z), lookPlace)))
+
+  pub look-some : ¬ (n ≡ 0) → (x : Entry) → x ≡ entryAt (Tables.tableIn twoWordsWide entries b) i → (at : ℕ) → at ≡ sector * x .first + byteOf (placeOf random (x .length) g)
+      → (n ≡ length (lookIn image b i g)) × (at ≡ lookPlace image b i g old)
+  unfolding lookPlace
+  look-some z x q at h = (
+    shown-size,
+    h ∙ ap (λ (y : Entry). sector * y .first + byteOf (placeOf random (y .length) g)) q
+        ∙ sym (rw (ne-eqb (length (lookIn image b i g)) 0 (λ (w : length (lookIn image b i g) ≡ 0). z (shown-size ∙ w)), lookPlace)),
+  )
+
+-- ---- requests
+
+module _ (image b : List ℕ) (i : ℕ) (given buffer : List ℕ) where
+  pub asked-for : (q : Request) (a : Answer) (to lent moved : List ℕ) (n : ℕ) → afterIn a to lent moved ≡ Engines.requested image b i q given buffer → n ≡ numberOf a
+      → left n to lent moved ≡ requested image b i (For q) given buffer
+  unfolding requested
+  asked-for q a to lent moved n h p = rw p (ap (λ (w : After (List ℕ)). left (numberOf (w .answer)) (w .image) (w .session) (w .buffer)) h)
+
+  pub asked-none : (x : Asked) (a : Answer) (n : ℕ) → x ≡ Unknown → a ≡ lookAnswerIn image b i 0 → n ≡ unknownNumber a → left n image b buffer ≡ requested image b i x given buffer
+  unfolding requested
+  asked-none x a n u f p = rw (u, p, f)

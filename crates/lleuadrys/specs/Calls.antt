@@ -1,0 +1,52 @@
+-- What each call from C answers and leaves in what was lent. Definitions only.
+use mathlib.Core.Bool.{true, false}
+use mathlib.Core.List.{List}
+use Prim.Native.Nat.{ℕ, _+_, _*_}
+use lib.Dec.{eqb}
+use lib.ListN.{length}
+use Rattle.geometry.specs.Places.{placeOf, byteOf}
+use Rattle.geometry.specs.Sizes.{sector, entries, random}
+use Rattle.directory.specs.Entries.{entryAt}
+use Rattle.directory.specs.declared.Entry.{Entry}
+use Rattle.tables.specs.Tables.{twoWordsWide}
+use Rattle.tables.specs.Tables as Tables
+use Rattle.requests.specs.Numbers.{numberOf}
+use Rattle.requests.specs.declared.Asked.{Asked}
+use Rattle.requests.specs.declared.Asked.the-variants.{For, Unknown}
+use Rattle.mounting.specs.Mounting.{plainMount}
+use Rattle.steps.specs.Step.{After}
+use Rattle.storing.specs.Stored.{sizeOf, hasBuffers, layStart}
+use Rattle.looking.specs.Looking.{lookIn, lookAnswerIn}
+use Rattle.engines.specs.Engines as Engines
+use Rattle.lleuadrys.specs.Codes.{unknownNumber}
+
+-- what a request answers, and what it leaves in the image, the session's bytes and the caller's buffer
+pub record Left : Type 0 where
+  pub number : ℕ
+  pub image : List ℕ
+  pub session : List ℕ
+  pub buffer : List ℕ
+
+abbrev pub left : ℕ → List ℕ → List ℕ → List ℕ → Left
+left n image session buffer = record { number = n; image = image; session = session; buffer = buffer }
+
+-- a request, with its answer as a number; a code that names none changes nothing
+unfoldable pub requested : List ℕ → List ℕ → ℕ → Asked → List ℕ → List ℕ → Left
+requested image b i (For q) given buffer =
+    let w : After (List ℕ) = Engines.requested image b i q given buffer in
+    left (numberOf (w .answer)) (w .image) (w .session) (w .buffer)
+requested image b i Unknown given buffer = left (unknownNumber (lookAnswerIn image b i 0)) image b buffer
+
+-- mounting: 12 where the lent bytes are not as many as a session takes
+unfoldable pub mountNumber : List ℕ → List ℕ → ℕ
+mountNumber image b = elim (eqb (length b) (sizeOf (hasBuffers b))) [ true ↦ numberOf (plainMount image .answer) | false ↦ 12 ]
+
+-- the session that mounting hands out; "a refused mounting hands out a table with no used entry and nothing open"
+unfoldable pub mountBytes : List ℕ → List ℕ → List ℕ
+mountBytes image b = layStart b (plainMount image .session .table)
+
+-- where the granule that a look shows begins in the image; what was there before where it shows none
+unfoldable pub lookPlace : List ℕ → List ℕ → ℕ → ℕ → ℕ → ℕ
+lookPlace image b i g old =
+    let e : Entry = entryAt (Tables.tableIn twoWordsWide entries b) i in
+    elim (eqb (length (lookIn image b i g)) 0) [ true ↦ old | false ↦ sector * e .first + byteOf (placeOf random (e .length) g) ]

@@ -1,0 +1,170 @@
+// The calls from C: both engines on a lent image, with the session in lent bytes, whose number says which engine's they are. include/lleuadrys.h has the
+// declarations.
+use coding::Coded;
+use finding::spot_in;
+use geometry::Geometry;
+use looking::granule_at;
+use looking::look;
+use looking::look_answer;
+use mounting::mounts;
+use requests::Answer;
+use requests::Asked;
+use requests::by_code;
+use requests::number;
+use sessions::Spot;
+use storing::Form;
+use storing::put_start;
+use tables::Width;
+use tables::entry_in;
+ghost use mathlib.Core.Path.{_≡_};
+ghost use mathlib.Core.Bool.{true, false};
+ghost use Prim.Native.Nat.{min};
+ghost use lib.ListN.{length};
+ghost use lib.Seq.{sets};
+ghost use Rattle.coding.specs.Decode as Decode;
+ghost use Rattle.coding.specs.Encode as Encode;
+ghost use Rattle.listing.specs.Listing.{listing};
+ghost use Rattle.requests.specs.Codes.{askedFor};
+ghost use Rattle.sessions.specs.Session.{bare, spotOf};
+ghost use Rattle.storing.specs.Stored.{sizeOf, lentSession};
+ghost use Rattle.looking.specs.Looking.{lookIn};
+ghost use Rattle.lleuadrys.specs.Codes.{unknownNumber, standing, recordAt, codeSize};
+ghost use Rattle.lleuadrys.specs.Calls.{left, requested, mountNumber, mountBytes, lookPlace};
+
+// ---- numbers for C
+
+// The number of a code that names no request, where a look gives that answer.
+fn unknown(look: Answer) -> u16
+    ensures { λ r. ⌜ r ≡ unknownNumber look ⌝ }
+{
+    let n = number(look);
+    if 8 <= n { n } else { 7 }
+}
+
+// Where a file stands: 0 not open, 1 open, 2 open and beyond the mark; its record goes into at.
+fn tell(spot: Spot, at: &mut u32) -> u16
+    ensures { λ r. ⌜ (r ≡ standing spot) × (now (at .exit) ≡ recordAt spot (now (at .entry))) ⌝ }
+{
+    match spot {
+        Spot::Closed => 0,
+        Spot::At { record, beyond } => {
+            *at = record;
+            if beyond { 2 } else { 1 }
+        }
+    }
+}
+
+// ---- the calls on a session
+
+// How many bytes a session takes.
+#[no_mangle]
+pub extern "C" fn lleuadrys_session_size() -> usize
+    ensures { λ r. ⌜ r ≡ sizeOf false ⌝ }
+{
+    Form::SESSION
+}
+
+// How many bytes a session with buffers takes.
+#[no_mangle]
+pub extern "C" fn lleuadrys_buffered_session_size() -> usize
+    ensures { λ r. ⌜ r ≡ sizeOf true ⌝ }
+{
+    Form::BUFFERED
+}
+
+// Mounts an image; its number. A refused mounting hands out a session too, with no used entry.
+#[no_mangle]
+pub extern "C" fn lleuadrys_mount(image: &[u8], session: &mut [u8]) -> u16
+    ensures { λ r. ⌜ (r ≡ mountNumber (now (image .entry)) (now (session .entry)))
+        × (now (session .exit) ≡ mountBytes (now (image .entry)) (now (session .entry))) ⌝ }
+{
+    let n = session.len();
+    if (n == Form::SESSION) | (n == Form::BUFFERED) {
+        let good = mounts(image);
+        put_start(session, image, good);
+        if good { 0 } else { 11 }
+    } else {
+        12
+    }
+}
+
+// A request by its code on that entry; its number.
+#[no_mangle]
+pub extern "C" fn lleuadrys_request(
+    image: &mut [u8],
+    session: &mut [u8],
+    entry: usize,
+    code: u16,
+    granule: u32,
+    given: &[u8],
+    buffer: &mut [u8],
+) -> u16
+    ensures { λ r. ⌜ left r (now (image .exit)) (now (session .exit)) (now (buffer .exit))
+        ≡ requested (now (image .entry)) (now (session .entry)) entry (askedFor code granule) (now (given .entry)) (now (buffer .entry)) ⌝ }
+{
+    match by_code(code, granule) {
+        Asked::For(q) => number(engines::request(image, session, entry, q, given, buffer)),
+        Asked::Unknown => unknown(look_answer(image, session, entry, 0)),
+    }
+}
+
+// Looks at a granule in place: the number of its bytes, 0 where the look is refused; where they begin goes into at.
+#[no_mangle]
+pub extern "C" fn lleuadrys_look(
+    image: &[u8],
+    session: &[u8],
+    entry: usize,
+    granule: u32,
+    at: &mut usize,
+) -> usize
+    ensures { λ r. ⌜ (r ≡ length (lookIn (now (image .entry)) (now (session .entry)) entry granule))
+        × (now (at .exit) ≡ lookPlace (now (image .entry)) (now (session .entry)) entry granule (now (at .entry))) ⌝ }
+{
+    let shown = look(image, session, entry, granule);
+    let n = shown.len();
+    if n == 0 {
+        return 0;
+    }
+    let e = entry_in(session, Width::TWO, Geometry::ENTRIES, entry);
+    *at = granule_at(e, granule);
+    n
+}
+
+// Where an entry's file stands: 0 not open, 1 open, 2 open and beyond the mark; its record goes into at.
+#[no_mangle]
+pub extern "C" fn lleuadrys_position(session: &[u8], entry: usize, at: &mut u32) -> u16
+    ensures { λ r. ⌜ (r ≡ standing (spotOf (bare (lentSession (now (session .entry)))) entry))
+        × (now (at .exit) ≡ recordAt (spotOf (bare (lentSession (now (session .entry)))) entry) (now (at .entry))) ⌝ }
+{
+    tell(spot_in(session, entry), at)
+}
+
+// ---- the calls that need no session
+
+// Lists the directory of an image, as far as there is room; the number of bytes put there. A listing has at most 1,596.
+#[no_mangle]
+pub extern "C" fn lleuadrys_list(image: &[u8], out: &mut [u8]) -> usize
+    ensures { λ r. ⌜ (r ≡ min (length (listing (now (image .entry)))) (length (now (out .entry)))) × (now (out .exit) ≡ sets (now (out .entry)) 0 (listing (now (image .entry)))) ⌝ }
+{
+    listing::write_listing(image, out)
+}
+
+// Decodes the record that a code begins with; the number of the code's bytes, 0 where it is bad.
+#[no_mangle]
+pub extern "C" fn lleuadrys_decode(code: &[u8], text: &mut [u8]) -> usize
+    ensures { λ r. ⌜ (r ≡ codeSize (Decode.decode (length (now (text .entry))) (now (code .entry))))
+        × (now (text .exit) ≡ Decode.given (Decode.decode (length (now (text .entry))) (now (code .entry))) (now (text .entry))) ⌝ }
+{
+    match coding::decode(code, text) {
+        Coded::Good(n) => n,
+        Coded::Bad(_) => 0,
+    }
+}
+
+// Codes a record, as far as there is room; the number of the code's bytes.
+#[no_mangle]
+pub extern "C" fn lleuadrys_encode(text: &[u8], code: &mut [u8]) -> usize
+    ensures { λ r. ⌜ (r ≡ length (Encode.encode (now (text .entry)))) × (now (code .exit) ≡ sets (now (code .entry)) 0 (Encode.encode (now (text .entry)))) ⌝ }
+{
+    coding::encode(text, code)
+}
