@@ -19,16 +19,16 @@ find_tools() {
     loader=$lib/ld-linux-x86-64.so.2
 }
 
-# Sees that the kit is the pinned one: at least of the same logic, which is what a proof stands on.
+# Sees that the kit is a pinned one: of a logic that KIT-VERSION has, since the logic is what a proof stands on.
 see_kit() {
     find_tools
-    want=$(cat "$top/KIT-VERSION") && have=$(rt version) || exit 2
-    if [ "${have#* }" != "${want#* }" ]; then
-        tell "this repository is proved with '$want', and the kit here is '$have': another logic."
+    have=$(rt version) || exit 2
+    if ! grep -qF " ${have#* }" "$top/KIT-VERSION"; then
+        tell "this repository is proved with '$(head -n 1 "$top/KIT-VERSION")', and the kit here is '$have': another logic."
         tell "install that kit, or, to move to this one, put its line into KIT-VERSION and see the gate pass."
         exit 2
     fi
-    [ "$have" = "$want" ] || tell "note: the kit here is '$have', of the same logic as the pinned '$want'"
+    grep -qxF "$have" "$top/KIT-VERSION" || tell "note: the kit here is '$have', of the same logic as one that is pinned"
 }
 
 # Runs a command, with all that it says going through a filter to standard output; gives the command's status.
