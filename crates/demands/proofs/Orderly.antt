@@ -16,7 +16,7 @@ use Rattle.coding.specs.Decode.{Decoded, good, bad, decode}
 use Rattle.coding.proofs.Known.{decode-good}
 use Rattle.directory.specs.Entries.{entryAt, isKind}
 use Rattle.packing.specs.Reading.{got, lost, gotFrom, startOf, readAt, readBehind, extentEnd}
-use Rattle.sessions.specs.Session.{idle, fresh, bare, unheld, fileOf, slotOf, extentWith}
+use Rattle.sessions.specs.Session.{idle, fresh, bare, unheld, fileOf, slotOf, holdsOne, extentWith}
 use Rattle.sessions.proofs.Unheld.{bare-unheld, unheld-legal}
 use Rattle.steps.specs.Next.{Scene, fixedAt, recordHere, bytesGot, fileMet, intoBuffer}
 use Rattle.steps.specs.Step.{After, plainScene, plainAnswer, plainAfter, plainStep, heldOf, bufferedScene, bufferedAnswer, kept, bufferedAfter, bufferedStep}
@@ -175,7 +175,7 @@ kept-fresh BeginningOfTape f g = refl
 
 same-answer : (image : List ℕ) (s : Session) (i : ℕ) (q : Request) (given : List ℕ) (n : ℕ)
     → plainAnswer image s i q given n ≡ bufferedAnswer image (unheld s) i q given n
-unfolding plainAnswer bufferedAnswer plainScene bufferedScene extentWith
+unfolding plainAnswer bufferedAnswer plainScene bufferedScene extentWith holdsOne
 same-answer image s i q given n =
     let h = fresh-held s i in
     rw (unheld-legal image s, bare-unheld s, h .1, unheld-table s)

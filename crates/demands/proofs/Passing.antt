@@ -17,7 +17,7 @@ use Rattle.steps.specs.Effects.{Bench, effects, bufferedAll}
 use Rattle.steps.specs.Next.{Scene, factsOf, fileDone, fileMet, entryDone}
 use Rattle.steps.specs.Step.{heldOf, kept, bufferedScene, bufferedAnswer, bufferedAfter, bufferedStep}
 use Rattle.steps.specs.Verdict.{entryNext, fileNext}
-use Rattle.steps.proofs.Inside.{buffers, lawful, suit}
+use Rattle.steps.proofs.Inside.{lawful, suit}
 use Rattle.serving.proofs.Keeping.{goes-used, goes, Of, done, met, legal-next}
 use Rattle.settling.proofs.Bench.{Within, within-all, length-all}
 use Rattle.steps.proofs.Standing.{heldAt, Standing, isOpen, isShut, standing}

@@ -18,15 +18,16 @@ use Rattle.geometry.specs.Places.{perSector, placeOf, sectorsFor}
 use Rattle.geometry.specs.Sizes.{blocked}
 use Rattle.geometry.proofs.Bytes.{lay-nil}
 use Rattle.geometry.proofs.Places.{place-blocked}
-use Rattle.geometry.proofs.Tests.{either, and-left, and-right, and-both}
+use Rattle.geometry.proofs.Tests.{either, chosen, and-left, and-right, and-both}
 use Rattle.directory.specs.Entries.{entryAt, freeEntry, isKind}
 use Rattle.directory.proofs.Good.{used-inside}
 use Rattle.requests.specs.Numbers.{numberOf}
 use Rattle.requests.proofs.Live.{done-live}
-use Rattle.sessions.specs.Session.{bare, fileOf}
+use Rattle.sessions.specs.Session.{bare, fileOf, hasBuffer}
 use Rattle.steps.specs.Effects.{Effect, hold, change, store, stamp, putBack, writeEffects, blockedEffect, effects, Bench, puttingBack, loaded, taking, working, plainDo, plainAll, bufferedDo, bufferedAll}
 use Rattle.steps.specs.Next.{Scene, counted, fileDone, entryDone}
 use Rattle.steps.specs.Step.{After, heldOf, plainScene, plainAnswer, plainAfter, plainStep, bufferedScene, bufferedAnswer, bufferedAfter, bufferedStep}
+use Rattle.steps.proofs.Buffer.{back-cases}
 use Rattle.steps.proofs.Answered.{plain-is, buffered-is}
 use Rattle.settling.proofs.Bench.{takes-held}
 use Rattle.steps.proofs.Standing.{withBuffer, held-file}
@@ -85,13 +86,13 @@ module _ (c : Scene) where
       go true t = rw (t, taking)
       go false t = rw (t, taking) (back-none w (rw (t, takeWrites) at h))
 
-  buffered-none : (x : Effect) (w : Bench) → bufferedWrites x w ≡ 0 → bufferedDo c x w .image ≡ w .image
+  buffered-none : (x : Effect) (w : Bench) → bufferedWrites (c .entry) x w ≡ 0 → bufferedDo c x w .image ≡ w .image
   unfolding bufferedWrites bufferedDo working
   buffered-none (hold k) w h = take-none k w h
   buffered-none (change x) w h = take-none (x .place .sector) w h
   buffered-none (store k xs) w h = plain-none (store k xs) (w .image) h
   buffered-none (stamp xs) w h = plain-none (stamp xs) (w .image) h
-  buffered-none putBack w h = back-none w h
+  buffered-none putBack w h = back-cases (λ (v : Bench). v .image ≡ w .image) c w (λ b. back-none w (sym (chosen (hasBuffer (c .entry)) (backWrites w) 0 b) ∙ h)) (λ b. refl)
 
   buffered-all-none : (xs : List Effect) (w : Bench) → bufferedSum c xs w ≡ 0 → bufferedAll c xs w .image ≡ w .image
   unfolding bufferedSum bufferedAll
@@ -328,10 +329,12 @@ in-sector w i p q at e (given ∷ givens) l h =
     (omega (arith, r, s, take-most (p / q) (benchOf w i)), λ c. omega (arith, r, s, take-unchanged (p / q) (benchOf w i) c))
 
 close-count : (w : Standing BufferedSession) (i q m : ℕ) → Behind (w .session) i q m → answered bufferedEngine w (closing i) .answer ≡ Done → bufferedCount w (closing i) ≡ 2
-unfolding bufferedCount effectsOf effects bufferedSum bufferedWrites plainWrites
+unfolding bufferedCount effectsOf effects bufferedSum bufferedWrites plainWrites bufferedScene bare
 close-count w i q m b d =
     let c : Scene = bufferedScene (w .image) (w .session) i [] in
-    ap (λ (a : Answer). bufferedSum c (effectsOf a (Position RewindOffline) c) (benchOf w i)) d ∙ omega (arith, back-changed (benchOf w i) (b .holds) (b .changed))
+    let z : isKind blocked (entryAt (w .session .table) i) ≡ true = b .blockedAt .kind in
+    let k : hasBuffer (entryAt (w .session .table) i) ≡ true = rw z in
+    ap (λ (a : Answer). bufferedSum c (effectsOf a (Position RewindOffline) c) (benchOf w i)) d ∙ omega (arith, chosen (hasBuffer (entryAt (w .session .table) i)) (backWrites (benchOf w i)) 0 k, back-changed (benchOf w i) (b .holds) (b .changed))
 
 whole-file : (w : Standing BufferedSession) (i q : ℕ) → BlockedAt (bare (w .session)) i 0 q → heldOf (w .session) i .changed ≡ false
     → (given : List ℕ) (givens : List (List ℕ)) → allDone bufferedEngine w (records i (given ∷ givens) ++ (closing i ∷ [])) ≡ true
