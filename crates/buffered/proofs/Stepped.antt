@@ -1,7 +1,7 @@
 -- A request is what its verdict says: the scene that is judged, with the held sector lent, is the engine's own; and each answer is its own case of
 -- the step.
 use mathlib.Core.Path.{_≡_, refl, sym, ap, ap₂, _∙_}
-use mathlib.Core.Bool.{Bool, true, false, _&&_, _||_, not}
+use mathlib.Core.Bool.{Bool, true, false, _&&_, not}
 use mathlib.Core.List.{List, []}
 use Prim.Native.Nat.{ℕ, _+_, _*_, _≤_, _<_}
 use native.Mathlib.Omega.{arith}
@@ -12,9 +12,9 @@ use lib.ListN.{length, getD, set, List·getD-eq-default}
 use borrow.Author.Tests.{eq-eqb, not-true}
 use Rattle.geometry.specs.Bytes.{part, lay}
 use Rattle.geometry.specs.Lists.{every, firstWith}
-use Rattle.geometry.specs.Sizes.{sector, entries, blocked, compressed}
-use Rattle.geometry.proofs.Tests.{either, both-ways, chosen, not-chosen, and-both, first-holds}
-use Rattle.directory.specs.Entries.{entryAt, isKind}
+use Rattle.geometry.specs.Sizes.{sector, entries}
+use Rattle.geometry.proofs.Tests.{either, both-ways, chosen, not-chosen, first-holds}
+use Rattle.directory.specs.Entries.{entryAt}
 use Rattle.packing.specs.Reading.{overlaid, startOf}
 use Rattle.requests.specs.Judge.{judge}
 use Rattle.sessions.specs.Session.{idle, fresh, bare, fileOf, slotOf, openFiles, extent, hasBuffer, holdsOne, extentWith, heldGood, legal, bufferedLegal}

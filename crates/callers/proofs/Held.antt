@@ -37,6 +37,7 @@ use Rattle.steps.specs.Next.{Scene, factsOf, fileDone, fileMet, entryDone}
 use Rattle.steps.specs.Step.{heldOf, kept, bufferedScene, bufferedAnswer, bufferedAfter, bufferedStep}
 use Rattle.steps.specs.Verdict.{entryNext, fileNext}
 use Rattle.steps.proofs.Answered.{buffered-answered, buffered-is}
+use Rattle.steps.proofs.Buffer.{back-cases}
 use Rattle.steps.proofs.Inside.{Suits, AllSuit, lawful, suit}
 use Rattle.steps.proofs.Lawful.{Lawful}
 use Rattle.steps.proofs.Standing.{kept-used, kept-unused}
@@ -138,7 +139,7 @@ module _ (c : Scene) (few : c .entry .sectors ≤ mostSectors) where
   do-fits (change x) s h w f = working-fits (c .entry) few (x .place .byte) (x .bytes) h _ (taking-fits (c .entry) few (x .place .sector) (s .1) w f)
   do-fits (store k xs) s h w f = straight-fits (c .entry) few _ xs h w f
   do-fits (stamp xs) s h w f = straight-fits (c .entry) few _ xs h w f
-  do-fits putBack s h w f = putting-fits (c .entry) few w f
+  do-fits putBack s h w f = back-cases (BenchFits (c .entry)) c w (λ b. putting-fits (c .entry) few w f) (λ b. f)
 
   pub all-fits : (xs : List Effect) → AllSuit (c .entry) xs → AllInBytes xs → (w : Bench) → BenchFits (c .entry) w → BenchFits (c .entry) (bufferedAll c xs w)
   unfolding bufferedAll

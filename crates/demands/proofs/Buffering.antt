@@ -13,7 +13,7 @@ use Rattle.geometry.specs.Places.{placeOf}
 use Rattle.geometry.specs.Sizes.{sector, entrySize, blocked, compressed, sectorsOf}
 use Rattle.geometry.specs.Bytes.{lay, word}
 use Rattle.geometry.proofs.Bytes.{part-lay-apart}
-use Rattle.geometry.proofs.Tests.{either, both-ways, and-left, and-right, or-either}
+use Rattle.geometry.proofs.Tests.{either, both-ways, chosen, not-chosen, and-left, and-right, or-either}
 use Rattle.coding.specs.Encode.{codeOf}
 use Rattle.directory.specs.Entries.{entryAt, isFree, isKind}
 use Rattle.directory.specs.Stamp.{stampBytes}
@@ -26,7 +26,7 @@ use Rattle.steps.specs.Next.{Scene, factsOf, fileDone, entryDone}
 use Rattle.steps.specs.Step.{After, heldOf, kept, bufferedScene, bufferedAnswer, bufferedAfter, bufferedStep}
 use Rattle.requests.proofs.Done.{Live, Allows, done-allows}
 use Rattle.requests.proofs.Live.{done-live}
-use Rattle.sessions.specs.Session.{bare, fileOf, openFiles, extent, extentWith, bufferedLegal, typed}
+use Rattle.sessions.specs.Session.{bare, fileOf, openFiles, hasBuffer, extent, extentWith, bufferedLegal, typed}
 use Rattle.sessions.proofs.Legal.{bare-legal, good-table}
 use Rattle.steps.proofs.Answered.{buffered-answered, buffered-is}
 use Rattle.settling.proofs.Kept.{table-length}
@@ -73,7 +73,9 @@ module _ (c : Scene) where
 
   back-puts : (w : Bench) → PutsBack c putBack w
   unfolding bufferedDo
-  back-puts w = puts refl
+  back-puts w = either (hasBuffer (c .entry))
+      (λ h. puts (ap (λ (v : Bench). v .image) (chosen (hasBuffer (c .entry)) (puttingBack (c .entry) w) w h)))
+      (λ h. leaves (ap (λ (v : Bench). v .image) (not-chosen (hasBuffer (c .entry)) (puttingBack (c .entry) w) w h)))
 
   one-puts : (x : Effect) (w : Bench) → PutsBack c x w → OnlyPutsBack c (x ∷ []) w
   unfolding OnlyPutsBack
@@ -286,16 +288,20 @@ module _ (image : List ℕ) (s : BufferedSession) (i : ℕ) (given buffer : List
         part-lay-apart x (entrySize * i + 16) xs _ _
         (omega (arith, lies (sectorsOf image) (s .table) (good-table image (bare s) (bare-legal image s l)) i k .starts, used-inside (s .table) i k, table-length s types))
 
+    put-first : bufferedDo scene putBack found ≡ puttingBack (entryAt (s .table) i) found
+    unfolding bufferedDo bufferedScene
+    put-first = chosen (hasBuffer (entryAt (s .table) i)) (puttingBack (entryAt (s .table) i) found) found kind
+
     after-order : (o : Order) → Live (factsOf (bufferedLegal image s) (openFiles (bare s .files)) (length buffer) (Position o) scene)
         → extent (entryAt (s .table) i) (bufferedAfter Done image s (Position o) scene (heldOf s i) buffer .image) ≡ extent (entryAt (s .table) i) (putFirst o (entryAt (s .table) i) found)
     unfolding bufferedAfter effects bufferedAll bufferedDo plainDo putFirst bufferedScene factsOf stampBytes word
-    after-order WriteMark l = refl
-    after-order RewindOnline l = refl
-    after-order RewindOffline l = stamp-elsewhere (l .legal) (l .used) (puttingBack (entryAt (s .table) i) found .image) _ refl
+    after-order WriteMark l = ap (λ (v : Bench). extent (entryAt (s .table) i) (v .image)) put-first
+    after-order RewindOnline l = ap (λ (v : Bench). extent (entryAt (s .table) i) (v .image)) put-first
+    after-order RewindOffline l = stamp-elsewhere (l .legal) (l .used) (bufferedDo scene putBack found .image) _ refl ∙ ap (λ (v : Bench). extent (entryAt (s .table) i) (v .image)) put-first
     after-order RecordForward l = refl
     after-order RecordBack l = refl
-    after-order FileForward l = refl
-    after-order FileBack l = refl
+    after-order FileForward l = ap (λ (v : Bench). extent (entryAt (s .table) i) (v .image)) put-first
+    after-order FileBack l = ap (λ (v : Bench). extent (entryAt (s .table) i) (v .image)) put-first
 
     order-puts : (o : Order) → bufferedStep image s i (Position o) given buffer .answer ≡ Done
         → extent (entryAt (s .table) i) (bufferedStep image s i (Position o) given buffer .image) ≡ extent (entryAt (s .table) i) (putFirst o (entryAt (s .table) i) found)

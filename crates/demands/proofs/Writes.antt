@@ -18,16 +18,16 @@ use Rattle.geometry.specs.Places.{perSector, placeOf, sectorsFor}
 use Rattle.geometry.specs.Sizes.{blocked}
 use Rattle.geometry.proofs.Bytes.{lay-nil}
 use Rattle.geometry.proofs.Places.{place-blocked}
-use Rattle.geometry.proofs.Tests.{either, and-left, and-right, and-both}
+use Rattle.geometry.proofs.Tests.{either, chosen, and-left, and-right, and-both}
 use Rattle.directory.specs.Entries.{entryAt, freeEntry, isKind}
 use Rattle.directory.proofs.Good.{used-inside}
 use Rattle.requests.specs.Numbers.{numberOf}
 use Rattle.requests.proofs.Live.{done-live}
-use Rattle.sessions.specs.Session.{bare, fileOf, holdsOne}
-use Rattle.sessions.proofs.Held.{one-holds, holds-one}
+use Rattle.sessions.specs.Session.{bare, fileOf, hasBuffer}
 use Rattle.steps.specs.Effects.{Effect, hold, change, store, stamp, putBack, writeEffects, blockedEffect, effects, Bench, puttingBack, loaded, taking, working, plainDo, plainAll, bufferedDo, bufferedAll}
 use Rattle.steps.specs.Next.{Scene, counted, fileDone, entryDone}
 use Rattle.steps.specs.Step.{After, heldOf, plainScene, plainAnswer, plainAfter, plainStep, bufferedScene, bufferedAnswer, bufferedAfter, bufferedStep}
+use Rattle.steps.proofs.Buffer.{back-cases}
 use Rattle.steps.proofs.Answered.{plain-is, buffered-is}
 use Rattle.settling.proofs.Bench.{takes-held}
 use Rattle.steps.proofs.Standing.{withBuffer, held-file}
@@ -70,15 +70,15 @@ module _ (c : Scene) where
   plain-all-none [] image h = refl
   plain-all-none (x ∷ xs) image h = plain-all-none xs (plainDo c x image) (omega arith) ∙ plain-none x image (omega arith)
 
-  back-none : (w : Bench) → backWrites (c .entry) w ≡ 0 → puttingBack (c .entry) w .image ≡ w .image
+  back-none : (w : Bench) → backWrites w ≡ 0 → puttingBack (c .entry) w .image ≡ w .image
   unfolding backWrites puttingBack
-  back-none w h = go (holdsOne (c .entry) (w .file) && w .file .changed) refl
+  back-none w h = go (w .file .holds && w .file .changed) refl
     where
-      go : (t : Bool) → (holdsOne (c .entry) (w .file) && w .file .changed) ≡ t → puttingBack (c .entry) w .image ≡ w .image
+      go : (t : Bool) → (w .file .holds && w .file .changed) ≡ t → puttingBack (c .entry) w .image ≡ w .image
       go true t = absurd (omega (arith, rw (t, backWrites) at h))
       go false t = rw (t, puttingBack)
 
-  take-none : (k : ℕ) (w : Bench) → takeWrites (c .entry) k w ≡ 0 → taking (c .entry) k w .image ≡ w .image
+  take-none : (k : ℕ) (w : Bench) → takeWrites k w ≡ 0 → taking (c .entry) k w .image ≡ w .image
   unfolding takeWrites taking loaded
   take-none k w h = go (w .file .holds && eqb (w .file .held) k) refl
     where
@@ -92,7 +92,7 @@ module _ (c : Scene) where
   buffered-none (change x) w h = take-none (x .place .sector) w h
   buffered-none (store k xs) w h = plain-none (store k xs) (w .image) h
   buffered-none (stamp xs) w h = plain-none (stamp xs) (w .image) h
-  buffered-none putBack w h = back-none w h
+  buffered-none putBack w h = back-cases (λ (v : Bench). v .image ≡ w .image) c w (λ b. back-none w (sym (chosen (hasBuffer (c .entry)) (backWrites w) 0 b) ∙ h)) (λ b. refl)
 
   buffered-all-none : (xs : List Effect) (w : Bench) → bufferedSum c xs w ≡ 0 → bufferedAll c xs w .image ≡ w .image
   unfolding bufferedSum bufferedAll
@@ -185,7 +185,7 @@ plain-run i (given ∷ givens) w b h =
 -- behind a write of record m: its sector is held and changed
 record Behind (s : BufferedSession) (i q m : ℕ) : Type 0 where
   blockedAt : BlockedAt (bare s) i (m + 1) q
-  holds : holdsOne (entryAt (s .table) i) (heldOf s i) ≡ true
+  holds : heldOf s i .holds ≡ true
   held : heldOf s i .held ≡ m / q
   changed : heldOf s i .changed ≡ true
 
@@ -208,12 +208,12 @@ module _ (image : List ℕ) (s : BufferedSession) (i p q : ℕ) (at : BlockedAt 
   unfolding bare
   place-is = rw (place-blocked blocked (entryAt (s .table) i .length) (fileOf (bare s .files) i .position) refl, at .position, at .many)
 
-  one-count : bufferedSum scene (effects Write scene) found ≡ takeWrites (entryAt (s .table) i) (p / q) found
+  one-count : bufferedSum scene (effects Write scene) found ≡ takeWrites (p / q) found
   unfolding bufferedSum bufferedWrites blockedEffect bufferedScene
   one-count =
       ap (λ (xs : List Effect). bufferedSum scene xs found) (blocked-effects scene is-blocked)
       ∙ omega arith
-      ∙ ap (λ (k : ℕ). takeWrites (entryAt (s .table) i) k found) place-is
+      ∙ ap (λ (k : ℕ). takeWrites k found) place-is
 
   held-then : heldOf next i ≡ withBuffer (fileDone Write scene) (bufferedDo scene (blockedEffect scene) found .file)
   unfolding fileDone bufferedAll bufferedScene
@@ -227,26 +227,22 @@ module _ (image : List ℕ) (s : BufferedSession) (i p q : ℕ) (at : BlockedAt 
       ap (λ (x : After BufferedSession). entryAt (x .session .table) i) (buffered-is image s i Write given buffer Done d)
       ∙ getD-set-same (s .table) i (entryDone Write scene) freeEntry (used-inside (s .table) i (omega (arith, eqb-true (entryAt (s .table) i .kind) blocked is-blocked)))
 
-  then-blocked : isKind blocked (entryAt (next .table) i) ≡ true
-  unfolding entryDone counted bufferedScene
-  then-blocked = ap (isKind blocked) entry-then ∙ is-blocked
-
   behind : Behind next i q p
   unfolding bare bufferedDo working blockedEffect entryDone counted fileDone bufferedScene
   behind = record {
     blockedAt = record {
-      kind = then-blocked;
+      kind = ap (isKind blocked) entry-then ∙ is-blocked;
       position = ap (λ (f : OpenFile). f .position) (sym (held-file next i) ∙ ap (λ (b : BufferedFile). b .file) held-then) ∙ ap (λ (n : ℕ). n + 1) (at .position);
       many = ap (λ (e : Entry). perSector (e .length)) entry-then ∙ at .many;
     };
-    holds = holds-one (entryAt (next .table) i) (heldOf next i) (ap (λ (b : BufferedFile). b .holds) held-then) (rw then-blocked);
+    holds = ap (λ (b : BufferedFile). b .holds) held-then;
     held = ap (λ (b : BufferedFile). b .held) held-then ∙ takes-held (entryAt (s .table) i) _ found .1 ∙ place-is;
     changed = ap (λ (b : BufferedFile). b .changed) held-then;
   }
 
 -- one write: what it writes, and how it leaves the file
 one-write : (w : Standing BufferedSession) (i p q : ℕ) → BlockedAt (bare (w .session)) i p q → (given : List ℕ) → answered bufferedEngine w (writing i given) .answer ≡ Done
-    → (bufferedCount w (writing i given) ≡ takeWrites (entryAt (w .session .table) i) (p / q) (benchOf w i)) × Behind (stepOf bufferedEngine w (writing i given) .session) i q p
+    → (bufferedCount w (writing i given) ≡ takeWrites (p / q) (benchOf w i)) × Behind (stepOf bufferedEngine w (writing i given) .session) i q p
 unfolding bufferedCount effectsOf answered stepOf
 one-write w i p q at given d = (
   ap (λ (a : Answer). bufferedSum (bufferedScene (w .image) (w .session) i given) (effectsOf a Write (bufferedScene (w .image) (w .session) i given)) (benchOf w i)) d
@@ -264,14 +260,14 @@ next-sector m (suc q) = go (decLt (m % suc q + 1) (suc q))
     go (no l) = inr (div-eq-of-lt-le (suc q) (omega (arith, div-add-mod' m (suc q), mod-lt m {m = suc q} (omega arith))) (omega (arith, div-add-mod' m (suc q), mod-lt m {m = suc q} (omega arith))))
 
 -- a changed sector that is held is put back, where another is taken
-back-changed : (e : Entry) (w : Bench) → holdsOne e (w .file) ≡ true → w .file .changed ≡ true → backWrites e w ≡ 1
+back-changed : (w : Bench) → w .file .holds ≡ true → w .file .changed ≡ true → backWrites w ≡ 1
 unfolding backWrites
-back-changed e w h c = rw (h, c, backWrites)
+back-changed w h c = rw (h, c, backWrites)
 
-take-next : (e : Entry) (w : Bench) (k j : ℕ) → holdsOne e (w .file) ≡ true → w .file .changed ≡ true → w .file .held ≡ k → (j ≡ k) ⊎ (j ≡ k + 1) → takeWrites e j w + k ≡ j
+take-next : (w : Bench) (k j : ℕ) → w .file .holds ≡ true → w .file .changed ≡ true → w .file .held ≡ k → (j ≡ k) ⊎ (j ≡ k + 1) → takeWrites j w + k ≡ j
 unfolding takeWrites
-take-next e w k j h c l (inl s) = rw (one-holds e (w .file) h, eq-eqb (w .file .held) j (l ∙ sym s), takeWrites) (omega arith)
-take-next e w k j h c l (inr s) = rw (one-holds e (w .file) h, ne-eqb (w .file .held) j (omega arith), takeWrites) (omega (arith, back-changed e w h c))
+take-next w k j h c e (inl s) = rw (h, eq-eqb (w .file .held) j (e ∙ sym s), takeWrites) (omega arith)
+take-next w k j h c e (inr s) = rw (h, ne-eqb (w .file .held) j (omega arith), takeWrites) (omega (arith, back-changed w h c))
 
 run-behind : (i q : ℕ) (givens : List (List ℕ)) (w : Standing BufferedSession) (m : ℕ) → Behind (w .session) i q m → allDone bufferedEngine w (records i givens) ≡ true
     → (inRun bufferedEngine bufferedCount w (records i givens) + m / q ≡ (m + length givens) / q) × Behind (run bufferedEngine w (records i givens) .session) i q (m + length givens)
@@ -285,13 +281,13 @@ run-behind i q (given ∷ givens) w m b h =
     let o = one-write w i (m + 1) q (b .blockedAt) given (z .0) in
     let r = run-behind i q givens v (m + 1) (o .1) (z .1) in
     let n : m + 1 + length givens ≡ m + length (given ∷ givens) = omega arith in
-    let t : takeWrites (entryAt (w .session .table) i) ((m + 1) / q) (benchOf w i) + m / q ≡ (m + 1) / q = take-next (entryAt (w .session .table) i) (benchOf w i) (m / q) ((m + 1) / q) (b .holds) (b .changed) (b .held) (next-sector m q) in
+    let t : takeWrites ((m + 1) / q) (benchOf w i) + m / q ≡ (m + 1) / q = take-next (benchOf w i) (m / q) ((m + 1) / q) (b .holds) (b .changed) (b .held) (next-sector m q) in
     (omega (arith, o .0, r .0, t) ∙ ap (λ (k : ℕ). k / q) n, subst (Behind (run bufferedEngine v (records i givens) .session) i q) n (r .1))
 
 -- the first write finds what was held before
 buffered-run : (w : Standing BufferedSession) (i p q : ℕ) → BlockedAt (bare (w .session)) i p q → (given : List ℕ) (givens : List (List ℕ))
     → allDone bufferedEngine w (records i (given ∷ givens)) ≡ true
-    → (inRun bufferedEngine bufferedCount w (records i (given ∷ givens)) ≡ takeWrites (entryAt (w .session .table) i) (p / q) (benchOf w i) + ((p + length givens) / q - p / q))
+    → (inRun bufferedEngine bufferedCount w (records i (given ∷ givens)) ≡ takeWrites (p / q) (benchOf w i) + ((p + length givens) / q - p / q))
     × Behind (run bufferedEngine w (records i (given ∷ givens)) .session) i q (p + length givens)
 unfolding inRun run
 buffered-run w i p q at given givens h =
@@ -303,22 +299,20 @@ buffered-run w i p q at given givens h =
 
 -- ---- in one sector, and a whole file
 
-take-most : (e : Entry) (k : ℕ) (w : Bench) → takeWrites e k w ≤ 1
+take-most : (k : ℕ) (w : Bench) → takeWrites k w ≤ 1
 unfolding takeWrites backWrites
-take-most e k w = go (w .file .holds && eqb (w .file .held) k) (holdsOne e (w .file) && w .file .changed)
+take-most k w = go (w .file .holds && eqb (w .file .held) k) (w .file .holds && w .file .changed)
   where
     go : (t u : Bool) → elim t [ true ↦ 0 | false ↦ elim u [ true ↦ 1 | false ↦ 0 ] ] ≤ 1
     go true u = omega arith
     go false true = omega arith
     go false false = omega arith
 
-take-unchanged : (e : Entry) (k : ℕ) (w : Bench) → w .file .changed ≡ false → takeWrites e k w ≡ 0
+take-unchanged : (k : ℕ) (w : Bench) → w .file .changed ≡ false → takeWrites k w ≡ 0
 unfolding takeWrites backWrites
-take-unchanged e k w u = either (w .file .holds && eqb (w .file .held) k)
+take-unchanged k w u = either (w .file .holds && eqb (w .file .held) k)
     (λ (t : (w .file .holds && eqb (w .file .held) k) ≡ true). rw (t, takeWrites))
-    (λ (t : (w .file .holds && eqb (w .file .held) k) ≡ false).
-    let z : holdsOne e (w .file) && w .file .changed ≡ false = ap (λ (x : Bool). holdsOne e (w .file) && x) u ∙ and-false (holdsOne e (w .file)) in
-    rw (t, z, takeWrites, backWrites))
+    (λ (t : (w .file .holds && eqb (w .file .held) k) ≡ false). rw (t, u, and-false (w .file .holds), takeWrites, backWrites))
 
 same-sector : (p n q : ℕ) → p % q ≡ 0 → n < q → (p + n) / q ≡ p / q
 same-sector p n q e l = div-eq-of-lt-le q (omega (arith, div-add-mod' p q)) (omega (arith, div-add-mod' p q))
@@ -332,13 +326,15 @@ in-sector w i p q at e [] l h = (omega arith, λ c. refl)
 in-sector w i p q at e (given ∷ givens) l h =
     let r = buffered-run w i p q at given givens h .0 in
     let s : (p + length givens) / q ≡ p / q = same-sector p (length givens) q e (omega arith) in
-    (omega (arith, r, s, take-most (entryAt (w .session .table) i) (p / q) (benchOf w i)), λ c. omega (arith, r, s, take-unchanged (entryAt (w .session .table) i) (p / q) (benchOf w i) c))
+    (omega (arith, r, s, take-most (p / q) (benchOf w i)), λ c. omega (arith, r, s, take-unchanged (p / q) (benchOf w i) c))
 
 close-count : (w : Standing BufferedSession) (i q m : ℕ) → Behind (w .session) i q m → answered bufferedEngine w (closing i) .answer ≡ Done → bufferedCount w (closing i) ≡ 2
-unfolding bufferedCount effectsOf effects bufferedSum bufferedWrites plainWrites bufferedScene
+unfolding bufferedCount effectsOf effects bufferedSum bufferedWrites plainWrites bufferedScene bare
 close-count w i q m b d =
     let c : Scene = bufferedScene (w .image) (w .session) i [] in
-    ap (λ (a : Answer). bufferedSum c (effectsOf a (Position RewindOffline) c) (benchOf w i)) d ∙ omega (arith, back-changed (entryAt (w .session .table) i) (benchOf w i) (b .holds) (b .changed))
+    let z : isKind blocked (entryAt (w .session .table) i) ≡ true = b .blockedAt .kind in
+    let k : hasBuffer (entryAt (w .session .table) i) ≡ true = rw z in
+    ap (λ (a : Answer). bufferedSum c (effectsOf a (Position RewindOffline) c) (benchOf w i)) d ∙ omega (arith, chosen (hasBuffer (entryAt (w .session .table) i)) (backWrites (benchOf w i)) 0 k, back-changed (benchOf w i) (b .holds) (b .changed))
 
 whole-file : (w : Standing BufferedSession) (i q : ℕ) → BlockedAt (bare (w .session)) i 0 q → heldOf (w .session) i .changed ≡ false
     → (given : List ℕ) (givens : List (List ℕ)) → allDone bufferedEngine w (records i (given ∷ givens) ++ (closing i ∷ [])) ≡ true
@@ -347,7 +343,7 @@ whole-file w i q at c given givens h =
     let all : List Asked = records i (given ∷ givens) in
     let z : (allDone bufferedEngine w all ≡ true) × (answered bufferedEngine (run bufferedEngine w all) (closing i) .answer ≡ Done) = then-done bufferedEngine bufferedCount (closing i) all w h in
     let r = buffered-run w i 0 q at given givens (z .0) in
-    let t : takeWrites (entryAt (w .session .table) i) (0 / q) (benchOf w i) ≡ 0 = take-unchanged (entryAt (w .session .table) i) (0 / q) (benchOf w i) c in
+    let t : takeWrites (0 / q) (benchOf w i) ≡ 0 = take-unchanged (0 / q) (benchOf w i) c in
     let k : bufferedCount (run bufferedEngine w all) (closing i) ≡ 2 = close-count (run bufferedEngine w all) i q _ (r .1) (z .1) in
     let x : (0 + length givens) / q ≡ length givens / q = ap (λ (n : ℕ). n / q) (omega arith) in
     omega (arith, then-sum bufferedEngine bufferedCount (closing i) all w, r .0, t, k, x, zero-div q)

@@ -11,7 +11,7 @@ use Rattle.geometry.specs.Lists.{every}
 use Rattle.geometry.specs.Places.{perSector, sectorsFor}
 use Rattle.geometry.specs.Sizes.{blocked}
 use Rattle.directory.specs.Entries.{entryAt, isKind}
-use Rattle.sessions.specs.Session.{bare, fileOf, holdsOne}
+use Rattle.sessions.specs.Session.{bare, fileOf, hasBuffer}
 use Rattle.steps.specs.Effects.{Effect, hold, change, store, stamp, putBack, effects, Bench, bufferedDo}
 use Rattle.steps.specs.Next.{Scene}
 use Rattle.steps.specs.Step.{heldOf, plainScene, bufferedScene}
@@ -38,20 +38,20 @@ plainWrites (stamp xs) = 1
 plainWrites putBack = 0
 
 -- a changed buffer goes back to its sector
-unfoldable pub backWrites : Entry → Bench → ℕ
-backWrites e w = elim (holdsOne e (w .file) && w .file .changed) [ true ↦ 1 | false ↦ 0 ]
+unfoldable pub backWrites : Bench → ℕ
+backWrites w = elim (w .file .holds && w .file .changed) [ true ↦ 1 | false ↦ 0 ]
 
 -- "put back before another sector takes it"; none for the one that is "held already"
-unfoldable pub takeWrites : Entry → ℕ → Bench → ℕ
-takeWrites e k w = elim (w .file .holds && eqb (w .file .held) k) [ true ↦ 0 | false ↦ backWrites e w ]
+unfoldable pub takeWrites : ℕ → Bench → ℕ
+takeWrites k w = elim (w .file .holds && eqb (w .file .held) k) [ true ↦ 0 | false ↦ backWrites w ]
 
--- by way of the buffer
+-- by way of the buffer; a file that has none puts nothing back
 unfoldable pub bufferedWrites : Entry → Effect → Bench → ℕ
-bufferedWrites e (hold k) w = takeWrites e k w
-bufferedWrites e (change x) w = takeWrites e (x .place .sector) w
+bufferedWrites e (hold k) w = takeWrites k w
+bufferedWrites e (change x) w = takeWrites (x .place .sector) w
 bufferedWrites e (store k xs) w = plainWrites (store k xs)
 bufferedWrites e (stamp xs) w = plainWrites (stamp xs)
-bufferedWrites e putBack w = backWrites e w
+bufferedWrites e putBack w = elim (hasBuffer e) [ true ↦ backWrites w | false ↦ 0 ]
 
 -- ---- one request
 
@@ -121,7 +121,7 @@ pub record Saving : Type 0 where
   -- the buffered engine the changed one that it held before, if that is another, and one each time that the next record lies in another sector
   pub buffered : (w : Standing BufferedSession) (i p q : ℕ) → BlockedAt (bare (w .session)) i p q
       → (given : List ℕ) (givens : List (List ℕ)) → allDone bufferedEngine w (records i (given ∷ givens)) ≡ true
-      → inRun bufferedEngine bufferedCount w (records i (given ∷ givens)) ≡ takeWrites (entryAt (w .session .table) i) (p / q) (benchOf w i) + ((p + length givens) / q - p / q)
+      → inRun bufferedEngine bufferedCount w (records i (given ∷ givens)) ≡ takeWrites (p / q) (benchOf w i) + ((p + length givens) / q - p / q)
   -- so up to q records from a sector's first on write at most one sector, and none if nothing changed was held before
   pub inSector : (w : Standing BufferedSession) (i p q : ℕ) → BlockedAt (bare (w .session)) i p q → p % q ≡ 0
       → (givens : List (List ℕ)) → length givens ≤ q → allDone bufferedEngine w (records i givens) ≡ true

@@ -1,5 +1,5 @@
 // The blocking buffer: document 01's "Where a record lies". A file takes the sectors that it reads or changes into its buffer, which is lent.
-// A buffer of another size than a sector's stays as it is, and nothing is put back from it; nor is anything of a file that has no buffer.
+// A buffer of another size than a sector's stays as it is, and nothing is put back from it.
 use directory::Entry;
 use directory::stamp;
 use geometry::Geometry;
@@ -23,7 +23,7 @@ ghost use Rattle.geometry.specs.Sizes.{sector};
 ghost use Rattle.packing.specs.Placing.{changes};
 ghost use Rattle.requests.specs.declared.Request.the-variants.{Position};
 ghost use Rattle.sessions.specs.Session.{hasBuffer};
-ghost use Rattle.steps.specs.Effects.{effects, sectorAt, taking};
+ghost use Rattle.steps.specs.Effects.{effects, sectorAt, puttingBack, taking};
 ghost use Rattle.steps.specs.Effects as Effects;
 ghost use Rattle.straight.specs.Straight.{writing};
 ghost use Rattle.held.specs.Held.{lent, scene, isThere, heldDo, heldAll, readWith, writeWith};
@@ -38,16 +38,27 @@ fn has_buffer(e: Entry) -> bool
 }
 
 // A changed buffer goes back to its sector; one that is not changed is not written.
-pub fn put_back(image: &mut [u8], e: Entry, h: Holding, buffer: &[u8]) -> Holding
-    ensures { λ r. ⌜ lent (now (image .exit)) r (now (buffer .entry)) ≡ heldDo (scene 0 e) Effects.putBack (lent (now (image .entry)) h (now (buffer .entry))) ⌝ }
+fn lay_back(image: &mut [u8], e: Entry, h: Holding, buffer: &[u8]) -> Holding
+    ensures { λ r. ⌜ lent (now (image .exit)) r (now (buffer .entry)) ≡ puttingBack e (lent (now (image .entry)) h (now (buffer .entry))) ⌝ }
 {
-    if (buffer.len() == Geometry::SECTOR) & ((h.holds & has_buffer(e)) & h.changed) {
+    if h.holds & h.changed {
         lay(image, sector_at(e, h.held), buffer);
         Holding {
             holds: true,
             held: h.held,
             changed: false,
         }
+    } else {
+        h
+    }
+}
+
+// The buffer of a file that has one goes back.
+pub fn put_back(image: &mut [u8], e: Entry, h: Holding, buffer: &[u8]) -> Holding
+    ensures { λ r. ⌜ lent (now (image .exit)) r (now (buffer .entry)) ≡ heldDo (scene 0 e) Effects.putBack (lent (now (image .entry)) h (now (buffer .entry))) ⌝ }
+{
+    if (buffer.len() == Geometry::SECTOR) & has_buffer(e) {
+        lay_back(image, e, h, buffer)
     } else {
         h
     }
@@ -69,7 +80,7 @@ fn take(image: &mut [u8], e: Entry, h: Holding, buffer: &mut [u8], k: u32) -> Ho
     if h.holds & (h.held == k) {
         h
     } else {
-        put_back(image, e, h, buffer);
+        lay_back(image, e, h, buffer);
         load(image, e, k, buffer);
         Holding {
             holds: true,

@@ -15,6 +15,7 @@ use Rattle.sessions.specs.Session.{hasBuffer, holdsOne}
 use Rattle.sessions.proofs.Held.{one-buffer, one-holds, holds-one, no-buffer-none}
 use Rattle.steps.specs.Effects.{Effect, hold, change, store, stamp, putBack, sectorAt, plainDo, plainAll, Bench, holding, puttingBack, loaded, taking, working, bufferedDo, bufferedAll}
 use Rattle.steps.specs.Next.{Scene}
+use Rattle.steps.proofs.Buffer.{back-cases}
 use Rattle.steps.proofs.Inside.{Suits, AllSuit}
 use Rattle.settling.proofs.Settle.{Hold, back, allBack, holdAt, Off, heldBy, back-lay}
 use Rattle.directory.specs.declared.Entry.{Entry}
@@ -93,22 +94,22 @@ module _ (e : Entry) (w : Bench) (f : Fits e w) where
         others = λ a n x. part-lay-apart (w .image) at (w .file .buffer) a n (omega (arith, f .size, x .0));
       }
 
-  puts : Does e w (puttingBack e w) (own e w)
+  puts : hasBuffer e ≡ true → Does e w (puttingBack e w) (own e w)
   unfolding puttingBack
-  puts = either (holdsOne e (w .file) && w .file .changed)
-      (λ (t : (holdsOne e (w .file) && w .file .changed) ≡ true). rw (t, puttingBack) (put (and-left (holdsOne e (w .file)) (w .file .changed) t)))
-      (λ (t : (holdsOne e (w .file) && w .file .changed) ≡ false). rw (t, puttingBack) (stays e w f))
+  puts b = either (w .file .holds && w .file .changed)
+      (λ (t : (w .file .holds && w .file .changed) ≡ true). rw (t, puttingBack) (put (holds-one e (w .file) (and-left (w .file .holds) (w .file .changed) t) b)))
+      (λ (t : (w .file .holds && w .file .changed) ≡ false). rw (t, puttingBack) (stays e w f))
 
   -- a buffer that is not changed has what the image has
   pub own-unchanged : holdsOne e (w .file) ≡ true → w .file .changed ≡ false → own e w ≡ w .image
   own-unchanged h z = own-held e w h ∙ ap (lay (w .image) at) (f .unchanged h z) ∙ lay-part (w .image) at sector
 
-  put-image : puttingBack e w .image ≡ own e w
+  put-image : hasBuffer e ≡ true → puttingBack e w .image ≡ own e w
   unfolding puttingBack
-  put-image = either (holdsOne e (w .file) && w .file .changed)
-      (λ (t : (holdsOne e (w .file) && w .file .changed) ≡ true). rw (t, puttingBack) (sym (own-held e w (and-left (holdsOne e (w .file)) (w .file .changed) t))))
-      (λ (t : (holdsOne e (w .file) && w .file .changed) ≡ false).
-      rw (t, puttingBack) (sym (either (holdsOne e (w .file)) (λ (h : holdsOne e (w .file) ≡ true). own-unchanged h (and-other (holdsOne e (w .file)) (w .file .changed) h t)) (own-none e w))))
+  put-image b = either (w .file .holds && w .file .changed)
+      (λ (t : (w .file .holds && w .file .changed) ≡ true). rw (t, puttingBack) (sym (own-held e w (holds-one e (w .file) (and-left (w .file .holds) (w .file .changed) t) b))))
+      (λ (t : (w .file .holds && w .file .changed) ≡ false).
+      rw (t, puttingBack) (sym (either (holdsOne e (w .file)) (λ (h : holdsOne e (w .file) ≡ true). own-unchanged h (and-other (w .file .holds) (w .file .changed) (one-holds e (w .file) h) t)) (own-none e w))))
 
 -- one after another
 then-does : (e : Entry) (w v u : Bench) (k m image : List ℕ) → Does e w v k → Does e v u m → m ≡ image → Does e w u image
@@ -153,9 +154,9 @@ module _ (e : Entry) (k : ℕ) (b : hasBuffer e ≡ true) (h : k < e .sectors) w
   takes w f = either (w .file .holds && eqb (w .file .held) k)
       (λ (t : (w .file .holds && eqb (w .file .held) k) ≡ true). rw (t, taking) (stays e w f))
       (λ (t : (w .file .holds && eqb (w .file .held) k) ≡ false).
-      let p : Does e w (puttingBack e w) (own e w) = puts e w f in
+      let p : Does e w (puttingBack e w) (own e w) = puts e w f b in
       rw (t, taking) (then-does e w (puttingBack e w) (loaded e k (puttingBack e w)) _ (own e (puttingBack e w)) (own e w) p
-      (loads (puttingBack e w) (p .fits) (p .same ∙ sym (put-image e w f))) (p .same)))
+      (loads (puttingBack e w) (p .fits) (p .same ∙ sym (put-image e w f b))) (p .same)))
 
 -- and is then held
 pub takes-held : (e : Entry) (k : ℕ) (w : Bench) → (taking e k w .file .holds ≡ true) × (taking e k w .file .held ≡ k)
@@ -240,7 +241,7 @@ module _ (c : Scene) (inTable : c .number < entries) where
     size = length-lay (w .image) stampAt xs;
     others = λ a n x. part-lay-apart (w .image) stampAt xs a n (omega (arith, x .1));
   }
-  does putBack s w f = puts (c .entry) w f
+  does putBack s w f = back-cases (λ (v : Bench). Does (c .entry) w v (own (c .entry) w)) c w (puts (c .entry) w f) (λ h. stays (c .entry) w f)
 
   -- and so several
   pub all-does : (xs : List Effect) → AllSuit (c .entry) xs → (w : Bench) → Fits (c .entry) w → Does (c .entry) w (bufferedAll c xs w) (plainAll c xs (own (c .entry) w))
@@ -272,15 +273,15 @@ module _ (c : Scene) (inTable : c .number < entries) where
 
 back-file : (e : Entry) (w : Bench) → (puttingBack e w .file .holds ≡ w .file .holds) × (puttingBack e w .file .held ≡ w .file .held)
 unfolding puttingBack
-back-file e w = either (holdsOne e (w .file) && w .file .changed)
-    (λ (t : (holdsOne e (w .file) && w .file .changed) ≡ true). rw (t, puttingBack) (sym (one-holds e (w .file) (and-left (holdsOne e (w .file)) (w .file .changed) t)), refl))
-    (λ (t : (holdsOne e (w .file) && w .file .changed) ≡ false). rw (t, puttingBack) (refl, refl))
+back-file e w = either (w .file .holds && w .file .changed)
+    (λ (t : (w .file .holds && w .file .changed) ≡ true). rw (t, puttingBack) (sym (and-left (w .file .holds) (w .file .changed) t), refl))
+    (λ (t : (w .file .holds && w .file .changed) ≡ false). rw (t, puttingBack) (refl, refl))
 
 length-putting : (e : Entry) (w : Bench) → length (puttingBack e w .image) ≡ length (w .image)
 unfolding puttingBack
-length-putting e w = either (holdsOne e (w .file) && w .file .changed)
-    (λ (t : (holdsOne e (w .file) && w .file .changed) ≡ true). rw (t, puttingBack) (length-lay (w .image) _ _))
-    (λ (t : (holdsOne e (w .file) && w .file .changed) ≡ false). rw (t, puttingBack))
+length-putting e w = either (w .file .holds && w .file .changed)
+    (λ (t : (w .file .holds && w .file .changed) ≡ true). rw (t, puttingBack) (length-lay (w .image) _ _))
+    (λ (t : (w .file .holds && w .file .changed) ≡ false). rw (t, puttingBack))
 
 length-taking : (e : Entry) (k : ℕ) (w : Bench) → length (taking e k w .image) ≡ length (w .image)
 unfolding taking loaded
@@ -295,7 +296,8 @@ module _ (c : Scene) where
   within-do (change x) s w r h = rw (takes-held (c .entry) (x .place .sector) w .1) (s .1)
   within-do (store k xs) s w r h = r h
   within-do (stamp xs) s w r h = r h
-  within-do putBack s w r h = rw (back-file (c .entry) w .1) (r (sym (back-file (c .entry) w .0) ∙ h))
+  within-do putBack s w r h =
+      back-cases (λ (v : Bench). Within (c .entry) (v .file)) c w (λ b k. rw (back-file (c .entry) w .1) (r (sym (back-file (c .entry) w .0) ∙ k))) (λ b. r) h
 
   pub within-all : (xs : List Effect) → AllSuit (c .entry) xs → (w : Bench) → Within (c .entry) (w .file) → Within (c .entry) (bufferedAll c xs w .file)
   unfolding bufferedAll
@@ -308,7 +310,7 @@ module _ (c : Scene) where
   length-do (change x) w = length-taking (c .entry) (x .place .sector) w
   length-do (store k xs) w = length-lay (w .image) _ xs
   length-do (stamp xs) w = length-lay (w .image) _ xs
-  length-do putBack w = length-putting (c .entry) w
+  length-do putBack w = back-cases (λ (v : Bench). length (v .image) ≡ length (w .image)) c w (λ b. length-putting (c .entry) w) (λ b. refl)
 
   pub length-all : (xs : List Effect) (w : Bench) → length (bufferedAll c xs w .image) ≡ length (w .image)
   unfolding bufferedAll

@@ -10,7 +10,7 @@ use Rattle.geometry.specs.Places.{capacity, placeOf, byteOf}
 use Rattle.geometry.specs.Sizes.{sector, random}
 use Rattle.geometry.proofs.Bytes.{part-part}
 use Rattle.geometry.proofs.Places.{record-inside}
-use Rattle.geometry.proofs.Tests.{either, both-ways, not-chosen}
+use Rattle.geometry.proofs.Tests.{not-chosen}
 use Rattle.directory.specs.Entries.{entryAt}
 use Rattle.requests.proofs.Done.{Finds, done-allows}
 use Rattle.sessions.specs.Session.{bare, openFiles, holdsOne, extent, extentWith}
@@ -22,7 +22,6 @@ use Rattle.steps.proofs.Inside.{no-buffer}
 use Rattle.settling.proofs.Settle.{settle}
 use Rattle.settling.proofs.Kept.{Kept, entry-lies}
 use Rattle.settling.proofs.Scene.{same-bytes, same-answer}
-use Rattle.settling.proofs.Step.{live-slot}
 use Rattle.directory.specs.declared.Entry.{Entry}
 use Rattle.requests.specs.declared.Answer.{Answer}
 use Rattle.requests.specs.declared.Answer.the-variants.{Done, Met, Refused}

@@ -16,10 +16,12 @@ use Rattle.requests.specs.Judge.{judge}
 use Rattle.requests.proofs.Done.{Live, Opens, Allows, Meets, done-allows, met-meets}
 use Rattle.requests.proofs.Live.{met-live}
 use Rattle.sessions.specs.Session.{idle, fresh, bare, fileOf, slotOf, openFiles, holdsOne, extentWith, legal}
+use Rattle.sessions.proofs.Held.{one-holds, no-buffer-none}
 use Rattle.sessions.proofs.Legal.{bare-legal, legal-length}
 use Rattle.steps.specs.Effects.{Effect, stamp, putBack, Bench, effects, plainAll, bufferedDo, bufferedAll, puttingBack}
 use Rattle.steps.specs.Next.{Scene, factsOf, fileDone, fileMet, entryDone}
 use Rattle.steps.specs.Step.{After, heldOf, kept, plainAfter, plainStep, bufferedScene, bufferedAnswer, bufferedAfter, bufferedStep}
+use Rattle.steps.proofs.Buffer.{back-cases}
 use Rattle.steps.proofs.Lawful.{Lawful}
 use Rattle.steps.proofs.Inside.{lawful, AllSuit, suit}
 use Rattle.settling.proofs.Settle.{heldBy, settle}
@@ -92,15 +94,17 @@ module _ (image : List ℕ) (s : BufferedSession) (ok : Kept image s) (i : ℕ) 
 pub idle-own : (e : Entry) (v : Bench) → Fits e v → (holdsOne e (v .file) ≡ true → v .file .changed ≡ false) → own e v ≡ v .image
 idle-own e v f z = either (holdsOne e (v .file)) (λ (h : holdsOne e (v .file) ≡ true). own-unchanged e v f h (z h)) (own-none e v)
 
-back-unchanged : (e : Entry) (w : Bench) → holdsOne e (puttingBack e w .file) ≡ true → puttingBack e w .file .changed ≡ false
+back-unchanged : (e : Entry) (w : Bench) → puttingBack e w .file .holds ≡ true → puttingBack e w .file .changed ≡ false
 unfolding puttingBack
-back-unchanged e w = either (holdsOne e (w .file) && w .file .changed)
-    (λ (t : (holdsOne e (w .file) && w .file .changed) ≡ true). rw (t, puttingBack) (λ h. refl))
-    (λ (t : (holdsOne e (w .file) && w .file .changed) ≡ false). rw (t, puttingBack) (λ h. and-other (holdsOne e (w .file)) (w .file .changed) h t))
+back-unchanged e w = either (w .file .holds && w .file .changed)
+    (λ (t : (w .file .holds && w .file .changed) ≡ true). rw (t, puttingBack) (λ h. refl))
+    (λ (t : (w .file .holds && w .file .changed) ≡ false). rw (t, puttingBack) (λ h. and-other (w .file .holds) (w .file .changed) h t))
 
 closing-unchanged : (c : Scene) (w : Bench) (xs : List ℕ) → holdsOne (c .entry) (bufferedAll c (putBack ∷ stamp xs ∷ []) w .file) ≡ true → bufferedAll c (putBack ∷ stamp xs ∷ []) w .file .changed ≡ false
 unfolding bufferedAll bufferedDo
-closing-unchanged c w xs = back-unchanged (c .entry) w
+closing-unchanged c w xs = back-cases (λ (v : Bench). holdsOne (c .entry) (v .file) ≡ true → v .file .changed ≡ false) c w
+    (λ b h. back-unchanged (c .entry) w (one-holds (c .entry) (puttingBack (c .entry) w .file) h))
+    (λ b h. both-ways (holdsOne (c .entry) (w .file)) h (no-buffer-none (c .entry) (w .file) b))
 
 -- ---- a request that is not refused
 

@@ -12,7 +12,7 @@ use Rattle.directory.specs.Entries.{isKind}
 use Rattle.directory.specs.Stamp.{stampBytes}
 use Rattle.packing.specs.Placing.{Change, changes}
 use Rattle.packing.specs.Reading.{startOf, goesOn}
-use Rattle.sessions.specs.Session.{holdsOne}
+use Rattle.sessions.specs.Session.{hasBuffer}
 use Rattle.steps.specs.Next.{Scene}
 use Rattle.geometry.specs.declared.Place.{Place}
 use Rattle.directory.specs.declared.Entry.{Entry}
@@ -102,9 +102,9 @@ pub record Bench : Type 0 where
 abbrev pub holding : BufferedFile → ℕ → Bool → List ℕ → BufferedFile
 holding b k c xs = record { file = b .file; holds = true; held = k; changed = c; buffer = xs }
 
--- a changed buffer is laid over its sector, and is then not changed; a file that has no buffer puts nothing back
+-- a changed buffer is laid over its sector, and is then not changed
 unfoldable pub puttingBack : Entry → Bench → Bench
-puttingBack e w = elim (holdsOne e (w .file) && w .file .changed) [
+puttingBack e w = elim (w .file .holds && w .file .changed) [
   | true ↦ record { image = lay (w .image) (sectorAt e (w .file .held)) (w .file .buffer); file = holding (w .file) (w .file .held) false (w .file .buffer) }
   | false ↦ w
 ]
@@ -121,13 +121,13 @@ taking e k w = elim (w .file .holds && eqb (w .file .held) k) [ true ↦ w | fal
 unfoldable pub working : ℕ → List ℕ → Bench → Bench
 working at xs w = record { image = w .image; file = holding (w .file) (w .file .held) true (lay (w .file .buffer) at xs) }
 
--- by way of the buffer
+-- by way of the buffer; a file that has none puts nothing back
 unfoldable pub bufferedDo : Scene → Effect → Bench → Bench
 bufferedDo c (hold k) w = taking (c .entry) k w
 bufferedDo c (change x) w = working (x .place .byte) (x .bytes) (taking (c .entry) (x .place .sector) w)
 bufferedDo c (store k xs) w = record { image = plainDo c (store k xs) (w .image); file = w .file }
 bufferedDo c (stamp xs) w = record { image = plainDo c (stamp xs) (w .image); file = w .file }
-bufferedDo c putBack w = puttingBack (c .entry) w
+bufferedDo c putBack w = elim (hasBuffer (c .entry)) [ true ↦ puttingBack (c .entry) w | false ↦ w ]
 
 unfoldable pub bufferedAll : Scene → List Effect → Bench → Bench
 bufferedAll c [] w = w
