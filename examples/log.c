@@ -15,7 +15,7 @@ enum { PASSLOG = 0, CURVES = 4, TRACE = 5, FRAME = 180, LINE = 80 };
 
 static uint8_t image[4096 * 360];
 static size_t image_size;
-static uint8_t session[1980];
+static uint8_t session[LLEUADRYS_BUFFERED_SESSION];
 
 /* What a request reads, and room for it. */
 static uint8_t text[LINE];
@@ -43,13 +43,13 @@ static char to_ascii(uint8_t c)
 }
 
 /* One request on the image: its answer. */
-static unsigned ask(size_t entry, enum board_code code, const uint8_t *given, size_t given_size)
+static unsigned ask(size_t entry, enum lleuadrys_code code, const uint8_t *given, size_t given_size)
 {
-    return board_buffered_request(image, image_size, session, sizeof session, entry, (uint16_t)code, 0, given,
+    return lleuadrys_request(image, image_size, session, sizeof session, entry, (uint16_t)code, 0, given,
                                   given_size, text, sizeof text);
 }
 
-static unsigned order(size_t entry, enum board_code code)
+static unsigned order(size_t entry, enum lleuadrys_code code)
 {
     return ask(entry, code, text, 0);
 }
@@ -62,7 +62,7 @@ static unsigned write_frame(unsigned k)
     frame[1] = (uint8_t)(k % 256);
     for (size_t i = 2; i < FRAME; i++)
         frame[i] = (uint8_t)(7 * i + k);
-    return ask(TRACE, BOARD_WRITE, frame, FRAME);
+    return ask(TRACE, LLEUADRYS_WRITE, frame, FRAME);
 }
 
 static unsigned write_line(const char *line)
@@ -75,7 +75,7 @@ static unsigned write_line(const char *line)
     }
     if (n % 2 == 1)
         out[n++] = 0x40; /* a write takes an even number of bytes */
-    return ask(PASSLOG, BOARD_WRITE, out, n);
+    return ask(PASSLOG, LLEUADRYS_WRITE, out, n);
 }
 
 static void print_record(void)
@@ -92,25 +92,25 @@ static void print_position(const char *name, size_t entry)
 {
     static const char *const words[] = {"not open", "open", "beyond the mark"};
     uint32_t record = 0;
-    uint16_t stands = board_buffered_position(session, sizeof session, entry, &record);
+    uint16_t stands = lleuadrys_position(session, sizeof session, entry, &record);
     printf("%s is %s, at record %u\n", name, words[stands], (unsigned)record);
 }
 
 static void print_listing(void)
 {
     uint8_t out[1200];
-    size_t n = board_list(image, image_size, out, sizeof out);
+    size_t n = lleuadrys_list(image, image_size, out, sizeof out);
     fwrite(out, 1, n, stdout);
 }
 
 /* Logs the pass on a mounted image. */
 static void log_pass(void)
 {
-    printf("opening TRACE: %u\n", order(TRACE, BOARD_OPEN));
-    printf("opening PASSLOG: %u\n", order(PASSLOG, BOARD_OPEN));
+    printf("opening TRACE: %u\n", order(TRACE, LLEUADRYS_OPEN));
+    printf("opening PASSLOG: %u\n", order(PASSLOG, LLEUADRYS_OPEN));
     unsigned a = 0;
     while (a == 0)
-        a = order(PASSLOG, BOARD_RECORD_FORWARD);
+        a = order(PASSLOG, LLEUADRYS_RECORD_FORWARD);
     printf("behind the last line: %u\n", a);
     a = 0;
     unsigned k = 0;
@@ -118,36 +118,36 @@ static void log_pass(void)
         k++;
     printf("frames written: %u, then %u\n", k, a);
     printf("a line: %u\n", write_line("PASS 424   AOS 184694   LOS 185803   MAX EL 76   FRAMES 576"));
-    printf("a granule of CURVES, which is not open: %u\n", ask(CURVES, BOARD_GRANULE_WRITE, text, 2));
+    printf("a granule of CURVES, which is not open: %u\n", ask(CURVES, LLEUADRYS_GRANULE_WRITE, text, 2));
     print_position("TRACE", TRACE);
     print_position("PASSLOG", PASSLOG);
-    printf("a mark behind the frames: %u\n", order(TRACE, BOARD_WRITE_MARK));
+    printf("a mark behind the frames: %u\n", order(TRACE, LLEUADRYS_WRITE_MARK));
     print_position("TRACE", TRACE);
-    printf("closing TRACE: %u\n", order(TRACE, BOARD_REWIND_OFFLINE));
-    printf("closing PASSLOG: %u\n", order(PASSLOG, BOARD_REWIND_OFFLINE));
+    printf("closing TRACE: %u\n", order(TRACE, LLEUADRYS_REWIND_OFFLINE));
+    printf("closing PASSLOG: %u\n", order(PASSLOG, LLEUADRYS_REWIND_OFFLINE));
 }
 
 /* Reads the last line of PASSLOG back, with the image mounted afresh. */
 static void read_back(void)
 {
-    printf("mounting: %u\n", board_buffered_mount(image, image_size, session, sizeof session));
-    printf("opening PASSLOG: %u\n", order(PASSLOG, BOARD_OPEN));
-    while (order(PASSLOG, BOARD_READ) == 0)
+    printf("mounting: %u\n", lleuadrys_mount(image, image_size, session, sizeof session));
+    printf("opening PASSLOG: %u\n", order(PASSLOG, LLEUADRYS_OPEN));
+    while (order(PASSLOG, LLEUADRYS_READ) == 0)
         continue;
     print_record();
-    printf("closing PASSLOG: %u\n", order(PASSLOG, BOARD_REWIND_OFFLINE));
+    printf("closing PASSLOG: %u\n", order(PASSLOG, LLEUADRYS_REWIND_OFFLINE));
 }
 
 int main(int argc, char **argv)
 {
     FILE *file = argc == 2 ? fopen(argv[1], "rb") : NULL;
-    if (file == NULL || sizeof session != board_buffered_session_size()) {
+    if (file == NULL || sizeof session != lleuadrys_buffered_session_size()) {
         printf("log: usage: log IMAGE\n");
         return 2;
     }
     image_size = fread(image, 1, sizeof image, file);
     fclose(file);
-    unsigned a = board_buffered_mount(image, image_size, session, sizeof session);
+    unsigned a = lleuadrys_mount(image, image_size, session, sizeof session);
     printf("mounting: %u\n", a);
     if (a != 0)
         return 1;

@@ -1,5 +1,5 @@
 /* Lleuadrys for C: the file layer of the board, both engines, as a static library for x86-64.
-   `rt staticlib board` proves it and writes target/staticlib/libboard.a.
+   `rt staticlib lleuadrys` proves it and writes target/staticlib/liblleuadrys.a.
 
    WHAT IS LENT. Every pointer is lent for the one call and no longer: nothing is kept between calls, nothing is
    allocated, no state lives in the library. The caller owns the image, the session's bytes and every buffer, before
@@ -7,14 +7,16 @@
    written, must not overlap. A length may be 0; its pointer must still not be null.
 
    IMAGE     360 times N bytes, N from 1 to 4,096: sector 0 is the directory.
-   SESSION   as many bytes as board_session_size() or board_buffered_session_size() says, in any place, with no
+   SESSION   LLEUADRYS_SESSION bytes for the engine that moves every byte straight in the image, or
+             LLEUADRYS_BUFFERED_SESSION for the one with a blocking buffer of 360 bytes for each open file, which writes
+             a sector when it is full: the number of the bytes lent says which engine serves. In any place, with no
              alignment. A mounting writes them, a request changes them. They may be copied, stored in a file, and lent
              again later, to the same image as it was left. Bytes that are no session are answered like a session that
              is not legal: 12. Bytes that are all zero are a session with no used entry.
    ENTRY     the number of a file in the directory, 0 to 17; any other is answered 8.
 
-   A call that is refused (3 to 12) changes nothing that was lent. Every call answers on every input: whatever stands in
-   the image, the session and the buffers. The contracts are in crates/board/src/lib.rt.
+   A request that is refused (3 to 12) changes nothing that was lent. Every call answers on every input: whatever stands in
+   the image, the session and the buffers. The contracts are in crates/lleuadrys/src/lib.rt.
 
    ANSWERS
       0  done
@@ -37,7 +39,7 @@
       3  write                             given
       4  granule read                      granule            the granule, in the first bytes of buffer
       5  granule write                     granule, given
-      6  granule look: the number that board_look's refusal has
+      6  granule look: the number that lleuadrys_look's refusal has
       7  write file mark
       8  rewind on-line: to the first record
       9  rewind off-line: closes the file, writes count and flags to the directory
@@ -52,78 +54,68 @@
 #include <stddef.h>
 #include <stdint.h>
 
-enum board_code {
-    BOARD_OPEN = 1,
-    BOARD_READ = 2,
-    BOARD_WRITE = 3,
-    BOARD_GRANULE_READ = 4,
-    BOARD_GRANULE_WRITE = 5,
-    BOARD_GRANULE_LOOK = 6,
-    BOARD_WRITE_MARK = 7,
-    BOARD_REWIND_ONLINE = 8,
-    BOARD_REWIND_OFFLINE = 9,
-    BOARD_RECORD_FORWARD = 10,
-    BOARD_RECORD_BACK = 11,
-    BOARD_FILE_FORWARD = 12,
-    BOARD_FILE_BACK = 13
+enum lleuadrys_code {
+    LLEUADRYS_OPEN = 1,
+    LLEUADRYS_READ = 2,
+    LLEUADRYS_WRITE = 3,
+    LLEUADRYS_GRANULE_READ = 4,
+    LLEUADRYS_GRANULE_WRITE = 5,
+    LLEUADRYS_GRANULE_LOOK = 6,
+    LLEUADRYS_WRITE_MARK = 7,
+    LLEUADRYS_REWIND_ONLINE = 8,
+    LLEUADRYS_REWIND_OFFLINE = 9,
+    LLEUADRYS_RECORD_FORWARD = 10,
+    LLEUADRYS_RECORD_BACK = 11,
+    LLEUADRYS_FILE_FORWARD = 12,
+    LLEUADRYS_FILE_BACK = 13
 };
 
-/* What board_position answers. */
-enum board_standing {
-    BOARD_CLOSED = 0,
-    BOARD_STANDS = 1,
-    BOARD_BEYOND = 2 /* beyond the mark */
+/* What lleuadrys_position answers. */
+enum lleuadrys_standing {
+    LLEUADRYS_CLOSED = 0,
+    LLEUADRYS_STANDS = 1,
+    LLEUADRYS_BEYOND = 2 /* beyond the mark */
 };
 
-/* ---- the plain engine: every byte is moved straight in the image */
+/* The bytes of a session of either engine; the two functions give the same numbers. */
+enum {
+    LLEUADRYS_SESSION = 516,
+    LLEUADRYS_BUFFERED_SESSION = 1980
+};
 
-/* The bytes of a session. */
-size_t board_session_size(void);
+size_t lleuadrys_session_size(void);
+size_t lleuadrys_buffered_session_size(void);
 
-/* Mounts an image: 0, with the session written; 11 for a bad image; 12 if the lent bytes are not as many as a session
-   takes. Nothing is open then. */
-uint16_t board_mount(const uint8_t *image, size_t image_size, uint8_t *session, size_t session_size);
+/* Mounts an image: 0, with the session written, in which nothing is open; 11 for a bad image, with a session written that
+   has no used entry, so that every request on it is answered 8 or 12; 12, and the session as it was, if the lent bytes are
+   not as many as a session takes. */
+uint16_t lleuadrys_mount(const uint8_t *image, size_t image_size, uint8_t *session, size_t session_size);
 
 /* A request on an entry. given is what a write takes, buffer what a read fills; a request that needs neither, or no
    granule, looks at none. A read answered 0 changes the first bytes of buffer, as many as a record has, and no others. */
-uint16_t board_request(uint8_t *image, size_t image_size, uint8_t *session, size_t session_size, size_t entry,
-                       uint16_t code, uint32_t granule, const uint8_t *given, size_t given_size, uint8_t *buffer,
-                       size_t buffer_size);
+uint16_t lleuadrys_request(uint8_t *image, size_t image_size, uint8_t *session, size_t session_size, size_t entry,
+                           uint16_t code, uint32_t granule, const uint8_t *given, size_t given_size, uint8_t *buffer,
+                           size_t buffer_size);
 
 /* Looks at a granule in place: its size, with *at the byte of the image that it begins at; 0, and *at as it was, where
-   the look is refused (board_request with code 6 gives the number). */
-size_t board_look(const uint8_t *image, size_t image_size, const uint8_t *session, size_t session_size, size_t entry,
-                  uint32_t granule, size_t *at);
+   the look is refused (lleuadrys_request with code 6 gives the number). */
+size_t lleuadrys_look(const uint8_t *image, size_t image_size, const uint8_t *session, size_t session_size, size_t entry,
+                      uint32_t granule, size_t *at);
 
-/* Where an entry's file stands: an enum board_standing, with *record the number of records before it; *record is as it
+/* Where an entry's file stands: an enum lleuadrys_standing, with *record the number of records before it; *record is as it
    was where the file is not open. */
-uint16_t board_position(const uint8_t *session, size_t session_size, size_t entry, uint32_t *record);
-
-/* ---- the buffered engine: a blocking buffer of 360 bytes for each open file, in the session's bytes */
-
-size_t board_buffered_session_size(void);
-
-uint16_t board_buffered_mount(const uint8_t *image, size_t image_size, uint8_t *session, size_t session_size);
-
-uint16_t board_buffered_request(uint8_t *image, size_t image_size, uint8_t *session, size_t session_size, size_t entry,
-                                uint16_t code, uint32_t granule, const uint8_t *given, size_t given_size,
-                                uint8_t *buffer, size_t buffer_size);
-
-size_t board_buffered_look(const uint8_t *image, size_t image_size, const uint8_t *session, size_t session_size,
-                           size_t entry, uint32_t granule, size_t *at);
-
-uint16_t board_buffered_position(const uint8_t *session, size_t session_size, size_t entry, uint32_t *record);
+uint16_t lleuadrys_position(const uint8_t *session, size_t session_size, size_t entry, uint32_t *record);
 
 /* ---- no session */
 
 /* Lists the directory as text, as far as there is room: the number of bytes put there. A listing has at most 1,596. */
-size_t board_list(const uint8_t *image, size_t image_size, uint8_t *out, size_t out_size);
+size_t lleuadrys_list(const uint8_t *image, size_t image_size, uint8_t *out, size_t out_size);
 
 /* Decodes the compressed record that code begins with into text, whose length is the record's: the bytes of the code;
    0, and text as it was, where the code is bad. */
-size_t board_decode(const uint8_t *code, size_t code_size, uint8_t *text, size_t text_size);
+size_t lleuadrys_decode(const uint8_t *code, size_t code_size, uint8_t *text, size_t text_size);
 
-/* Codes a record, as far as there is room: the bytes of the code, at most text_size + 3. */
-size_t board_encode(const uint8_t *text, size_t text_size, uint8_t *code, size_t code_size);
+/* Codes a record, as far as there is room: the bytes of the code, at most text_size + 3 for a text of up to 132 bytes. */
+size_t lleuadrys_encode(const uint8_t *text, size_t text_size, uint8_t *code, size_t code_size);
 
 #endif
