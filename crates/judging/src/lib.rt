@@ -267,12 +267,20 @@ fn behind_written(e: Entry, f: OpenFile, code: usize) -> Place
     }
 }
 
-// Lays the n bytes of a sector, and of those behind it, from byte o on over the first bytes of the buffer.
+// Lays the record of n bytes that a part of a sector begins with over the first bytes of the buffer.
+fn read_record(part: &[u8], n: usize, buffer: &mut [u8])
+    requires { ⌜ n ≤ length (now part) ⌝ }
+    ensures { λ _. ⌜ now (buffer .exit) ≡ Bytes.lay (now (buffer .entry)) 0 (Bytes.part (now (part .entry)) 0 n) ⌝ }
+{
+    lay(buffer, 0, &part[0..n]);
+}
+
+// The same, of a sector, and of those behind it, from the record's byte offset on.
 fn lay_part(sector: &[u8], o: usize, n: usize, buffer: &mut [u8])
     requires { ⌜ o + n ≤ length (now sector) ⌝ }
     ensures { λ _. ⌜ now (buffer .exit) ≡ Bytes.lay (now (buffer .entry)) 0 (Bytes.part (now (sector .entry)) o n) ⌝ }
 {
-    lay(buffer, 0, &sector[o..o + n]);
+    read_record(&sector[o..], n, buffer);
 }
 
 // Whether a blocked record's sector, of that number, is the held one, which lies in over.

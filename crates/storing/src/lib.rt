@@ -6,6 +6,7 @@ use geometry::fill;
 use geometry::lay;
 use sessions::Holding;
 use sessions::OpenFile;
+use sessions::fresh;
 use tables::Width;
 use tables::copy_table;
 ghost use mathlib.Core.Path.{_≡_};
@@ -200,7 +201,9 @@ pub fn put_fresh(b: &mut [u8], k: usize, f: OpenFile)
     put_state(b, k, f, no_hold());
     if has_buffers(b) {
         if k < Geometry::MOST_OPEN {
-            fill(b, state_place(true, k) + Form::BUFFER, Geometry::SECTOR, 0);
+            let state = fresh(f);
+            let buffer = state.buffer;
+            lay(b, state_place(true, k) + Form::BUFFER, &buffer);
         }
     }
 }

@@ -1,38 +1,53 @@
--- The part taken has n bytes.
-use Rattle.geometry.specs.Bytes.{part}
+-- What a sector has from byte o on begins with the record.
+use Rattle.geometry.specs.Bytes.{part, lay}
+use Rattle.geometry.proofs.Bytes.{part-part}
 use native.Mathlib.Omega.{arith}
-use Prim.Native.Nat.{_+_, _-_}
-use mathlib.Core.Path.{_≡_}
+use Prim.Native.Nat.{ℕ, _+_, _-_}
+use lib.ListN.{length}
+use mathlib.Core.Path.{_≡_, ap, _∙_}
 use borrow.Author.Needs.{needs}
 use Rattle.judging.proofs.lay_part.Statement.{statement}
 use Rattle.judging.proofs.lay_part.Tie as tie
+use Rattle.judging.proofs.lay_part.Reads as reads
+use Rattle.judging.proofs.lay_part.Lts as lts
+use Rattle.judging.proofs.read_record.Reads as read-record-reads
 
-add-lay : tie.Need-add-lay
-add-lay c = search needs
+-- src/lib.rt:283:17
+sub-read-record : tie.Need-sub-read-record
+sub-read-record c = search needs
 
-sub-lay : tie.Need-sub-lay
-sub-lay c = search needs
+-- src/lib.rt:283:17
+part-read-record-start : tie.Need-part-read-record-start
+part-read-record-start c = search needs
 
-part-lay-start : tie.Need-part-lay-start
-part-lay-start c = search needs
+-- src/lib.rt:283:17
+part-read-record-end : tie.Need-part-read-record-end
+part-read-record-end c = search needs
 
-part-lay-end : tie.Need-part-lay-end
-part-lay-end c = search needs
+-- src/lib.rt:283:5
+read-record-requires : tie.Need-read-record-requires
+read-record-requires c κs = search needs
 
-lay-requires : tie.Need-lay-requires
-lay-requires c κs = search needs
-
+-- src/lib.rt:279:1
 same-length : tie.Need-same-length
 same-length c = search needs
 
+-- src/lib.rt:279:1
 returns : tie.Need-returns
 unfolding part
 returns c =
     let a = c .before .before .before .before .before .before .before .args in
-    let n : (a .o + a .n) - a .o ≡ a .n = omega arith in
-    rw n at (c .before .before .lay .ensures)
+    let z : a .o + 0 ≡ a .o = omega arith in
+    c .before .before .read-record .ensures
+    ∙ ap (lay (a .buffer .now) 0) (part-part (a .sector .now) (a .o) (length (a .sector .now) - a .o) 0 (a .n) (omega (arith, c .before .before .before .before .before .before .before .pre)) ∙ ap (λ (k : ℕ). part (a .sector .now) k (a .n)) z)
 
 pub lay-part-spec : {M : Type 1} → statement M
 lay-part-spec =
     tie.close
-    (tie.spec add-lay sub-lay part-lay-start part-lay-end lay-requires same-length returns)
+    (tie.spec
+    sub-read-record
+    part-read-record-start
+    part-read-record-end
+    read-record-requires
+    same-length
+    returns)
