@@ -22,7 +22,7 @@ use Rattle.steps.specs.Step.{heldOf, bufferedScene, bufferedAnswer, bufferedAft
 use Rattle.settling.proofs.Bench.{length-all}
 use Rattle.settling.proofs.Kept.{Kept, settle-elsewhere, settle-table}
 use Rattle.settling.proofs.Step.{Agrees}
-use Rattle.demands.specs.Engine.{plainEngine, bufferedEngine, Standing, answered, stepOf, run, mounted, taken}
+use Rattle.demands.specs.Engine.{plainEngine, bufferedEngine, Standing, answered, stepOf, run, mounted}
 use Rattle.demands.specs.Demand2.{Faithful, CountsStored}
 use Rattle.demands.specs.Demand3.{Outside, Untouched, Agreeing, Agree}
 use Rattle.demands.proofs.Plain.{then-stands, then-view, afresh, plain-faithful}
@@ -37,9 +37,8 @@ use Rattle.sessions.specs.declared.BufferedSession.{BufferedSession}
 use Rattle.sessions.specs.declared.Session.{Session}
 
 pub buffered-faithful : Faithful bufferedEngine
-unfolding bufferedMount taken
+unfolding bufferedMount
 buffered-faithful = record {
-  takes = λ b h. refl;
   mounting = λ image. refl;
   refusedMounting = λ image e. plain-faithful .refusedMounting image e;
   serves = λ image ok asked fit. mounted-reports image (mounts-length image ok) asked ∙ plain-faithful .serves image ok asked fit;
@@ -107,7 +106,7 @@ module _ (image : List ℕ) (ok : mounts image ≡ true) (asked : List Asked) wh
   }
 
 pub agree : Agree plainEngine bufferedEngine
-agree = record { first = plain-faithful; second = buffered-faithful; agreeing = λ image ok asked x y. agreeing image ok asked }
+agree = record { first = plain-faithful; second = buffered-faithful; agreeing = λ image ok asked x. agreeing image ok asked }
 
 -- the count that a closing stores: the directory is in no buffer
 module _ (image : List ℕ) (ok : mounts image ≡ true) (asked : List Asked) (a : Asked) where
@@ -122,7 +121,6 @@ module _ (image : List ℕ) (ok : mounts image ≡ true) (asked : List Asked) (a
   same-table = sym (settle-table (answered bufferedEngine (w image ok asked) a .image) (answered bufferedEngine (w image ok asked) a .session) then-kept) ∙ ap tableOf (then-agrees .image)
 
 pub buffered-counts : CountsStored bufferedEngine
-unfolding taken
 buffered-counts = record {
   stored = λ image ok asked i t fit here a is done.
       let p = plain-counts .stored image ok asked i t fit here a is (sym (then-agrees image ok asked a .answer) ∙ done) in

@@ -11,33 +11,32 @@ use Rattle.directory.proofs.Free.{every-append}
 use Rattle.requests.proofs.Numbers.{same-number}
 use Rattle.mounting.specs.Mounting.{mounts}
 use Rattle.tapes.specs.Model.{Model, Asked, Report, modelAt, modelsOf, modelInto, modelShown, modelAnswer, modelStep, modelReport, modelReports, modelRun, ifDone}
-use Rattle.demands.specs.Engine.{Engine, Standing, shownBy, answered, stepOf, reportOf, reports, run, mounted, taken}
+use Rattle.demands.specs.Engine.{Engine, Standing, shownBy, answered, stepOf, reportOf, reports, run, mounted, areBytes, giveBytes, inBytes}
 use Rattle.demands.specs.Demand2.{Faithful}
 
--- ---- what is taken
+-- ---- runs in bytes
 
-module _ (E : Engine) (image : List ℕ) where
-  pub taken-image : (asked : List Asked) → taken E image asked ≡ true → E .takes image ≡ true
-  unfolding taken
-  taken-image asked h = and-left (E .takes image) (every (λ a. E .takes (a .given)) asked) h
-
-  pub taken-given : (asked : List Asked) → taken E image asked ≡ true → every (λ a. E .takes (a .given)) asked ≡ true
-  unfolding taken
-  taken-given asked h = and-right (E .takes image) (every (λ a. E .takes (a .given)) asked) h
-
-  pub taken-more : (asked rest : List Asked) → taken E image asked ≡ true → every (λ a. E .takes (a .given)) rest ≡ true → taken E image (asked ++ rest) ≡ true
-  unfolding taken
-  taken-more asked rest h k =
-      and-both (E .takes image) _ (taken-image asked h) (every-append (λ a. E .takes (a .given)) asked rest ∙ and-both _ _ (taken-given asked h) k)
-
-  pub taken-one : (asked : List Asked) (a : Asked) → taken E image asked ≡ true → E .takes (a .given) ≡ true → taken E image (asked ++ (a ∷ [])) ≡ true
-  unfolding every
-  taken-one asked a h k = taken-more asked (a ∷ []) h (and-both (E .takes (a .given)) true k refl)
-
--- no bytes are taken
-pub takes-none : (E : Engine) → Faithful E → E .takes [] ≡ true
+pub no-bytes : areBytes [] ≡ true
 unfolding every
-takes-none E faithful = faithful .takes [] refl
+no-bytes = refl
+
+module _ (image : List ℕ) where
+  pub bytes-image : (asked : List Asked) → inBytes image asked ≡ true → areBytes image ≡ true
+  unfolding inBytes
+  bytes-image asked h = and-left (areBytes image) (giveBytes asked) h
+
+  pub bytes-given : (asked : List Asked) → inBytes image asked ≡ true → giveBytes asked ≡ true
+  unfolding inBytes
+  bytes-given asked h = and-right (areBytes image) (giveBytes asked) h
+
+  pub bytes-more : (asked rest : List Asked) → inBytes image asked ≡ true → giveBytes rest ≡ true → inBytes image (asked ++ rest) ≡ true
+  unfolding inBytes
+  bytes-more asked rest h k =
+      and-both (areBytes image) _ (bytes-image asked h) (every-append (λ a. areBytes (a .given)) asked rest ∙ and-both _ _ (bytes-given asked h) k)
+
+  pub bytes-one : (asked : List Asked) (a : Asked) → inBytes image asked ≡ true → areBytes (a .given) ≡ true → inBytes image (asked ++ (a ∷ [])) ≡ true
+  unfolding every
+  bytes-one asked a h k = bytes-more asked (a ∷ []) h (and-both (areBytes (a .given)) true k refl)
 
 -- ---- the last report of a run
 
@@ -59,7 +58,7 @@ run-append ms [] q = refl
 run-append ms (a ∷ p) q = run-append (modelStep ms a) p q
 
 module _ (E : Engine) (faithful : Faithful E) (image : List ℕ) (ok : mounts image ≡ true) (asked : List Asked) (a : Asked)
-    (fit : taken E image (asked ++ (a ∷ [])) ≡ true) where
+    (fit : inBytes image (asked ++ (a ∷ [])) ≡ true) where
   abbrev ms : List Model
   ms = modelRun (modelsOf image) asked
 

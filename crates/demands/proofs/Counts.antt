@@ -20,9 +20,9 @@ use Rattle.serving.proofs.Step.{asked, tape-used, tape-counts}
 use Rattle.serving.proofs.Solo.{shows}
 use Rattle.serving.proofs.Taped.{shows-tape}
 use Rattle.serving.proofs.View.{showsAt, view-at, open-at}
-use Rattle.demands.specs.Engine.{plainEngine, Standing, answered, stepOf, run, mounted, taken}
+use Rattle.demands.specs.Engine.{plainEngine, Standing, answered, stepOf, run, mounted, inBytes}
 use Rattle.demands.specs.Demand2.{flagsOf, CountsStored}
-use Rattle.demands.proofs.Answers.{taken-one, same-answer}
+use Rattle.demands.proofs.Answers.{no-bytes, bytes-one, same-answer}
 use Rattle.demands.proofs.Plain.{stands-then, view-then, then-stands, then-view, plain-faithful}
 use Rattle.demands.proofs.ReadsBack.{tape-answer, tape-step}
 use Rattle.directory.specs.declared.Entry.{Entry}
@@ -69,7 +69,7 @@ tape-flags image s v i t shown =
     let z = sym (shows-tape e (fileOf (s .files) i) (extent e image) u r) ∙ shown in
     flagged e (v .sound i u .lawful .flags) t (ap markOf z) (ap protectionOf z))
 
-module _ (image : List ℕ) (ok : mounts image ≡ true) (before : List Asked) (i : ℕ) (t : Tape) (fit : taken plainEngine image before ≡ true)
+module _ (image : List ℕ) (ok : mounts image ≡ true) (before : List Asked) (i : ℕ) (t : Tape) (fit : inBytes image before ≡ true)
     (here : modelAt (modelRun (modelsOf image) before) i ≡ tape t) where
   abbrev closing : Asked
   closing = asked i (Position RewindOffline) [] []
@@ -95,7 +95,7 @@ module _ (image : List ℕ) (ok : mounts image ≡ true) (before : List Asked) (
         sym (view-at (w′ .image) (w′ .session) (v′ .many) i)
         ∙ ap (λ (ms : List Model). modelAt ms i) (view-then w v closing ∙ ap (λ (ms : List Model). modelStep ms closing) (then-view image ok before))
         ∙ tape-step ms i t here (Position RewindOffline) [] []
-        (sym (tape-answer ms i t here (Position RewindOffline) [] []) ∙ sym (same-answer plainEngine plain-faithful image ok before closing (taken-one plainEngine image before closing fit refl)) ∙ done)
+        (sym (tape-answer ms i t here (Position RewindOffline) [] []) ∙ sym (same-answer plainEngine plain-faithful image ok before closing (bytes-one image before closing fit no-bytes)) ∙ done)
 
     shut : fileOf (w′ .session .files) i .used ≡ false
     unfolding isOpenModel tapeDone

@@ -25,9 +25,9 @@ use Rattle.tapes.specs.Model.{Model, nothing, tape, row, Asked, shapeOf, modelA
 use Rattle.serving.proofs.Solo.{shows}
 use Rattle.serving.proofs.Step.{asked}
 use Rattle.serving.proofs.View.{showsAt}
-use Rattle.demands.specs.Engine.{Engine, Standing, shownBy, answered, run, mounted, taken}
+use Rattle.demands.specs.Engine.{Engine, Standing, shownBy, answered, run, mounted, areBytes, inBytes}
 use Rattle.demands.specs.Demand2.{Faithful, GranuleBack, granuleWriting, granuleReading}
-use Rattle.demands.proofs.Answers.{run-append, taken-one, takes-none, same-answer, same-buffer, same-shown}
+use Rattle.demands.proofs.Answers.{run-append, bytes-one, no-bytes, same-answer, same-buffer, same-shown}
 use Rattle.demands.proofs.Plain.{then-shows}
 use Rattle.requests.specs.declared.Answer.{Answer}
 use Rattle.requests.specs.declared.Answer.the-variants.{Done}
@@ -117,8 +117,8 @@ same-look : (w : Row) (n m : ℕ) (gs : List (List ℕ)) (h : ℕ) → w .isOpen
 unfolding judge tests firstOf orElse whether rowFacts
 same-look w n m gs h o = rw o
 
-module _ (E : Engine) (faithful : Faithful E) (image : List ℕ) (ok : mounts image ≡ true) (before : List Asked) (i g : ℕ) (w : Row) (fit : taken E image before ≡ true)
-    (here : modelAt (modelRun (modelsOf image) before) i ≡ row w) (given : List ℕ) (takes : E .takes given ≡ true)
+module _ (E : Engine) (faithful : Faithful E) (image : List ℕ) (ok : mounts image ≡ true) (before : List Asked) (i g : ℕ) (w : Row) (fit : inBytes image before ≡ true)
+    (here : modelAt (modelRun (modelsOf image) before) i ≡ row w) (given : List ℕ) (bytes : areBytes given ≡ true)
     (done : answered E (run E (mounted E image) before) (granuleWriting i g given) .answer ≡ Done) where
   abbrev ms : List Model
   ms = modelRun (modelsOf image) before
@@ -126,8 +126,8 @@ module _ (E : Engine) (faithful : Faithful E) (image : List ℕ) (ok : mounts im
   abbrev R : ℕ
   R = w .shape .recordLength
 
-  written : taken E image (before ++ (granuleWriting i g given ∷ [])) ≡ true
-  written = taken-one E image before (granuleWriting i g given) fit takes
+  written : inBytes image (before ++ (granuleWriting i g given ∷ [])) ≡ true
+  written = bytes-one image before (granuleWriting i g given) fit bytes
 
   judged : judge (GranuleWrite g) (rowFacts (openModels ms) given 0 w) ≡ Done
   judged = sym (row-answer ms i w here (GranuleWrite g) given []) ∙ sym (same-answer E faithful image ok before (granuleWriting i g given) written) ∙ done
@@ -186,45 +186,45 @@ module _ (E : Engine) (faithful : Faithful E) (image : List ℕ) (ok : mounts im
   abbrev v′ : Standing (E .Session)
   v′ = run E (mounted E image) after
 
-  read-taken : (asked : List Asked) → taken E image asked ≡ true → (h : ℕ) (buffer : List ℕ) → taken E image (asked ++ (granuleReading i h buffer ∷ [])) ≡ true
-  read-taken asked t h buffer = taken-one E image asked (granuleReading i h buffer) t (takes-none E faithful)
+  read-bytes : (asked : List Asked) → inBytes image asked ≡ true → (h : ℕ) (buffer : List ℕ) → inBytes image (asked ++ (granuleReading i h buffer ∷ [])) ≡ true
+  read-bytes asked t h buffer = bytes-one image asked (granuleReading i h buffer) t (no-bytes)
 
   abbrev looking : ℕ → Asked
   looking h = record { entry = i; request = GranuleLook h; given = []; buffer = [] }
 
-  look-taken : (asked : List Asked) → taken E image asked ≡ true → (h : ℕ) → taken E image (asked ++ (looking h ∷ [])) ≡ true
-  look-taken asked t h = taken-one E image asked (looking h) t (takes-none E faithful)
+  look-bytes : (asked : List Asked) → inBytes image asked ≡ true → (h : ℕ) → inBytes image (asked ++ (looking h ∷ [])) ≡ true
+  look-bytes asked t h = bytes-one image asked (looking h) t (no-bytes)
 
   -- what a read answers and gives, and what a look shows, before and behind
   answer-before : (h : ℕ) (buffer : List ℕ) → answered E v (granuleReading i h buffer) .answer ≡ judge (GranuleRead h) (rowFacts (openModels ms) [] (length buffer) w)
-  answer-before h buffer = same-answer E faithful image ok before (granuleReading i h buffer) (read-taken before fit h buffer) ∙ row-answer ms i w here (GranuleRead h) [] buffer
+  answer-before h buffer = same-answer E faithful image ok before (granuleReading i h buffer) (read-bytes before fit h buffer) ∙ row-answer ms i w here (GranuleRead h) [] buffer
 
   answer-behind : (h : ℕ) (buffer : List ℕ) → answered E v′ (granuleReading i h buffer) .answer ≡ judge (GranuleRead h) (rowFacts (openModels ms′) [] (length buffer) w′)
-  answer-behind h buffer = same-answer E faithful image ok after (granuleReading i h buffer) (read-taken after written h buffer) ∙ row-answer ms′ i w′ here′ (GranuleRead h) [] buffer
+  answer-behind h buffer = same-answer E faithful image ok after (granuleReading i h buffer) (read-bytes after written h buffer) ∙ row-answer ms′ i w′ here′ (GranuleRead h) [] buffer
 
   buffer-before : (h : ℕ) (buffer : List ℕ) → answered E v (granuleReading i h buffer) .buffer
       ≡ lay buffer 0 (ifDone (judge (GranuleRead h) (rowFacts (openModels ms) [] (length buffer) w)) (granule w h))
   unfolding modelInto modelGranule
   buffer-before h buffer =
-      same-buffer E faithful image ok before (granuleReading i h buffer) (read-taken before fit h buffer)
+      same-buffer E faithful image ok before (granuleReading i h buffer) (read-bytes before fit h buffer)
       ∙ rw (row-answer ms i w here (GranuleRead h) [] buffer, here)
 
   buffer-behind : (h : ℕ) (buffer : List ℕ) → answered E v′ (granuleReading i h buffer) .buffer
       ≡ lay buffer 0 (ifDone (judge (GranuleRead h) (rowFacts (openModels ms′) [] (length buffer) w′)) (granule w′ h))
   unfolding modelInto modelGranule
   buffer-behind h buffer =
-      same-buffer E faithful image ok after (granuleReading i h buffer) (read-taken after written h buffer)
+      same-buffer E faithful image ok after (granuleReading i h buffer) (read-bytes after written h buffer)
       ∙ rw (row-answer ms′ i w′ here′ (GranuleRead h) [] buffer, here′)
 
   shown-before : (h : ℕ) → E .look (v .image) (v .session) i h ≡ ifDone (judge (GranuleLook h) (rowFacts (openModels ms) [] 0 w)) (granule w h)
   unfolding shownBy modelShown modelGranule
   shown-before h =
-      same-shown E faithful image ok before (looking h) (look-taken before fit h) ∙ rw (row-answer ms i w here (GranuleLook h) [] [], here)
+      same-shown E faithful image ok before (looking h) (look-bytes before fit h) ∙ rw (row-answer ms i w here (GranuleLook h) [] [], here)
 
   shown-behind : (h : ℕ) → E .look (v′ .image) (v′ .session) i h ≡ ifDone (judge (GranuleLook h) (rowFacts (openModels ms′) [] 0 w′)) (granule w′ h)
   unfolding shownBy modelShown modelGranule
   shown-behind h =
-      same-shown E faithful image ok after (looking h) (look-taken after written h) ∙ rw (row-answer ms′ i w′ here′ (GranuleLook h) [] [], here′)
+      same-shown E faithful image ok after (looking h) (look-bytes after written h) ∙ rw (row-answer ms′ i w′ here′ (GranuleLook h) [] [], here′)
 
   -- the granules behind the write
   granule-new : granule w′ g ≡ padded 0 R given

@@ -22,8 +22,8 @@ use Rattle.steps.specs.Next.{fixedAt, recordHere, isLost, bytesGot, decoding, b
 use Rattle.steps.specs.Step.{After, plainScene, plainAnswer, plainAfter, plainStep}
 use Rattle.tapes.specs.Tape.{fixedRecord, fixedRecords, recordsIn, tapeOf, tapeFacts, padByte, newRecord, tapeDone, tapeNext, tapeRecord}
 use Rattle.tapes.specs.Model.{Asked, Report, shapeOf, modelOf, modelsOf, isOpenModel, modelFacts, modelNext, modelRecord, modelInto, openModels, modelAnswer, modelStep, ifDone, modelReport, modelReports}
-use Rattle.demands.specs.Engine.{Engine, answered, stepOf, reportOf, reports, mounted, taken}
-use Rattle.demands.specs.Demand2.{isByte, Faithful}
+use Rattle.demands.specs.Engine.{Engine, answered, stepOf, reportOf, reports, mounted, inBytes}
+use Rattle.demands.specs.Demand2.{Faithful}
 use Rattle.requests.specs.declared.Answer.the-variants.{Done, Refused}
 use Rattle.requests.specs.declared.Order.the-variants.{RewindOnline, RewindOffline}
 use Rattle.requests.specs.declared.Refusal.the-variants.{NotThere}
@@ -61,10 +61,6 @@ small-mounts : mounts small ≡ true
 unfolding directory small
 small-mounts = refl
 
-small-bytes : every isByte small ≡ true
-unfolding directory small
-small-bytes = refl
-
 abbrev ask : Request → List ℕ → ℕ → Asked
 ask q given n = record { entry = 0; request = q; given = given; buffer = replicate n 0 }
 
@@ -73,6 +69,10 @@ ten : List Asked
 ten =
     ask Open [] 0 ∷ ask Read [] 180 ∷ ask (Position RewindOnline) [] 0 ∷ ask Write (1 ∷ 2 ∷ []) 0 ∷ ask (Position RewindOnline) [] 0
     ∷ ask Read [] 180 ∷ ask (Position RewindOffline) [] 0 ∷ ask Open [] 0 ∷ ask Read [] 180 ∷ ask Read [] 180 ∷ []
+
+in-bytes : inBytes small ten ≡ true
+unfolding inBytes directory small ten
+in-bytes = refl
 
 -- the numbers of some reports, and the first byte of each buffer
 numbers : List Report → List ℕ
@@ -94,24 +94,17 @@ module _ (E : Engine) (faithful : Faithful E) where
   abbrev rs : List Report
   rs = reports E (mounted E small) ten
 
-  ten-taken : taken E small ten ≡ true
-  unfolding taken every ten
-  ten-taken =
-      let n : E .takes [] ≡ true = faithful .takes [] refl in
-      let g : E .takes (1 ∷ 2 ∷ []) ≡ true = faithful .takes (1 ∷ 2 ∷ []) refl in
-      rw (faithful .takes small small-bytes, n, g)
-
   number-is : (k : ℕ) → getD (numbers rs) k 0 ≡ getD (0 ∷ 0 ∷ 0 ∷ 0 ∷ 0 ∷ 0 ∷ 0 ∷ 0 ∷ 0 ∷ 7 ∷ []) k 0
-  number-is k = ap (λ (ns : List ℕ). getD ns k 0) (ap numbers (faithful .serves small small-mounts ten ten-taken) ∙ tape-numbers)
+  number-is k = ap (λ (ns : List ℕ). getD ns k 0) (ap numbers (faithful .serves small small-mounts ten in-bytes) ∙ tape-numbers)
 
   byte-is : (k : ℕ) → getD (bytes rs) k 0 ≡ getD (0 ∷ 5 ∷ 0 ∷ 0 ∷ 0 ∷ 1 ∷ 0 ∷ 0 ∷ 1 ∷ 0 ∷ []) k 0
-  byte-is k = ap (λ (ns : List ℕ). getD ns k 0) (ap bytes (faithful .serves small small-mounts ten ten-taken) ∙ tape-bytes)
+  byte-is k = ap (λ (ns : List ℕ). getD ns k 0) (ap bytes (faithful .serves small small-mounts ten in-bytes) ∙ tape-bytes)
 
 -- ---- the impostors
 
 -- an engine that does something else than the plain one with each request
 abbrev instead : (List ℕ → Session → ℕ → Request → List ℕ → List ℕ → After Session) → Engine
-instead f = record { Session = Session; seen = unheld; takes = λ b. true; mount = plainMount; request = f; position = spotOf; look = plainLook }
+instead f = record { Session = Session; seen = unheld; mount = plainMount; request = f; position = spotOf; look = plainLook }
 
 -- "one refusing every request"
 abbrev pub refuser : Engine
@@ -154,7 +147,6 @@ abbrev pub quitter : Engine
 quitter = record {
   Session = Tired;
   seen = λ s. unheld (s .session);
-  takes = λ b. true;
   mount = λ image. record { answer = plainMount image .answer; session = record { session = plainMount image .session; served = false } };
   request = λ image s i q given buffer. tiredly (s .served) image (s .session) i q given buffer;
   position = λ s. spotOf (s .session);

@@ -1,8 +1,11 @@
 pub mod Orderly
+pub mod Bytes
+pub mod Sound
 pub mod Illegal
 pub mod Settled
 pub mod Buffering
 pub mod Passing
+pub mod Running
 pub mod Plain
 pub mod Untouched
 pub mod Agree

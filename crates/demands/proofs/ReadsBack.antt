@@ -21,9 +21,9 @@ use Rattle.tapes.specs.Tape.{Tape, padByte, tapeFacts, tapeDone, tapeNext, tape
 use Rattle.tapes.specs.Model.{Model, nothing, tape, Asked, modelAt, modelsOf, modelFacts, modelNext, modelRecord, modelInto, modelAnswer, modelStep, modelRun, openModels, ifDone}
 use Rattle.packing.specs.Reading.{Recorded}
 use Rattle.serving.proofs.Step.{asked}
-use Rattle.demands.specs.Engine.{Engine, answered, run, mounted, taken}
+use Rattle.demands.specs.Engine.{Engine, answered, run, mounted, areBytes, giveBytes, inBytes}
 use Rattle.demands.specs.Demand2.{Faithful, ReadsBack, RoomAlone, checksBefore3, writing, skipping, asking}
-use Rattle.demands.proofs.Answers.{run-append, taken-more, taken-one, takes-none, same-answer, same-buffer}
+use Rattle.demands.proofs.Answers.{run-append, bytes-more, bytes-one, no-bytes, same-answer, same-buffer}
 use Rattle.demands.proofs.Granules.{lay-whole, granule-back}
 use Rattle.demands.proofs.Plain.{then-counts}
 use Rattle.requests.specs.declared.Answer.{Answer}
@@ -131,14 +131,14 @@ module _ (i : ℕ) (t : Tape) (given : List ℕ) (standing : t .position ≤ len
           rw then-at
           (ap (λ (r : Recorded). r .bytes) (getD-at (take (t .position) (t .records)) (newRecord given t) [] _ (t .position) (length-take-le (t .position) (t .records) standing)))
 
-module _ (E : Engine) (faithful : Faithful E) (image : List ℕ) (ok : mounts image ≡ true) (before : List Asked) (i : ℕ) (t : Tape) (fit : taken E image before ≡ true)
-    (here : modelAt (modelRun (modelsOf image) before) i ≡ tape t) (given : List ℕ) (takes : E .takes given ≡ true) where
+module _ (E : Engine) (faithful : Faithful E) (image : List ℕ) (ok : mounts image ≡ true) (before : List Asked) (i : ℕ) (t : Tape) (fit : inBytes image before ≡ true)
+    (here : modelAt (modelRun (modelsOf image) before) i ≡ tape t) (given : List ℕ) (bytes : areBytes given ≡ true) where
   abbrev ms : List Model
   ms = modelRun (modelsOf image) before
 
   module _ (buffer : List ℕ) (size : length buffer ≡ t .shape .recordLength) (done : answered E (run E (mounted E image) before) (writing i given) .answer ≡ Done) where
     wrote : modelAnswer ms (writing i given) ≡ Done
-    wrote = sym (same-answer E faithful image ok before (writing i given) (taken-one E image before (writing i given) fit takes)) ∙ done
+    wrote = sym (same-answer E faithful image ok before (writing i given) (bytes-one image before (writing i given) fit bytes)) ∙ done
 
     allowed : Writes (tapeFacts (openModels ms) given 0 t)
     allowed = done-allows Write _ (sym (tape-answer ms i t here Write given []) ∙ wrote)
@@ -161,24 +161,23 @@ module _ (E : Engine) (faithful : Faithful E) (image : List ℕ) (ok : mounts im
     abbrev all : List Asked
     all = before ++ (writing i given ∷ skipping i (t .position))
 
-    skips-taken : every (λ a. E .takes (a .given)) (writing i given ∷ skipping i (t .position)) ≡ true
+    skips-bytes : giveBytes (writing i given ∷ skipping i (t .position)) ≡ true
     unfolding every
-    skips-taken =
-        let n : E .takes [] ≡ true = takes-none E faithful in
-        and-both (E .takes given) _ takes (and-both (E .takes []) _ n (every-replicate (λ (a : Asked). E .takes (a .given)) (t .position) _ n))
+    skips-bytes =
+        and-both (areBytes given) _ bytes (and-both (areBytes []) _ no-bytes (every-replicate (λ (a : Asked). areBytes (a .given)) (t .position) _ no-bytes))
 
-    all-taken : taken E image (all ++ (asking i [] buffer ∷ [])) ≡ true
-    all-taken = taken-one E image all (asking i [] buffer) (taken-more E image before _ fit skips-taken) (takes-none E faithful)
+    all-bytes : inBytes image (all ++ (asking i [] buffer ∷ [])) ≡ true
+    all-bytes = bytes-one image all (asking i [] buffer) (bytes-more image before _ fit skips-bytes) (no-bytes)
 
     answers : answered E (run E (mounted E image) all) (asking i [] buffer) .answer ≡ Done
     answers =
-        same-answer E faithful image ok all (asking i [] buffer) all-taken
+        same-answer E faithful image ok all (asking i [] buffer) all-bytes
         ∙ rw (run-append (modelsOf image) before (writing i given ∷ skipping i (t .position))) (back-answer i t given standing used sequential ms here wrote buffer size)
 
     gives : answered E (run E (mounted E image) all) (asking i [] buffer) .buffer ≡ padded (padByte (t .shape .kind)) (t .shape .recordLength) given
     unfolding ifDone
     gives =
-        same-buffer E faithful image ok all (asking i [] buffer) all-taken
+        same-buffer E faithful image ok all (asking i [] buffer) all-bytes
         ∙ rw (
           run-append (modelsOf image) before (writing i given ∷ skipping i (t .position)),
           back-answer i t given standing used sequential ms here wrote buffer size,
@@ -187,8 +186,8 @@ module _ (E : Engine) (faithful : Faithful E) (image : List ℕ) (ok : mounts im
 
 pub reads-back : (E : Engine) → Faithful E → ReadsBack E
 reads-back E faithful = record {
-  back = λ image ok before i t fit here given buffer takes size done.
-      (answers E faithful image ok before i t fit here given takes buffer size done, gives E faithful image ok before i t fit here given takes buffer size done);
+  back = λ image ok before i t fit here given buffer bytes size done.
+      (answers E faithful image ok before i t fit here given bytes buffer size done, gives E faithful image ok before i t fit here given bytes buffer size done);
   granule = granule-back E faithful;
 }
 
@@ -211,7 +210,7 @@ passed (u ∷ ts) f later r e = go (u .holds f) e (passed ts f later (and-right 
     go false h more = more h
 
 module _ (E : Engine) (faithful : Faithful E) (image : List ℕ) (ok : mounts image ≡ true) (before : List Asked) (i : ℕ) (t : Tape) (given : List ℕ) (f : Facts)
-    (fit : taken E image before ≡ true) (takes : E .takes given ≡ true) (here : modelAt (modelRun (modelsOf image) before) i ≡ tape t) (is : f ≡ tapeFacts (openModels (modelRun (modelsOf image) before)) given 0 t)
+    (fit : inBytes image before ≡ true) (bytes : areBytes given ≡ true) (here : modelAt (modelRun (modelsOf image) before) i ≡ tape t) (is : f ≡ tapeFacts (openModels (modelRun (modelsOf image) before)) given 0 t)
     (lawful : firstOf checksBefore3 f ≡ Done) where
   last-test : judge Write f ≡ whether (leb mostRecords (t .position) || isFull f) (Refused NoRoom) Done
   unfolding judge tests firstOf orElse isRefusal every tapeFacts
@@ -220,12 +219,12 @@ module _ (E : Engine) (faithful : Faithful E) (image : List ℕ) (ok : mounts im
       ∙ ap (λ (p : ℕ). whether (leb mostRecords p || isFull f) (Refused NoRoom) Done) (ap (λ (g : Facts). g .position) is)
 
   decides : answered E (run E (mounted E image) before) (writing i given) .answer ≡ whether (leb mostRecords (t .position) || isFull f) (Refused NoRoom) Done
-  decides = same-answer E faithful image ok before (writing i given) (taken-one E image before (writing i given) fit takes) ∙ tape-answer (modelRun (modelsOf image) before) i t here Write given [] ∙ ap (judge Write) (sym is) ∙ last-test
+  decides = same-answer E faithful image ok before (writing i given) (bytes-one image before (writing i given) fit bytes) ∙ tape-answer (modelRun (modelsOf image) before) i t here Write given [] ∙ ap (judge Write) (sym is) ∙ last-test
 
 pub room-alone : (E : Engine) → Faithful E → RoomAlone E
 unfolding whether
 room-alone E faithful = record {
-  refusing = λ image ok before i t given f fit takes here is lawful.
-      let d = decides E faithful image ok before i t given f fit takes here is lawful in
+  refusing = λ image ok before i t given f fit bytes here is lawful.
+      let d = decides E faithful image ok before i t given f fit bytes here is lawful in
       ((λ full. d ∙ rw full), (λ free. d ∙ rw free));
 }

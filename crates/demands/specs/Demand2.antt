@@ -1,13 +1,12 @@
 -- Demand 2: "Each sequential file answers as a tape of records, each random file as a row of granules. What is written reads back. A lawful
 -- write is refused exactly when there is no room or 65,535 records stand before it." As statements over an engine.
 use mathlib.Core.Path.{_≡_}
-use mathlib.Core.Bool.{Bool, true, false, _||_}
+use mathlib.Core.Bool.{true, false, _||_}
 use mathlib.Core.List.{List, [], _∷_, _++_}
 use Prim.Native.Nat.{ℕ, _+_}
 use lib.ListN.{length, replicate}
-use lib.Dec.{leb, ltb}
+use lib.Dec.{leb}
 use Rattle.geometry.specs.Bytes.{padded}
-use Rattle.geometry.specs.Lists.{every}
 use Rattle.geometry.specs.Sizes.{entries, mostRecords}
 use Rattle.directory.specs.Entries.{freeEntry, entryAt, tableOf}
 use Rattle.requests.specs.Judge.{Test, notLegal, noEntry, notOpen, notSequential, isProtected, isBeyond, oddCount, badSize, longCode, firstOf, isFull}
@@ -16,25 +15,20 @@ use Rattle.mounting.specs.Mounting.{mounts, startWith, plainMount}
 use Rattle.tapes.specs.Tape.{Tape, padByte, tapeFacts}
 use Rattle.tapes.specs.Row.{Row}
 use Rattle.tapes.specs.Model.{tape, row, Asked, modelsOf, modelAt, modelReports, modelRun, openModels}
-use Rattle.demands.specs.Engine.{Engine, Standing, reports, run, mounted, answered, taken}
+use Rattle.demands.specs.Engine.{Engine, Standing, reports, run, mounted, answered, areBytes, inBytes}
 use Rattle.requests.specs.declared.Facts.{Facts}
 use Rattle.requests.specs.declared.Order.the-variants.{RewindOnline, RewindOffline, RecordForward}
 use Rattle.requests.specs.declared.Request.the-variants.{Read, Write, GranuleRead, GranuleWrite, Position}
 use Rattle.requests.specs.declared.Refusal.the-variants.{NoRoom}
 use Rattle.requests.specs.declared.Answer.the-variants.{Done, Refused}
 
-abbrev pub isByte : ℕ → Bool
-isByte x = ltb x 256
-
 pub record Faithful (E : Engine) : Type 0 where
-  -- bytes are taken
-  pub takes : (b : List ℕ) → every isByte b ≡ true → E .takes b ≡ true
   -- "Mounting refuses (11) exactly when the length is wrong or the directory is not good"
   pub mounting : (image : List ℕ) → E .mount image .answer ≡ plainMount image .answer
   -- "A refused mounting hands out a table with no used entry and nothing open"
   pub refusedMounting : (image : List ℕ) → mounts image ≡ false → E .seen (E .mount image .session) ≡ unheld (startWith (replicate entries freeEntry))
   -- answers, moved bytes and positions are those of the tapes and rows that the mounted image shows
-  pub serves : (image : List ℕ) → mounts image ≡ true → (asked : List Asked) → taken E image asked ≡ true
+  pub serves : (image : List ℕ) → mounts image ≡ true → (asked : List Asked) → inBytes image asked ≡ true
       → reports E (mounted E image) asked ≡ modelReports (modelsOf image) asked
 
 -- ---- what a caller asks to read record p of entry i back: rewind, skip p records, read
@@ -71,17 +65,17 @@ pub record GranuleBack (E : Engine) (before after : Standing (E .Session)) (i g 
 -- "What is written reads back", "padded with zero, in compressed files with blanks": a write answered 0 where the tape of entry i stands
 -- at p, then a rewinding, p skips and a read
 pub record ReadsBack (E : Engine) : Type 0 where
-  pub back : (image : List ℕ) → mounts image ≡ true → (asked : List Asked) (i : ℕ) (t : Tape) → taken E image asked ≡ true
+  pub back : (image : List ℕ) → mounts image ≡ true → (asked : List Asked) (i : ℕ) (t : Tape) → inBytes image asked ≡ true
       → modelAt (modelRun (modelsOf image) asked) i ≡ tape t
-      → (given buffer : List ℕ) → E .takes given ≡ true → length buffer ≡ t .shape .recordLength
+      → (given buffer : List ℕ) → areBytes given ≡ true → length buffer ≡ t .shape .recordLength
       → answered E (run E (mounted E image) asked) (writing i given) .answer ≡ Done
       → (answered E (run E (mounted E image) (asked ++ (writing i given ∷ skipping i (t .position)))) (asking i [] buffer) .answer ≡ Done)
       × (answered E (run E (mounted E image) (asked ++ (writing i given ∷ skipping i (t .position)))) (asking i [] buffer) .buffer
       ≡ padded (padByte (t .shape .kind)) (t .shape .recordLength) given)
   -- and of a granule, where the row of entry i stands
-  pub granule : (image : List ℕ) → mounts image ≡ true → (asked : List Asked) (i g : ℕ) (w : Row) → taken E image asked ≡ true
+  pub granule : (image : List ℕ) → mounts image ≡ true → (asked : List Asked) (i g : ℕ) (w : Row) → inBytes image asked ≡ true
       → modelAt (modelRun (modelsOf image) asked) i ≡ row w
-      → (given : List ℕ) → E .takes given ≡ true
+      → (given : List ℕ) → areBytes given ≡ true
       → answered E (run E (mounted E image) asked) (granuleWriting i g given) .answer ≡ Done
       → GranuleBack E (run E (mounted E image) asked) (run E (mounted E image) (asked ++ (granuleWriting i g given ∷ []))) i g (w .shape .recordLength) given
 
@@ -92,7 +86,7 @@ checksBefore3 = notLegal ∷ noEntry ∷ notOpen ∷ notSequential ∷ isProtect
 -- "A lawful write is refused exactly when there is no room or 65,535 records stand before it"
 pub record RoomAlone (E : Engine) : Type 0 where
   pub refusing : (image : List ℕ) → mounts image ≡ true → (asked : List Asked) (i : ℕ) (t : Tape) (given : List ℕ) (f : Facts)
-      → taken E image asked ≡ true → E .takes given ≡ true
+      → inBytes image asked ≡ true → areBytes given ≡ true
       → modelAt (modelRun (modelsOf image) asked) i ≡ tape t
       → f ≡ tapeFacts (openModels (modelRun (modelsOf image) asked)) given 0 t
       → firstOf checksBefore3 f ≡ Done
@@ -105,7 +99,7 @@ flagsOf t = elim (t .marked) [ true ↦ 1 | false ↦ 0 ] + elim (t .shape .prot
 
 -- "writing count and flags": the count that a closing stores is the tape's own length, and the flags are its mark and the file's protection
 pub record CountsStored (E : Engine) : Type 0 where
-  pub stored : (image : List ℕ) → mounts image ≡ true → (asked : List Asked) (i : ℕ) (t : Tape) → taken E image asked ≡ true
+  pub stored : (image : List ℕ) → mounts image ≡ true → (asked : List Asked) (i : ℕ) (t : Tape) → inBytes image asked ≡ true
       → modelAt (modelRun (modelsOf image) asked) i ≡ tape t
       → (a : Asked) → a ≡ record { entry = i; request = Position RewindOffline; given = []; buffer = [] }
       → answered E (run E (mounted E image) asked) a .answer ≡ Done

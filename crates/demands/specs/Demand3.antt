@@ -20,7 +20,7 @@ use Rattle.steps.specs.Next.{Scene}
 use Rattle.steps.specs.Effects.{Effect, stamp, effects, Bench, bufferedDo, puttingBack}
 use Rattle.steps.specs.Step.{heldOf}
 use Rattle.tapes.specs.Model.{Asked, modelsOf, modelRun, nothingOpen, opened}
-use Rattle.demands.specs.Engine.{Engine, reports, run, mounted, taken}
+use Rattle.demands.specs.Engine.{Engine, reports, run, mounted, areBytes, inBytes}
 use Rattle.demands.specs.Demand2.{Faithful}
 use Rattle.directory.specs.declared.Entry.{Entry}
 use Rattle.sessions.specs.declared.OpenFile.{OpenFile}
@@ -61,7 +61,7 @@ pub record Agreeing (E F : Engine) (image : List ℕ) (asked : List Asked) : Typ
 pub record Agree (E F : Engine) : Type 0 where
   pub first : Faithful E
   pub second : Faithful F
-  pub agreeing : (image : List ℕ) → mounts image ≡ true → (asked : List Asked) → taken E image asked ≡ true → taken F image asked ≡ true → Agreeing E F image asked
+  pub agreeing : (image : List ℕ) → mounts image ≡ true → (asked : List Asked) → inBytes image asked ≡ true → Agreeing E F image asked
 
 -- ---- the blocking buffer
 
@@ -125,7 +125,7 @@ pub record Buffers (E : Engine) (image : List ℕ) (s : E .Session) (i : ℕ) (g
       → Holds (heldOf (E .seen (E .request image s i Write given buffer .session)) i) (goesIn e (b .file) given)
 
 pub record Buffering (E : Engine) : Type 0 where
-  pub each : (image : List ℕ) (s : E .Session) (i : ℕ) (given buffer : List ℕ) → E .takes image ≡ true → E .takes given ≡ true → typed (E .seen s) ≡ true
+  pub each : (image : List ℕ) (s : E .Session) (i : ℕ) (given buffer : List ℕ) → areBytes image ≡ true → areBytes given ≡ true → typed (E .seen s) ≡ true
       → (isKind blocked (entryAt (E .seen s .table) i) || isKind compressed (entryAt (E .seen s .table) i)) ≡ true
       → Buffers E image s i given buffer (entryAt (E .seen s .table) i) (heldOf (E .seen s) i)
 
