@@ -12,7 +12,7 @@ use Rattle.judging.specs.Lent.{lentAfter}
 use Rattle.board.specs.Board as board
 use Rattle.demands.specs.Engine.{Engine, Standing, stepOf, mounted, areBytes, sound}
 use Rattle.demands.specs.Demand1.{Proper, Orderly, Passes, Passing}
-use Rattle.demands.specs.Demand2.{Faithful, CountsStored}
+use Rattle.demands.specs.Demand2.{closing, Faithful, CountsStored}
 use Rattle.demands.specs.Demand3.{liesIn, goesIn, Holds, Buffers, Buffering}
 use Rattle.demands.proofs.Illegal.{answers-12}
 use Rattle.demands.proofs.Sound.{sound-image}
@@ -138,9 +138,9 @@ module _ {S : Type 0} (seen : S → BufferedSession) (B : board.Engine S) (look 
 
   pub lent-counts : CountsStored F → CountsStored E
   lent-counts counts = record {
-    stored = λ image ok asked i t fit here a is done.
-        let p = counts .stored image ok asked i t fit here a is (sym (then-answer seen B look keeps image asked fit a) ∙ done) in
-        let e = then-image-of seen B look keeps image asked fit a in
+    stored = λ image ok asked i fit m here done.
+        let p = counts .stored image ok asked i fit m here (sym (then-answer seen B look keeps image asked fit (closing i)) ∙ done) in
+        let e = then-image-of seen B look keeps image asked fit (closing i) in
         (ap (λ (x : List ℕ). entryAt (tableOf x) i .count) e ∙ p .0, ap (λ (x : List ℕ). entryAt (tableOf x) i .flags) e ∙ p .1);
   }
 

@@ -23,7 +23,7 @@ use Rattle.settling.proofs.Bench.{length-all}
 use Rattle.settling.proofs.Kept.{Kept, settle-elsewhere, settle-table}
 use Rattle.settling.proofs.Step.{Agrees}
 use Rattle.demands.specs.Engine.{plainEngine, bufferedEngine, Standing, answered, stepOf, run, mounted}
-use Rattle.demands.specs.Demand2.{Faithful, CountsStored}
+use Rattle.demands.specs.Demand2.{closing, Faithful, CountsStored}
 use Rattle.demands.specs.Demand3.{Outside, Untouched, Agreeing, Agree}
 use Rattle.demands.proofs.Plain.{then-stands, then-view, afresh, plain-faithful}
 use Rattle.demands.proofs.Counts.{plain-counts}
@@ -122,7 +122,8 @@ module _ (image : List ℕ) (ok : mounts image ≡ true) (asked : List Asked) (a
 
 pub buffered-counts : CountsStored bufferedEngine
 buffered-counts = record {
-  stored = λ image ok asked i t fit here a is done.
-      let p = plain-counts .stored image ok asked i t fit here a is (sym (then-agrees image ok asked a .answer) ∙ done) in
-      (ap (λ (table : List Entry). entryAt table i .count) (same-table image ok asked a) ∙ p .0, ap (λ (table : List Entry). entryAt table i .flags) (same-table image ok asked a) ∙ p .1);
+  stored = λ image ok asked i fit m here done.
+      let p = plain-counts .stored image ok asked i fit m here (sym (then-agrees image ok asked (closing i) .answer) ∙ done) in
+      let t = same-table image ok asked (closing i) in
+      (ap (λ (table : List Entry). entryAt table i .count) t ∙ p .0, ap (λ (table : List Entry). entryAt table i .flags) t ∙ p .1);
 }

@@ -2,17 +2,21 @@
 use mathlib.Core.Path.{_≡_, refl, sym, ap, _∙_}
 use mathlib.Core.Bool.{true}
 use mathlib.Core.List.{List, [], _∷_, _++_}
-use Prim.Native.Nat.{ℕ}
-use lib.ListN.{length, getD}
+use Prim.Native.Nat.{ℕ, _<_}
+use native.Mathlib.Omega.{arith}
+use native.Mathlib.Decide.{decLt}
+use lib.ListN.{length, getD, set, length-set, List·getD-eq-default}
+use lib.Seq.{getD-set-same}
 use Rattle.geometry.specs.Bytes.{lay}
 use Rattle.geometry.specs.Lists.{every}
 use Rattle.geometry.proofs.Tests.{and-left, and-right, and-both}
 use Rattle.directory.proofs.Free.{every-append}
 use Rattle.requests.proofs.Numbers.{same-number}
 use Rattle.mounting.specs.Mounting.{mounts}
-use Rattle.tapes.specs.Model.{Model, Asked, Report, modelAt, modelsOf, modelInto, modelShown, modelAnswer, modelStep, modelReport, modelReports, modelRun, ifDone}
+use Rattle.tapes.specs.Model.{Model, nothing, Asked, Report, modelAt, modelsOf, modelNext, modelInto, modelShown, modelAnswer, modelStep, modelReport, modelReports, modelRun, ifDone}
 use Rattle.demands.specs.Engine.{Engine, Standing, shownBy, answered, stepOf, reportOf, reports, run, mounted, areBytes, giveBytes, inBytes}
 use Rattle.demands.specs.Demand2.{Faithful}
+use Rattle.requests.specs.declared.Answer.{Answer}
 
 -- ---- runs in bytes
 
@@ -56,6 +60,20 @@ pub run-append : (ms : List Model) (p q : List Asked) → modelRun ms (p ++ q) �
 unfolding modelRun
 run-append ms [] q = refl
 run-append ms (a ∷ p) q = run-append (modelStep ms a) p q
+
+-- what a request makes of its own model
+pub step-at : (ms : List Model) (a : Asked) (x : Answer) → modelAnswer ms a ≡ x → modelAt (modelStep ms a) (a .entry) ≡ modelNext (a .request) x (a .given) (modelAt ms (a .entry))
+unfolding modelStep
+step-at ms a x e = go (decLt (a .entry) (length ms))
+  where
+    none : ¬ (a .entry < length ms) → modelNext (a .request) x (a .given) (modelAt ms (a .entry)) ≡ nothing
+    none h = unfold modelNext in ap (modelNext (a .request) x (a .given)) (List·getD-eq-default ms nothing {n = a .entry} (omega arith))
+
+    go : Dec (a .entry < length ms) → modelAt (modelStep ms a) (a .entry) ≡ modelNext (a .request) x (a .given) (modelAt ms (a .entry))
+    go (yes h) = getD-set-same ms (a .entry) _ nothing h ∙ rw e
+    go (no h) =
+        let l : length (set ms (a .entry) (modelNext (a .request) (modelAnswer ms a) (a .given) (modelAt ms (a .entry)))) ≡ length ms = length-set ms (a .entry) _ in
+        List·getD-eq-default (modelStep ms a) nothing {n = a .entry} (omega arith) ∙ sym (none h)
 
 module _ (E : Engine) (faithful : Faithful E) (image : List ℕ) (ok : mounts image ≡ true) (asked : List Asked) (a : Asked)
     (fit : inBytes image (asked ++ (a ∷ [])) ≡ true) where

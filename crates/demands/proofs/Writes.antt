@@ -33,8 +33,8 @@ use Rattle.steps.proofs.Standing.{withBuffer, held-file}
 use Rattle.settling.proofs.Next.{entry-shape, shape-at}
 use Rattle.tapes.specs.Model.{Asked}
 use Rattle.demands.specs.Engine.{Engine, plainEngine, bufferedEngine, Standing, answered, stepOf, reportOf, reports, run}
-use Rattle.demands.specs.Demand2.{writing}
-use Rattle.demands.specs.Writes.{plainWrites, backWrites, takeWrites, bufferedWrites, effectsOf, plainSum, bufferedSum, benchOf, plainCount, bufferedCount, inRun, allDone, records, closing, Counted, BlockedAt, Saving}
+use Rattle.demands.specs.Demand2.{writing, closing}
+use Rattle.demands.specs.Writes.{plainWrites, backWrites, takeWrites, bufferedWrites, effectsOf, plainSum, bufferedSum, benchOf, plainCount, bufferedCount, inRun, allDone, records, Counted, BlockedAt, Saving}
 use Rattle.requests.proofs.Numbers.{done-is}
 use Rattle.demands.proofs.Buffering.{allowed, left-is}
 use Rattle.directory.specs.declared.Entry.{Entry}

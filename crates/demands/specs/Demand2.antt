@@ -3,8 +3,8 @@
 use mathlib.Core.Path.{_≡_}
 use mathlib.Core.Bool.{true, false, _||_}
 use mathlib.Core.List.{List, [], _∷_, _++_}
-use Prim.Native.Nat.{ℕ, _+_}
-use lib.ListN.{length, replicate}
+use Prim.Native.Nat.{ℕ, _+_, _≤_}
+use lib.ListN.{length, drop, replicate}
 use lib.Dec.{leb}
 use Rattle.geometry.specs.Bytes.{padded}
 use Rattle.geometry.specs.Sizes.{entries, mostRecords}
@@ -14,7 +14,7 @@ use Rattle.sessions.specs.Session.{unheld}
 use Rattle.mounting.specs.Mounting.{mounts, startWith, plainMount}
 use Rattle.tapes.specs.Tape.{Tape, padByte, tapeFacts}
 use Rattle.tapes.specs.Row.{Row}
-use Rattle.tapes.specs.Model.{tape, row, Asked, modelsOf, modelAt, modelReports, modelRun, openModels}
+use Rattle.tapes.specs.Model.{Model, nothing, tape, row, Asked, modelsOf, modelAt, modelReports, modelRun, openModels}
 use Rattle.demands.specs.Engine.{Engine, Standing, reports, run, mounted, answered, areBytes, inBytes}
 use Rattle.requests.specs.declared.Facts.{Facts}
 use Rattle.requests.specs.declared.Order.the-variants.{RewindOnline, RewindOffline, RecordForward}
@@ -52,10 +52,11 @@ granuleWriting i g given = record { entry = i; request = GranuleWrite g; given =
 abbrev pub granuleReading : ℕ → ℕ → List ℕ → Asked
 granuleReading i g buffer = record { entry = i; request = GranuleRead g; given = []; buffer = buffer }
 
--- from before a write of granule g to behind it: a read and a look of it give the bytes given, padded with zero; of any other granule they give the same
+-- from before a write of granule g to behind it: a read and a look of it give the bytes given, padded with zero, a read in the first R bytes of a buffer
+-- that has as many or more; of any other granule they give the same
 pub record GranuleBack (E : Engine) (before after : Standing (E .Session)) (i g R : ℕ) (given : List ℕ) : Type 0 where
-  pub reads : (buffer : List ℕ) → length buffer ≡ R
-      → (answered E after (granuleReading i g buffer) .answer ≡ Done) × (answered E after (granuleReading i g buffer) .buffer ≡ padded 0 R given)
+  pub reads : (buffer : List ℕ) → R ≤ length buffer
+      → (answered E after (granuleReading i g buffer) .answer ≡ Done) × (answered E after (granuleReading i g buffer) .buffer ≡ padded 0 R given ++ drop R buffer)
   pub shows : E .look (after .image) (after .session) i g ≡ padded 0 R given
   pub others : (h : ℕ) → ¬ (h ≡ g) → (buffer : List ℕ)
       → (answered E after (granuleReading i h buffer) .answer ≡ answered E before (granuleReading i h buffer) .answer)
@@ -63,15 +64,15 @@ pub record GranuleBack (E : Engine) (before after : Standing (E .Session)) (i g 
       × (E .look (after .image) (after .session) i h ≡ E .look (before .image) (before .session) i h)
 
 -- "What is written reads back", "padded with zero, in compressed files with blanks": a write answered 0 where the tape of entry i stands
--- at p, then a rewinding, p skips and a read
+-- at p, then a rewinding, p skips and a read, with a buffer of R bytes or more; "A read answered 0 changes the first R bytes of the buffer only"
 pub record ReadsBack (E : Engine) : Type 0 where
   pub back : (image : List ℕ) → mounts image ≡ true → (asked : List Asked) (i : ℕ) (t : Tape) → inBytes image asked ≡ true
       → modelAt (modelRun (modelsOf image) asked) i ≡ tape t
-      → (given buffer : List ℕ) → areBytes given ≡ true → length buffer ≡ t .shape .recordLength
+      → (given buffer : List ℕ) → areBytes given ≡ true → t .shape .recordLength ≤ length buffer
       → answered E (run E (mounted E image) asked) (writing i given) .answer ≡ Done
       → (answered E (run E (mounted E image) (asked ++ (writing i given ∷ skipping i (t .position)))) (asking i [] buffer) .answer ≡ Done)
       × (answered E (run E (mounted E image) (asked ++ (writing i given ∷ skipping i (t .position)))) (asking i [] buffer) .buffer
-      ≡ padded (padByte (t .shape .kind)) (t .shape .recordLength) given)
+      ≡ padded (padByte (t .shape .kind)) (t .shape .recordLength) given ++ drop (t .shape .recordLength) buffer)
   -- and of a granule, where the row of entry i stands
   pub granule : (image : List ℕ) → mounts image ≡ true → (asked : List Asked) (i g : ℕ) (w : Row) → inBytes image asked ≡ true
       → modelAt (modelRun (modelsOf image) asked) i ≡ row w
@@ -93,15 +94,26 @@ pub record RoomAlone (E : Engine) : Type 0 where
       → (((leb mostRecords (t .position) || isFull f) ≡ true → answered E (run E (mounted E image) asked) (writing i given) .answer ≡ Refused NoRoom)
       × ((leb mostRecords (t .position) || isFull f) ≡ false → answered E (run E (mounted E image) asked) (writing i given) .answer ≡ Done))
 
--- "flags: 1 marked, 2 write protected, 3 both"
-unfoldable pub flagsOf : Tape → ℕ
-flagsOf t = elim (t .marked) [ true ↦ 1 | false ↦ 0 ] + elim (t .shape .protected) [ true ↦ 2 | false ↦ 0 ]
+-- the count and the flags of a file: "flags: 1 marked, 2 write protected, 3 both"; "kind 4 has count 0 and is not marked"
+unfoldable pub countOf : Model → ℕ
+countOf nothing = 0
+countOf (tape t) = length (t .records)
+countOf (row w) = 0
 
--- "writing count and flags": the count that a closing stores is the tape's own length, and the flags are its mark and the file's protection
+unfoldable pub flagsOf : Model → ℕ
+flagsOf nothing = 0
+flagsOf (tape t) = elim (t .marked) [ true ↦ 1 | false ↦ 0 ] + elim (t .shape .protected) [ true ↦ 2 | false ↦ 0 ]
+flagsOf (row w) = elim (w .shape .protected) [ true ↦ 2 | false ↦ 0 ]
+
+-- the file is closed
+abbrev pub closing : ℕ → Asked
+closing i = record { entry = i; request = Position RewindOffline; given = []; buffer = [] }
+
+-- "close, writing count and flags to bytes 16–19 of the entry": the count that a closing stores is the tape's own length, and the flags are its mark and
+-- the file's protection
 pub record CountsStored (E : Engine) : Type 0 where
-  pub stored : (image : List ℕ) → mounts image ≡ true → (asked : List Asked) (i : ℕ) (t : Tape) → inBytes image asked ≡ true
-      → modelAt (modelRun (modelsOf image) asked) i ≡ tape t
-      → (a : Asked) → a ≡ record { entry = i; request = Position RewindOffline; given = []; buffer = [] }
-      → answered E (run E (mounted E image) asked) a .answer ≡ Done
-      → (entryAt (tableOf (answered E (run E (mounted E image) asked) a .image)) i .count ≡ length (t .records))
-      × (entryAt (tableOf (answered E (run E (mounted E image) asked) a .image)) i .flags ≡ flagsOf t)
+  pub stored : (image : List ℕ) → mounts image ≡ true → (asked : List Asked) (i : ℕ) → inBytes image asked ≡ true
+      → (m : Model) → modelAt (modelRun (modelsOf image) asked) i ≡ m
+      → answered E (run E (mounted E image) asked) (closing i) .answer ≡ Done
+      → (entryAt (tableOf (answered E (run E (mounted E image) asked) (closing i) .image)) i .count ≡ countOf m)
+      × (entryAt (tableOf (answered E (run E (mounted E image) asked) (closing i) .image)) i .flags ≡ flagsOf m)

@@ -17,12 +17,10 @@ use Rattle.steps.specs.Next.{Scene}
 use Rattle.steps.specs.Step.{heldOf, plainScene, bufferedScene}
 use Rattle.tapes.specs.Model.{Asked}
 use Rattle.demands.specs.Engine.{Engine, plainEngine, bufferedEngine, Standing, answered, stepOf, reports}
-use Rattle.demands.specs.Demand2.{writing}
+use Rattle.demands.specs.Demand2.{writing, closing}
 use Rattle.requests.specs.declared.Answer.{Answer}
 use Rattle.requests.specs.declared.Answer.the-variants.{Done, Met, Refused}
-use Rattle.requests.specs.declared.Order.the-variants.{RewindOffline}
 use Rattle.requests.specs.declared.Request.{Request}
-use Rattle.requests.specs.declared.Request.the-variants.{Position}
 use Rattle.sessions.specs.declared.BufferedSession.{BufferedSession}
 use Rattle.sessions.specs.declared.Session.{Session}
 
@@ -94,10 +92,6 @@ allDone E w asked = every (λ r. eqb (r .number) 0) (reports E w asked)
 -- records written to entry i one behind another
 abbrev pub records : ℕ → List (List ℕ) → List Asked
 records i givens = map (writing i) givens
-
--- and the file then closed
-abbrev pub closing : ℕ → Asked
-closing i = record { entry = i; request = Position RewindOffline; given = []; buffer = [] }
 
 -- ---- what is saved
 
