@@ -1,40 +1,28 @@
 -- What is proved of an engine on sessions as values holds of it on lent bytes. One argument for both engines.
-use mathlib.Core.Path.{_≡_, sym, ap, subst, _∙_}
-use mathlib.Core.Bool.{Bool, true, false}
+use mathlib.Core.Path.{_≡_, refl, sym, ap, subst, _∙_}
+use mathlib.Core.Bool.{true, false}
 use mathlib.Core.List.{List}
 use Prim.Native.Nat.{ℕ}
-use Rattle.geometry.proofs.Tests.{either, both-ways, chosen, not-chosen}
+use lib.Dec.{eqb}
+use Rattle.geometry.specs.Lists.{every}
+use Rattle.geometry.proofs.Tests.{either, chosen, not-chosen}
 use Rattle.directory.specs.Entries.{entryAt, tableOf}
 use Rattle.directory.specs.declared.Entry.{Entry}
-use Rattle.sessions.specs.Session.{extentWith, bufferedLegal}
-use Rattle.steps.specs.Step.{After, heldOf}
+use Rattle.sessions.specs.Session.{bufferedLegal}
+use Rattle.steps.specs.Step.{After}
+use Rattle.tapes.specs.Model.{Asked, Report}
 use Rattle.judging.specs.Lent.{lentAfter}
 use Rattle.board.specs.Board as board
-use Rattle.demands.specs.Engine.{Engine, Standing, stepOf, mounted, areBytes, sound}
+use Rattle.demands.specs.Engine.{Engine, Standing, answered, stepOf, mounted, areBytes, sound}
 use Rattle.demands.specs.Demand1.{Proper, Orderly, Passes, Passing}
 use Rattle.demands.specs.Demand2.{closing, Faithful, CountsStored}
-use Rattle.demands.specs.Demand3.{liesIn, goesIn, Holds, Buffers, Buffering}
-use Rattle.demands.proofs.Illegal.{answers-12}
+use Rattle.demands.specs.Buffer.{deskAt, Buffered, Buffering}
+use Rattle.demands.specs.Writes.{plainCount, bufferedCount, inRun, allDone, Counted, Writing}
 use Rattle.demands.proofs.Sound.{sound-image}
 use Rattle.callers.specs.Lent.{lentEngine}
-use Rattle.callers.proofs.Runs.{valueEngine, Back, Keeps, Fine, opened, opened-then, then-reports, then-answer, then-image-of}
-use Rattle.requests.specs.declared.Answer.{Answer}
-use Rattle.requests.specs.declared.Answer.the-variants.{Done, Met, Refused}
-use Rattle.requests.specs.declared.Edge.{Edge}
+use Rattle.callers.proofs.Runs.{valueEngine, Keeps, opened, read-left, opened-then, run-reports, run-sum, then-reports, then-answer, then-image-of}
 use Rattle.requests.specs.declared.Request.{Request}
-use Rattle.requests.specs.declared.Request.the-variants.{Read, Write}
-use Rattle.sessions.specs.declared.BufferedFile.{BufferedFile}
 use Rattle.sessions.specs.declared.BufferedSession.{BufferedSession}
-
-isDone : Answer → Bool
-isDone Done = true
-isDone (Met x) = false
-isDone (Refused x) = false
-
-isMet : Answer → Bool
-isMet Done = false
-isMet (Met x) = true
-isMet (Refused x) = false
 
 module _ {S : Type 0} (seen : S → BufferedSession) (B : board.Engine S) (look : List ℕ → S → ℕ → ℕ → List ℕ)
     (keeps : Keeps seen B look) where
@@ -61,26 +49,9 @@ module _ {S : Type 0} (seen : S → BufferedSession) (B : board.Engine S) (look 
     unfolding lentAfter
     told-not h = not-chosen (B .isSession b) (B .stored (r .session)) b h
 
-    told-read : B .isSession b ≡ true → Back B (r .session) → B .read (l .session) ≡ r .session
-    told-read h k = ap (B .read) (told-stored h) ∙ k .1
-
     -- nothing changed
     kept : r .session ≡ B .read b → l .session ≡ b
     kept e = either (B .isSession b) (λ h. told-stored h ∙ ap (B .stored) e ∙ keeps .same b h) told-not
-
-    -- bytes that are no session meet nothing
-    met-read : (x : Edge) → r .answer ≡ Met x → B .read (l .session) ≡ r .session
-    unfolding isMet
-    met-read x e = either (B .isSession b)
-        (λ h. told-read h (keeps .meets image b i q given buffer x e))
-        (λ h. both-ways (isMet (r .answer)) (ap isMet e) (ap isMet (answers-12 F (keeps .orderly) image (B .read b) i q given buffer (keeps .refuses image b h))))
-
-    -- nor are they served
-    done-read : areBytes image ≡ true → areBytes given ≡ true → r .answer ≡ Done → B .read (l .session) ≡ r .session
-    unfolding isDone
-    done-read x y e = either (B .isSession b)
-        (λ h. told-read h (keeps .goes image b i q given buffer x y))
-        (λ h. both-ways (isDone (r .answer)) (ap isDone e) (ap isDone (answers-12 F (keeps .orderly) image (B .read b) i q given buffer (keeps .refuses image b h))))
 
     lent-proper : Proper E image b i q given buffer l
     unfolding lentAfter
@@ -89,7 +60,7 @@ module _ {S : Type 0} (seen : S → BufferedSession) (B : board.Engine S) (look 
         record {
           ordered = p .ordered;
           refused = λ x e. let n = p .refused x e in (n .0, kept (n .1), n .2);
-          met = λ x e. let n = p .met x e in (n .0, ap seen (met-read x e) ∙ n .1, n .2);
+          met = λ x e. let n = p .met x e in (n .0, ap seen (read-left seen B look keeps image b i q given buffer (keeps .meets image b i q given buffer x e)) ∙ n .1, n .2);
           bufferRest = p .bufferRest;
           bufferSize = p .bufferSize;
         }
@@ -104,25 +75,18 @@ module _ {S : Type 0} (seen : S → BufferedSession) (B : board.Engine S) (look 
         record { inPlace = λ d. keeps .shows image b i g ∙ p .inPlace d; empty = λ x e. keeps .shows image b i g ∙ p .empty x e };
   }
 
-  -- the bytes of a legal session are one
-  legal-told : (image b : List ℕ) → bufferedLegal image (seen (B .read b)) ≡ true → B .isSession b ≡ true
-  legal-told image b ok = either (B .isSession b) (λ h. h) (λ h. both-ways (bufferedLegal image (seen (B .read b))) ok (keeps .refuses image b h))
-
-  pub passes-fine : (w : Standing (List ℕ)) → Passes E w → Fine seen B look keeps w
-  passes-fine w p = record { told = legal-told (w .image) (w .session) (p .isLegal); bytes = sound-image (w .image) (seen (B .read (w .session))) (p .isSound) }
-
   pub lent-passing : Passing E
   unfolding mounted
   lent-passing = record {
     mounting = λ image b ok.
         let p : Passes F (mounted F image) = keeps .passing .mounting image b ok in
         record {
-          isSound = ap (λ (s : S). sound image (seen s)) (keeps .starts image .1) ∙ p .isSound;
-          isLegal = ap (λ (s : S). bufferedLegal image (seen s)) (keeps .starts image .1) ∙ p .isLegal;
+          isSound = ap (λ (s : S). sound image (seen s)) (keeps .starts image) ∙ p .isSound;
+          isLegal = ap (λ (s : S). bufferedLegal image (seen s)) (keeps .starts image) ∙ p .isLegal;
         };
     requests = λ w p a gives.
         let q : Passes F (opened seen B look keeps (stepOf E w a)) =
-        subst (λ (v : Standing S). Passes F v) (sym (opened-then seen B look keeps w (passes-fine w p) a gives))
+        subst (λ (v : Standing S). Passes F v) (sym (opened-then seen B look keeps w a (sound-image (w .image) (seen (B .read (w .session))) (p .isSound)) gives))
         (keeps .passing .requests (opened seen B look keeps w) (record { isSound = p .isSound; isLegal = p .isLegal }) a gives) in
         record { isSound = q .isSound; isLegal = q .isLegal };
   }
@@ -132,7 +96,7 @@ module _ {S : Type 0} (seen : S → BufferedSession) (B : board.Engine S) (look 
   pub lent-faithful : Faithful F → Faithful E
   lent-faithful faithful = record {
     mounting = faithful .mounting;
-    refusedMounting = λ image e. ap seen (keeps .starts image .1) ∙ faithful .refusedMounting image e;
+    refusedMounting = λ image e. ap seen (keeps .starts image) ∙ faithful .refusedMounting image e;
     serves = λ image ok asked fit. then-reports seen B look keeps image asked fit ∙ faithful .serves image ok asked fit;
   }
 
@@ -146,18 +110,52 @@ module _ {S : Type 0} (seen : S → BufferedSession) (B : board.Engine S) (look 
 
   -- ---- the blocking buffer
 
-  lent-buffers : (image b : List ℕ) (i : ℕ) (given buffer : List ℕ) → areBytes image ≡ true → areBytes given ≡ true → (e : Entry) (h : BufferedFile)
-      → Buffers F image (B .read b) i given buffer e h → Buffers E image b i given buffer e h
-  unfolding lentAfter
-  lent-buffers image b i given buffer x y e h p = record {
-    inside = p .inside;
-    readInside = p .readInside;
-    ordered = p .ordered;
-    readHolds = λ d. subst (λ (s : S). Holds (heldOf (seen s) i) (liesIn e (h .file) (extentWith e h image))) (sym (done-read image b i Read given buffer x y d)) (p .readHolds d);
-    writeHolds = λ d. subst (λ (s : S). Holds (heldOf (seen s) i) (goesIn e (h .file) given)) (sym (done-read image b i Write given buffer x y d)) (p .writeHolds d);
-  }
+  value-buffered : (w : Standing (List ℕ)) (a : Asked) (i : ℕ) (e : Entry) → Buffered E w a i e → Buffered F (opened seen B look keeps w) a i e
+  value-buffered w a i e b = record { isSound = b .isSound; bytes = b .bytes; its = b .its; kind = b .kind }
+
+  desk-then : (w : Standing (List ℕ)) (a : Asked) (i : ℕ) (e : Entry) → Buffered E w a i e → deskAt E (stepOf E w a) e i ≡ deskAt F (stepOf F (opened seen B look keeps w) a) e i
+  desk-then w a i e b =
+      ap (λ (v : Standing S). deskAt F v e i) (opened-then seen B look keeps w a (sound-image (w .image) (seen (B .read (w .session))) (b .isSound)) (b .bytes))
 
   pub lent-buffering : Buffering F → Buffering E
+  unfolding answered lentAfter
   lent-buffering buffering = record {
-    each = λ image b i given buffer x y t k. lent-buffers image b i given buffer x y _ _ (buffering .each image (B .read b) i given buffer x y t k);
+    own = λ w a e b. desk-then w a (a .entry) e b ∙ buffering .own (opened seen B look keeps w) a e (value-buffered w a (a .entry) e b);
+    others = λ w a i e b n. desk-then w a i e b ∙ buffering .others (opened seen B look keeps w) a i e (value-buffered w a i e b) n;
+    inside = λ w a e b. buffering .inside (opened seen B look keeps w) a e (value-buffered w a (a .entry) e b);
   }
+
+  -- ---- the sectors written
+
+  pub lent-plain-counted : Counted F (plainCount F) → Counted E (plainCount E)
+  unfolding answered lentAfter plainCount
+  lent-plain-counted counted = record { none = λ w a. counted .none (opened seen B look keeps w) a }
+
+  pub lent-buffered-counted : Counted F (bufferedCount F) → Counted E (bufferedCount E)
+  unfolding answered lentAfter bufferedCount
+  lent-buffered-counted counted = record { none = λ w a. counted .none (opened seen B look keeps w) a }
+
+  -- a run from bytes that are given bytes
+  module _ (w : Standing (List ℕ)) (i p q : ℕ) (asked : List Asked) (b : Writing E w i p q asked) where
+    abbrev v : Standing S
+    v = opened seen B look keeps w
+
+    bytes : areBytes (w .image) ≡ true
+    bytes = sound-image (w .image) (seen (B .read (w .session))) (b .isSound)
+
+    pub value-writing : Writing F v i p q asked
+    unfolding allDone
+    value-writing = record {
+      isSound = b .isSound;
+      standing = b .standing;
+      bytes = b .bytes;
+      done = ap (every (λ (r : Report). eqb (r .number) 0)) (sym (run-reports seen B look keeps w bytes asked (b .bytes))) ∙ b .done;
+    }
+
+    pub plain-sum : inRun E (plainCount E) w asked ≡ inRun F (plainCount F) v asked
+    unfolding plainCount answered lentAfter
+    plain-sum = run-sum seen B look keeps (plainCount E) (plainCount F) (λ w a. refl) w bytes asked (b .bytes)
+
+    pub buffered-sum : inRun E (bufferedCount E) w asked ≡ inRun F (bufferedCount F) v asked
+    unfolding bufferedCount answered lentAfter
+    buffered-sum = run-sum seen B look keeps (bufferedCount E) (bufferedCount F) (λ w a. refl) w bytes asked (b .bytes)

@@ -2,24 +2,30 @@
 -- sessions as values holds of them.
 use mathlib.Core.Path.{_≡_, sym, ap, _∙_}
 use mathlib.Core.Bool.{true}
-use mathlib.Core.List.{List}
-use Prim.Native.Nat.{ℕ}
+use mathlib.Core.List.{List, [], _∷_, _++_}
+use Prim.Native.Nat.{ℕ, _*_}
 use lib.ListN.{length, getD}
+use Rattle.geometry.specs.Bytes.{part}
+use Rattle.geometry.specs.Sizes.{sector}
+use Rattle.directory.specs.Entries.{entryAt}
 use Rattle.mounting.specs.Mounting.{mounts, plainMount, bufferedMount}
-use Rattle.sessions.specs.Session.{unheld, typed}
+use Rattle.sessions.specs.Session.{unheld, extent, typed}
+use Rattle.sessions.specs.declared.BufferedSession.{BufferedSession}
 use Rattle.sessions.proofs.Unheld.{unheld-legal}
+use Rattle.steps.specs.Step.{heldOf}
 use Rattle.steps.specs.Look.{plainLook, bufferedLook}
-use Rattle.steps.specs.Step.{plainStep}
 use Rattle.tapes.specs.Model.{Asked, modelsOf}
 use Rattle.storing.specs.Stored.{sessionIn, bufferedIn}
-use Rattle.storing.proofs.Laws.{stored-told, stored-back, stored-kept, buffered-told, buffered-back, buffered-kept}
+use Rattle.storing.proofs.Laws.{stored-back, stored-kept, buffered-back, buffered-kept}
 use Rattle.storing.proofs.Illegal.{none-legal, none-legal-buffered}
 use Rattle.board.specs.Board as board
 use Rattle.board.proofs.Looks.{plain-shows, buffered-shows}
-use Rattle.demands.specs.Engine.{plainEngine, bufferedEngine, run, mounted, inBytes}
+use Rattle.demands.specs.Engine.{plainEngine, bufferedEngine, Standing, run, mounted, inBytes}
 use Rattle.demands.specs.Demand1.{Orderly, Passing, Running}
-use Rattle.demands.specs.Demand2.{Faithful, ReadsBack, RoomAlone, CountsStored}
-use Rattle.demands.specs.Demand3.{Agreeing, Agree, Buffering}
+use Rattle.demands.specs.Demand2.{closing, Faithful, ReadsBack, RoomAlone, CountsStored}
+use Rattle.demands.specs.Demand3.{Agreeing, Agree}
+use Rattle.demands.specs.Buffer.{Buffering, Holding}
+use Rattle.demands.specs.Writes.{plainCount, bufferedCount, inRun, records, Counted, Writing, Saving}
 use Rattle.demands.proofs.Orderly.{plain-orderly, buffered-orderly}
 use Rattle.demands.proofs.Plain.{plain-faithful}
 use Rattle.demands.proofs.Passing.{plain-passing, buffered-passing}
@@ -27,17 +33,18 @@ use Rattle.demands.proofs.Sound.{unheld-sound}
 use Rattle.demands.proofs.Agree.{buffered-faithful, buffered-counts, agree}
 use Rattle.demands.proofs.Buffering.{buffering}
 use Rattle.demands.proofs.Counts.{plain-counts}
+use Rattle.demands.proofs.Holding.{holding}
+use Rattle.demands.proofs.Writes.{plain-counted, buffered-counted, saving}
 use Rattle.demands.proofs.Running.{running}
 use Rattle.demands.proofs.ReadsBack.{reads-back, room-alone}
 use Rattle.callers.specs.Lent.{lentPlain, lentBuffered, Called}
 use Rattle.callers.proofs.Called.{called}
-use Rattle.callers.proofs.Demands.{lent-orderly, lent-passing, lent-faithful, lent-counts, lent-buffering}
+use Rattle.callers.proofs.Demands.{lent-orderly, lent-passing, lent-faithful, lent-counts, lent-buffering, lent-plain-counted, lent-buffered-counted, value-writing, plain-sum, buffered-sum}
 use Rattle.callers.proofs.Held.{fits-typed, fits-sound, step-fits, step-met-fits}
 use Rattle.callers.proofs.Next.{plain-fits}
 use Rattle.callers.proofs.Read.{read-fits, read-fits-buffered}
-use Rattle.callers.proofs.Runs.{Keeps, then-reports, then-image}
+use Rattle.callers.proofs.Runs.{Keeps, then-opened, then-reports, then-image}
 use Rattle.callers.proofs.Start.{mount-fits, unheld-fits, mount-fits-buffered}
-use Rattle.requests.specs.declared.Request.{Request}
 
 -- ---- every session in lent bytes is as its type says
 
@@ -54,17 +61,10 @@ plain-keeps = record {
   same = stored-kept;
   reads = λ image b bytes. unheld-sound image (sessionIn b) bytes (lent-plain-typed b);
   refuses = λ image b h. unheld-legal image (sessionIn b) ∙ none-legal image b h;
-  starts = λ image. (stored-told (plainMount image .session) (mount-fits image), stored-back (plainMount image .session) (mount-fits image));
-  goes = λ image b i q given buffer x y. went image b i q given buffer;
-  meets = λ image b i q given buffer x e. went image b i q given buffer;
+  starts = λ image. stored-back (plainMount image .session) (mount-fits image);
+  goes = λ image b i q given buffer x y. stored-back _ (plain-fits image (sessionIn b) (read-fits b) i q given buffer);
+  meets = λ image b i q given buffer x e. stored-back _ (plain-fits image (sessionIn b) (read-fits b) i q given buffer);
 }
-  where
-    went : (image b : List ℕ) (i : ℕ) (q : Request) (given buffer : List ℕ)
-        → (board.plainEngine .isSession (board.plainEngine .stored (plainStep image (sessionIn b) i q given buffer .session)) ≡ true)
-        × (sessionIn (board.plainEngine .stored (plainStep image (sessionIn b) i q given buffer .session)) ≡ plainStep image (sessionIn b) i q given buffer .session)
-    went image b i q given buffer =
-        let f = plain-fits image (sessionIn b) (read-fits b) i q given buffer in
-        (stored-told _ f, stored-back _ f)
 
 buffered-keeps : Keeps (λ s. s) board.bufferedEngine bufferedLook
 buffered-keeps = record {
@@ -74,13 +74,9 @@ buffered-keeps = record {
   same = buffered-kept;
   reads = λ image b bytes. fits-sound image (bufferedIn b) bytes (read-fits-buffered b);
   refuses = none-legal-buffered;
-  starts = λ image. (buffered-told (bufferedMount image .session) (mount-fits-buffered image), buffered-back (bufferedMount image .session) (mount-fits-buffered image));
-  goes = λ image b i q given buffer x y.
-      let f = step-fits image (bufferedIn b) (read-fits-buffered b) i q given buffer x y in
-      (buffered-told _ f, buffered-back _ f);
-  meets = λ image b i q given buffer x e.
-      let f = step-met-fits image (bufferedIn b) (read-fits-buffered b) i q given buffer x e in
-      (buffered-told _ f, buffered-back _ f);
+  starts = λ image. buffered-back (bufferedMount image .session) (mount-fits-buffered image);
+  goes = λ image b i q given buffer x y. buffered-back _ (step-fits image (bufferedIn b) (read-fits-buffered b) i q given buffer x y);
+  meets = λ image b i q given buffer x e. buffered-back _ (step-met-fits image (bufferedIn b) (read-fits-buffered b) i q given buffer x e);
 }
 
 -- ---- demand 1
@@ -141,6 +137,9 @@ module _ (image : List ℕ) (ok : mounts image ≡ true) (asked : List Asked) (f
   buffered-image : run lentBuffered (mounted lentBuffered image) asked .image ≡ run bufferedEngine (mounted bufferedEngine image) asked .image
   buffered-image = then-image (λ s. s) board.bufferedEngine bufferedLook buffered-keeps image asked fit
 
+  buffered-session : bufferedIn (run lentBuffered (mounted lentBuffered image) asked .session) ≡ run bufferedEngine (mounted bufferedEngine image) asked .session
+  buffered-session = ap (λ (v : Standing BufferedSession). v .session) (then-opened (λ s. s) board.bufferedEngine bufferedLook buffered-keeps image asked fit)
+
   lent-agreeing : Agreeing lentPlain lentBuffered image asked
   lent-agreeing = record {
     alike =
@@ -154,6 +153,9 @@ module _ (image : List ℕ) (ok : mounts image ≡ true) (asked : List Asked) (f
     whenIdle = λ z.
         let n = on-values .whenIdle z in
         (plain-image ∙ n .0 ∙ sym buffered-image, ap mounts plain-image ∙ n .1, ap modelsOf plain-image ∙ n .2);
+    held = λ i e b p k q h.
+        on-values .held i e b (ap (λ (s : BufferedSession). entryAt (s .table) i) (sym buffered-session) ∙ p) k (ap (λ (s : BufferedSession). heldOf s i) (sym buffered-session) ∙ q) h
+        ∙ ap (λ (x : List ℕ). part (extent e x) (sector * b .held) sector) (sym plain-image);
   }
 
 pub lent-agree : Agree lentPlain lentBuffered
@@ -163,6 +165,38 @@ lent-agree = record { first = lent-plain-faithful; second = lent-buffered-faithf
 
 pub lent-buffered-buffering : Buffering lentBuffered
 lent-buffered-buffering = lent-buffering (λ s. s) board.bufferedEngine bufferedLook buffered-keeps buffering
+
+pub lent-buffered-holding : Holding lentBuffered
+lent-buffered-holding = holding lentBuffered lent-buffered-buffering
+
+-- ---- the sectors written
+
+pub counted-lent-plain : Counted lentPlain (plainCount lentPlain)
+counted-lent-plain = lent-plain-counted unheld board.plainEngine plainLook plain-keeps plain-counted
+
+pub counted-lent-buffered : Counted lentBuffered (bufferedCount lentBuffered)
+counted-lent-buffered = lent-buffered-counted (λ s. s) board.bufferedEngine bufferedLook buffered-keeps buffered-counted
+
+pub lent-saving : Saving lentPlain lentBuffered
+lent-saving = record {
+  plain = λ w i p q givens b.
+      plain-sum unheld board.plainEngine plainLook plain-keeps w i p q (records i givens) b
+      ∙ saving .plain _ i p q givens (value-writing unheld board.plainEngine plainLook plain-keeps w i p q (records i givens) b);
+  buffered = λ w i p q given givens b. sum w i p q (records i (given ∷ givens)) b ∙ saving .buffered _ i p q given givens (value w i p q (records i (given ∷ givens)) b);
+  inSector = λ w i p q givens b e l.
+      let r = saving .inSector _ i p q givens (value w i p q (records i givens) b) e l in
+      (rw (sum w i p q (records i givens) b) (r .0), λ c. sum w i p q (records i givens) b ∙ r .1 c);
+  whole = λ w i q given givens c b.
+      sum w i 0 q (records i (given ∷ givens) ++ (closing i ∷ [])) b ∙ saving .whole _ i q given givens c (value w i 0 q (records i (given ∷ givens) ++ (closing i ∷ [])) b);
+}
+  where
+    value : (w : Standing (List ℕ)) (i p q : ℕ) (asked : List Asked) → Writing lentBuffered w i p q asked
+        → Writing bufferedEngine (record { image = w .image; session = bufferedIn (w .session) }) i p q asked
+    value w i p q asked b = value-writing (λ s. s) board.bufferedEngine bufferedLook buffered-keeps w i p q asked b
+
+    sum : (w : Standing (List ℕ)) (i p q : ℕ) (asked : List Asked) → Writing lentBuffered w i p q asked
+        → inRun lentBuffered (bufferedCount lentBuffered) w asked ≡ inRun bufferedEngine (bufferedCount bufferedEngine) (record { image = w .image; session = bufferedIn (w .session) }) asked
+    sum w i p q asked b = buffered-sum (λ s. s) board.bufferedEngine bufferedLook buffered-keeps w i p q asked b
 
 -- ---- and the calls from C are these engines
 

@@ -223,12 +223,16 @@ unfolding kept fileMet
 kept-fresh EndOfFile f g = refl
 kept-fresh BeginningOfTape f g = refl
 
+pub same-scene : (image : List ℕ) (s : Session) (i : ℕ) (given : List ℕ) → bufferedScene image (unheld s) i given ≡ plainScene image s i given
+unfolding plainScene bufferedScene extentWith
+same-scene image s i given =
+    let h = fresh-held s i in
+    rw (bare-unheld s, h .1, unheld-table s)
+
 same-answer : (image : List ℕ) (s : Session) (i : ℕ) (q : Request) (given : List ℕ) (n : ℕ)
     → plainAnswer image s i q given n ≡ bufferedAnswer image (unheld s) i q given n
-unfolding plainAnswer bufferedAnswer plainScene bufferedScene extentWith
-same-answer image s i q given n =
-    let h = fresh-held s i in
-    rw (unheld-legal image s, bare-unheld s, h .1, unheld-table s)
+unfolding plainAnswer bufferedAnswer
+same-answer image s i q given n = rw (unheld-legal image s, bare-unheld s, same-scene image s i given)
 
 met-unheld : (x : Edge) (s : Session) (i : ℕ)
     → unheld (record { table = s .table; files = set (s .files) (slotOf (s .files) i) (fileMet x (fileOf (s .files) i)) }) ≡ sessionMet x (unheld s) i

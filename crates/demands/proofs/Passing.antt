@@ -49,7 +49,7 @@ use Rattle.sessions.specs.declared.OpenFile.{OpenFile}
 use Rattle.sessions.specs.declared.Session.{Session}
 
 -- what entry i's buffer holds lies in its extent
-held-within : (image : List ℕ) (s : BufferedSession) → bufferedLegal image s ≡ true → (i : ℕ) → Within (entryAt (s .table) i) (heldOf s i)
+pub held-within : (image : List ℕ) (s : BufferedSession) → bufferedLegal image s ≡ true → (i : ℕ) → Within (entryAt (s .table) i) (heldOf s i)
 held-within image s ok i = go (standing s i)
   where
     go : Standing s i → Within (entryAt (s .table) i) (heldOf s i)

@@ -17,7 +17,7 @@ use Rattle.steps.specs.Effects.{Effect, hold, change, store, stamp, putBack, pl
 use Rattle.steps.specs.Next.{Scene}
 use Rattle.steps.specs.Step.{heldOf, kept}
 use Rattle.steps.proofs.Inside.{Suits, AllSuit}
-use Rattle.steps.proofs.Standing.{heldAt, Standing, isOpen, isShut, standing, kept-used, kept-unused}
+use Rattle.steps.proofs.Standing.{Standing, isOpen, isShut, standing, kept-used, kept-unused}
 use Rattle.settling.proofs.Kept.{buffer-length, typed-set}
 use Rattle.demands.specs.Engine.{areBytes, sound}
 use Rattle.demands.proofs.Bytes.{Bytes, part-bytes, lay-bytes, InBytes, AllInBytes}
@@ -42,6 +42,13 @@ kept-whole f b w = either (f .used)
     (λ (u : f .used ≡ true). rw (kept-used f b u) (record { size = w .size; bytes = w .bytes }))
     (λ (u : f .used ≡ false). rw (kept-unused f b u) (record { size = refl; bytes = fresh-bytes f }))
 
+pub held-size : (s : BufferedSession) → typed s ≡ true → (i : ℕ) → length (heldOf s i .buffer) ≡ sector
+held-size s t i = go (standing s i)
+  where
+    go : Standing s i → length (heldOf s i .buffer) ≡ sector
+    go (isOpen k o) = rw (o .buffer) (buffer-length s t k)
+    go (isShut z) = rw (z .buffer)
+
 -- ---- what `sound` says
 
 module _ (image : List ℕ) (s : BufferedSession) where
@@ -58,15 +65,15 @@ module _ (image : List ℕ) (s : BufferedSession) where
     unfolding sound
     sound-buffers = and-right (typed s) _ (and-right (areBytes image) _ h)
 
-    held-at : (k : ℕ) → Whole (heldAt s k)
-    held-at k = record { size = buffer-length s sound-typed k; bytes = every-any (λ b. areBytes (b .buffer)) (s .files) k (fresh idle) sound-buffers (fresh-bytes idle) }
+    held-bytes : (i : ℕ) → Bytes (heldOf s i .buffer)
+    held-bytes i = go (standing s i)
+      where
+        go : Standing s i → Bytes (heldOf s i .buffer)
+        go (isOpen k o) = rw (o .buffer) (every-any (λ b. areBytes (b .buffer)) (s .files) k (fresh idle) sound-buffers (fresh-bytes idle))
+        go (isShut z) = rw (z .buffer) (fresh-bytes idle)
 
     pub held-whole : (i : ℕ) → Whole (heldOf s i)
-    held-whole i = go (standing s i)
-      where
-        go : Standing s i → Whole (heldOf s i)
-        go (isOpen k o) = rw (o .buffer) (held-at k)
-        go (isShut z) = rw (z .buffer) (record { size = refl; bytes = fresh-bytes idle })
+    held-whole i = record { size = held-size s sound-typed i; bytes = held-bytes i }
 
     -- another image of bytes, another entry of the same name, and another state with a buffer
     pub sound-next : (x : List ℕ) → Bytes x → (i : ℕ) (a : Entry) → a .name ≡ entryAt (s .table) i .name → (k : ℕ) (f : OpenFile) (b : BufferedFile) → Whole b
