@@ -24,8 +24,7 @@ use Rattle.callers.proofs.Runs.{valueEngine, Keeps, opened, read-left, 
 use Rattle.requests.specs.declared.Request.{Request}
 use Rattle.sessions.specs.declared.BufferedSession.{BufferedSession}
 
-module _ {S : Type 0} (seen : S → BufferedSession) (B : board.Engine S) (look : List ℕ → S → ℕ → ℕ → List ℕ)
-    (keeps : Keeps seen B look) where
+module _ {S : Type 0} {seen : S → BufferedSession} {B : board.Engine S} {look : List ℕ → S → ℕ → ℕ → List ℕ} (keeps : Keeps seen B look) where
   abbrev E : Engine
   E = lentEngine seen B
 
@@ -60,7 +59,7 @@ module _ {S : Type 0} (seen : S → BufferedSession) (B : board.Engine S) (look 
         record {
           ordered = p .ordered;
           refused = λ x e. let n = p .refused x e in (n .0, kept (n .1), n .2);
-          met = λ x e. let n = p .met x e in (n .0, ap seen (read-left seen B look keeps image b i q given buffer (keeps .meets image b i q given buffer x e)) ∙ n .1, n .2);
+          met = λ x e. let n = p .met x e in (n .0, ap seen (read-left keeps image b i q given buffer (keeps .meets image b i q given buffer x e)) ∙ n .1, n .2);
           bufferRest = p .bufferRest;
           bufferSize = p .bufferSize;
         }
@@ -85,9 +84,9 @@ module _ {S : Type 0} (seen : S → BufferedSession) (B : board.Engine S) (look 
           isLegal = ap (λ (s : S). bufferedLegal image (seen s)) (keeps .starts image) ∙ p .isLegal;
         };
     requests = λ w p a gives.
-        let q : Passes F (opened seen B look keeps (stepOf E w a)) =
-        subst (λ (v : Standing S). Passes F v) (sym (opened-then seen B look keeps w a (sound-image (w .image) (seen (B .read (w .session))) (p .isSound)) gives))
-        (keeps .passing .requests (opened seen B look keeps w) (record { isSound = p .isSound; isLegal = p .isLegal }) a gives) in
+        let q : Passes F (opened keeps (stepOf E w a)) =
+        subst (λ (v : Standing S). Passes F v) (sym (opened-then keeps w a (sound-image (w .image) (seen (B .read (w .session))) (p .isSound)) gives))
+        (keeps .passing .requests (opened keeps w) (record { isSound = p .isSound; isLegal = p .isLegal }) a gives) in
         record { isSound = q .isSound; isLegal = q .isLegal };
   }
 
@@ -97,48 +96,53 @@ module _ {S : Type 0} (seen : S → BufferedSession) (B : board.Engine S) (look 
   lent-faithful faithful = record {
     mounting = faithful .mounting;
     refusedMounting = λ image e. ap seen (keeps .starts image) ∙ faithful .refusedMounting image e;
-    serves = λ image ok asked fit. then-reports seen B look keeps image asked fit ∙ faithful .serves image ok asked fit;
+    serves = λ image ok asked fit. then-reports keeps image asked fit ∙ faithful .serves image ok asked fit;
   }
 
   pub lent-counts : CountsStored F → CountsStored E
   lent-counts counts = record {
     stored = λ image ok asked i fit m here done.
-        let p = counts .stored image ok asked i fit m here (sym (then-answer seen B look keeps image asked fit (closing i)) ∙ done) in
-        let e = then-image-of seen B look keeps image asked fit (closing i) in
+        let p = counts .stored image ok asked i fit m here (sym (then-answer keeps image asked fit (closing i)) ∙ done) in
+        let e = then-image-of keeps image asked fit (closing i) in
         (ap (λ (x : List ℕ). entryAt (tableOf x) i .count) e ∙ p .0, ap (λ (x : List ℕ). entryAt (tableOf x) i .flags) e ∙ p .1);
   }
 
   -- ---- the blocking buffer
 
-  value-buffered : (w : Standing (List ℕ)) (a : Asked) (i : ℕ) (e : Entry) → Buffered E w a i e → Buffered F (opened seen B look keeps w) a i e
+  value-buffered : (w : Standing (List ℕ)) (a : Asked) (i : ℕ) (e : Entry) → Buffered E w a i e → Buffered F (opened keeps w) a i e
   value-buffered w a i e b = record { isSound = b .isSound; bytes = b .bytes; its = b .its; kind = b .kind }
 
-  desk-then : (w : Standing (List ℕ)) (a : Asked) (i : ℕ) (e : Entry) → Buffered E w a i e → deskAt E (stepOf E w a) e i ≡ deskAt F (stepOf F (opened seen B look keeps w) a) e i
+  desk-then : (w : Standing (List ℕ)) (a : Asked) (i : ℕ) (e : Entry) → Buffered E w a i e → deskAt E (stepOf E w a) e i ≡ deskAt F (stepOf F (opened keeps w) a) e i
   desk-then w a i e b =
-      ap (λ (v : Standing S). deskAt F v e i) (opened-then seen B look keeps w a (sound-image (w .image) (seen (B .read (w .session))) (b .isSound)) (b .bytes))
+      ap (λ (v : Standing S). deskAt F v e i) (opened-then keeps w a (sound-image (w .image) (seen (B .read (w .session))) (b .isSound)) (b .bytes))
 
   pub lent-buffering : Buffering F → Buffering E
   unfolding answered lentAfter
   lent-buffering buffering = record {
-    own = λ w a e b. desk-then w a (a .entry) e b ∙ buffering .own (opened seen B look keeps w) a e (value-buffered w a (a .entry) e b);
-    others = λ w a i e b n. desk-then w a i e b ∙ buffering .others (opened seen B look keeps w) a i e (value-buffered w a i e b) n;
-    inside = λ w a e b. buffering .inside (opened seen B look keeps w) a e (value-buffered w a (a .entry) e b);
+    own = λ w a e b. desk-then w a (a .entry) e b ∙ buffering .own (opened keeps w) a e (value-buffered w a (a .entry) e b);
+    others = λ w a i e b n. desk-then w a i e b ∙ buffering .others (opened keeps w) a i e (value-buffered w a i e b) n;
+    inside = λ w a e b. buffering .inside (opened keeps w) a e (value-buffered w a (a .entry) e b);
   }
 
   -- ---- the sectors written
 
-  pub lent-plain-counted : Counted F (plainCount F) → Counted E (plainCount E)
+  pub plain-same : (w : Standing (List ℕ)) (a : Asked) → plainCount E w a ≡ plainCount F (opened keeps w) a
   unfolding answered lentAfter plainCount
-  lent-plain-counted counted = record { none = λ w a. counted .none (opened seen B look keeps w) a }
+  plain-same w a = refl
 
-  pub lent-buffered-counted : Counted F (bufferedCount F) → Counted E (bufferedCount E)
+  pub buffered-same : (w : Standing (List ℕ)) (a : Asked) → bufferedCount E w a ≡ bufferedCount F (opened keeps w) a
   unfolding answered lentAfter bufferedCount
-  lent-buffered-counted counted = record { none = λ w a. counted .none (opened seen B look keeps w) a }
+  buffered-same w a = refl
+
+  pub lent-counted : (c : Standing (List ℕ) → Asked → ℕ) (d : Standing S → Asked → ℕ) → ((w : Standing (List ℕ)) (a : Asked) → c w a ≡ d (opened keeps w) a)
+      → Counted F d → Counted E c
+  unfolding answered lentAfter
+  lent-counted c d same counted = record { none = λ w a h. counted .none (opened keeps w) a (sym (same w a) ∙ h) }
 
   -- a run from bytes that are given bytes
   module _ (w : Standing (List ℕ)) (i p q : ℕ) (asked : List Asked) (b : Writing E w i p q asked) where
     abbrev v : Standing S
-    v = opened seen B look keeps w
+    v = opened keeps w
 
     bytes : areBytes (w .image) ≡ true
     bytes = sound-image (w .image) (seen (B .read (w .session))) (b .isSound)
@@ -149,13 +153,9 @@ module _ {S : Type 0} (seen : S → BufferedSession) (B : board.Engine S) (look 
       isSound = b .isSound;
       standing = b .standing;
       bytes = b .bytes;
-      done = ap (every (λ (r : Report). eqb (r .number) 0)) (sym (run-reports seen B look keeps w bytes asked (b .bytes))) ∙ b .done;
+      done = ap (every (λ (r : Report). eqb (r .number) 0)) (sym (run-reports keeps w bytes asked (b .bytes))) ∙ b .done;
     }
 
-    pub plain-sum : inRun E (plainCount E) w asked ≡ inRun F (plainCount F) v asked
-    unfolding plainCount answered lentAfter
-    plain-sum = run-sum seen B look keeps (plainCount E) (plainCount F) (λ w a. refl) w bytes asked (b .bytes)
-
-    pub buffered-sum : inRun E (bufferedCount E) w asked ≡ inRun F (bufferedCount F) v asked
-    unfolding bufferedCount answered lentAfter
-    buffered-sum = run-sum seen B look keeps (bufferedCount E) (bufferedCount F) (λ w a. refl) w bytes asked (b .bytes)
+    pub lent-sum : (c : Standing (List ℕ) → Asked → ℕ) (d : Standing S → Asked → ℕ) → ((w : Standing (List ℕ)) (a : Asked) → c w a ≡ d (opened keeps w) a)
+        → inRun E c w asked ≡ inRun F d v asked
+    lent-sum c d same = run-sum keeps c d same w bytes asked (b .bytes)

@@ -39,11 +39,11 @@ use Rattle.demands.proofs.Running.{running}
 use Rattle.demands.proofs.ReadsBack.{reads-back, room-alone}
 use Rattle.callers.specs.Lent.{lentPlain, lentBuffered, Called}
 use Rattle.callers.proofs.Called.{called}
-use Rattle.callers.proofs.Demands.{lent-orderly, lent-passing, lent-faithful, lent-counts, lent-buffering, lent-plain-counted, lent-buffered-counted, value-writing, plain-sum, buffered-sum}
+use Rattle.callers.proofs.Demands.{lent-orderly, lent-passing, lent-faithful, lent-counts, lent-buffering, plain-same, buffered-same, lent-counted, value-writing, lent-sum}
 use Rattle.callers.proofs.Held.{fits-typed, fits-sound, step-fits, step-met-fits}
 use Rattle.callers.proofs.Next.{plain-fits}
 use Rattle.callers.proofs.Read.{read-fits, read-fits-buffered}
-use Rattle.callers.proofs.Runs.{Keeps, then-opened, then-reports, then-image}
+use Rattle.callers.proofs.Runs.{Keeps, opened, then-opened, then-reports, then-image}
 use Rattle.callers.proofs.Start.{mount-fits, unheld-fits, mount-fits-buffered}
 
 -- ---- every session in lent bytes is as its type says
@@ -82,16 +82,16 @@ buffered-keeps = record {
 -- ---- demand 1
 
 pub lent-plain-orderly : Orderly lentPlain
-lent-plain-orderly = lent-orderly unheld board.plainEngine plainLook plain-keeps
+lent-plain-orderly = lent-orderly plain-keeps
 
 pub lent-buffered-orderly : Orderly lentBuffered
-lent-buffered-orderly = lent-orderly (λ s. s) board.bufferedEngine bufferedLook buffered-keeps
+lent-buffered-orderly = lent-orderly buffered-keeps
 
 pub lent-plain-passing : Passing lentPlain
-lent-plain-passing = lent-passing unheld board.plainEngine plainLook plain-keeps
+lent-plain-passing = lent-passing plain-keeps
 
 pub lent-buffered-passing : Passing lentBuffered
-lent-buffered-passing = lent-passing (λ s. s) board.bufferedEngine bufferedLook buffered-keeps
+lent-buffered-passing = lent-passing buffered-keeps
 
 pub lent-plain-running : Running lentPlain
 lent-plain-running = running lentPlain lent-plain-orderly lent-plain-passing
@@ -102,10 +102,10 @@ lent-buffered-running = running lentBuffered lent-buffered-orderly lent-buffered
 -- ---- demand 2
 
 pub lent-plain-faithful : Faithful lentPlain
-lent-plain-faithful = lent-faithful unheld board.plainEngine plainLook plain-keeps plain-faithful
+lent-plain-faithful = lent-faithful plain-keeps plain-faithful
 
 pub lent-buffered-faithful : Faithful lentBuffered
-lent-buffered-faithful = lent-faithful (λ s. s) board.bufferedEngine bufferedLook buffered-keeps buffered-faithful
+lent-buffered-faithful = lent-faithful buffered-keeps buffered-faithful
 
 pub lent-plain-back : ReadsBack lentPlain
 lent-plain-back = reads-back lentPlain lent-plain-faithful
@@ -120,10 +120,10 @@ pub lent-buffered-room : RoomAlone lentBuffered
 lent-buffered-room = room-alone lentBuffered lent-buffered-faithful
 
 pub lent-plain-counts : CountsStored lentPlain
-lent-plain-counts = lent-counts unheld board.plainEngine plainLook plain-keeps plain-counts
+lent-plain-counts = lent-counts plain-keeps plain-counts
 
 pub lent-buffered-counts : CountsStored lentBuffered
-lent-buffered-counts = lent-counts (λ s. s) board.bufferedEngine bufferedLook buffered-keeps buffered-counts
+lent-buffered-counts = lent-counts buffered-keeps buffered-counts
 
 -- ---- demand 3
 
@@ -132,20 +132,20 @@ module _ (image : List ℕ) (ok : mounts image ≡ true) (asked : List Asked) (f
   on-values = agree .agreeing image ok asked fit
 
   plain-image : run lentPlain (mounted lentPlain image) asked .image ≡ run plainEngine (mounted plainEngine image) asked .image
-  plain-image = then-image unheld board.plainEngine plainLook plain-keeps image asked fit
+  plain-image = then-image plain-keeps image asked fit
 
   buffered-image : run lentBuffered (mounted lentBuffered image) asked .image ≡ run bufferedEngine (mounted bufferedEngine image) asked .image
-  buffered-image = then-image (λ s. s) board.bufferedEngine bufferedLook buffered-keeps image asked fit
+  buffered-image = then-image buffered-keeps image asked fit
 
   buffered-session : bufferedIn (run lentBuffered (mounted lentBuffered image) asked .session) ≡ run bufferedEngine (mounted bufferedEngine image) asked .session
-  buffered-session = ap (λ (v : Standing BufferedSession). v .session) (then-opened (λ s. s) board.bufferedEngine bufferedLook buffered-keeps image asked fit)
+  buffered-session = ap (λ (v : Standing BufferedSession). v .session) (then-opened buffered-keeps image asked fit)
 
   lent-agreeing : Agreeing lentPlain lentBuffered image asked
   lent-agreeing = record {
     alike =
-        then-reports unheld board.plainEngine plainLook plain-keeps image asked fit
+        then-reports plain-keeps image asked fit
         ∙ on-values .alike
-        ∙ sym (then-reports (λ s. s) board.bufferedEngine bufferedLook buffered-keeps image asked fit);
+        ∙ sym (then-reports buffered-keeps image asked fit);
     untouched = (
       (ap length plain-image ∙ on-values .untouched .0 .0, λ j h. ap (λ (b : List ℕ). getD b j 0) plain-image ∙ on-values .untouched .0 .1 j h),
       (ap length buffered-image ∙ on-values .untouched .1 .0, λ j h. ap (λ (b : List ℕ). getD b j 0) buffered-image ∙ on-values .untouched .1 .1 j h),
@@ -164,39 +164,42 @@ lent-agree = record { first = lent-plain-faithful; second = lent-buffered-faithf
 -- ---- the blocking buffer
 
 pub lent-buffered-buffering : Buffering lentBuffered
-lent-buffered-buffering = lent-buffering (λ s. s) board.bufferedEngine bufferedLook buffered-keeps buffering
+lent-buffered-buffering = lent-buffering buffered-keeps buffering
 
 pub lent-buffered-holding : Holding lentBuffered
 lent-buffered-holding = holding lentBuffered lent-buffered-buffering
 
 -- ---- the sectors written
 
-pub counted-lent-plain : Counted lentPlain (plainCount lentPlain)
-counted-lent-plain = lent-plain-counted unheld board.plainEngine plainLook plain-keeps plain-counted
+pub lent-plain-counted : Counted lentPlain (plainCount lentPlain)
+lent-plain-counted = lent-counted plain-keeps (plainCount lentPlain) (plainCount plainEngine) (plain-same plain-keeps) plain-counted
 
-pub counted-lent-buffered : Counted lentBuffered (bufferedCount lentBuffered)
-counted-lent-buffered = lent-buffered-counted (λ s. s) board.bufferedEngine bufferedLook buffered-keeps buffered-counted
+pub lent-buffered-counted : Counted lentBuffered (bufferedCount lentBuffered)
+lent-buffered-counted = lent-counted buffered-keeps (bufferedCount lentBuffered) (bufferedCount bufferedEngine) (buffered-same buffered-keeps) buffered-counted
+
+module _ (w : Standing (List ℕ)) (i p q : ℕ) (asked : List Asked) where
+  plain-sum : Writing lentPlain w i p q asked → inRun lentPlain (plainCount lentPlain) w asked ≡ inRun plainEngine (plainCount plainEngine) (opened plain-keeps w) asked
+  plain-sum b = lent-sum plain-keeps w i p q asked b (plainCount lentPlain) (plainCount plainEngine) (plain-same plain-keeps)
+
+  buffered-sum : Writing lentBuffered w i p q asked
+      → inRun lentBuffered (bufferedCount lentBuffered) w asked ≡ inRun bufferedEngine (bufferedCount bufferedEngine) (opened buffered-keeps w) asked
+  buffered-sum b = lent-sum buffered-keeps w i p q asked b (bufferedCount lentBuffered) (bufferedCount bufferedEngine) (buffered-same buffered-keeps)
 
 pub lent-saving : Saving lentPlain lentBuffered
 lent-saving = record {
   plain = λ w i p q givens b.
-      plain-sum unheld board.plainEngine plainLook plain-keeps w i p q (records i givens) b
-      ∙ saving .plain _ i p q givens (value-writing unheld board.plainEngine plainLook plain-keeps w i p q (records i givens) b);
-  buffered = λ w i p q given givens b. sum w i p q (records i (given ∷ givens)) b ∙ saving .buffered _ i p q given givens (value w i p q (records i (given ∷ givens)) b);
+      plain-sum w i p q (records i givens) b ∙ saving .plain _ i p q givens (value-writing plain-keeps w i p q (records i givens) b);
+  buffered = λ w i p q given givens b.
+      let asked : List Asked = records i (given ∷ givens) in
+      buffered-sum w i p q asked b ∙ saving .buffered _ i p q given givens (value-writing buffered-keeps w i p q asked b);
   inSector = λ w i p q givens b e l.
-      let r = saving .inSector _ i p q givens (value w i p q (records i givens) b) e l in
-      (rw (sum w i p q (records i givens) b) (r .0), λ c. sum w i p q (records i givens) b ∙ r .1 c);
+      let r = saving .inSector _ i p q givens (value-writing buffered-keeps w i p q (records i givens) b) e l in
+      let z = buffered-sum w i p q (records i givens) b in
+      (rw z (r .0), λ c. z ∙ r .1 c);
   whole = λ w i q given givens c b.
-      sum w i 0 q (records i (given ∷ givens) ++ (closing i ∷ [])) b ∙ saving .whole _ i q given givens c (value w i 0 q (records i (given ∷ givens) ++ (closing i ∷ [])) b);
+      let asked : List Asked = records i (given ∷ givens) ++ (closing i ∷ []) in
+      buffered-sum w i 0 q asked b ∙ saving .whole _ i q given givens c (value-writing buffered-keeps w i 0 q asked b);
 }
-  where
-    value : (w : Standing (List ℕ)) (i p q : ℕ) (asked : List Asked) → Writing lentBuffered w i p q asked
-        → Writing bufferedEngine (record { image = w .image; session = bufferedIn (w .session) }) i p q asked
-    value w i p q asked b = value-writing (λ s. s) board.bufferedEngine bufferedLook buffered-keeps w i p q asked b
-
-    sum : (w : Standing (List ℕ)) (i p q : ℕ) (asked : List Asked) → Writing lentBuffered w i p q asked
-        → inRun lentBuffered (bufferedCount lentBuffered) w asked ≡ inRun bufferedEngine (bufferedCount bufferedEngine) (record { image = w .image; session = bufferedIn (w .session) }) asked
-    sum w i p q asked b = buffered-sum (λ s. s) board.bufferedEngine bufferedLook buffered-keeps w i p q asked b
 
 -- ---- and the calls from C are these engines
 

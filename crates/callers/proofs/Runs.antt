@@ -47,7 +47,7 @@ pub record Keeps {S : Type 0} (seen : S → BufferedSession) (B : board.Engine S
   pub meets : (image b : List ℕ) (i : ℕ) (q : Request) (given buffer : List ℕ) (x : Edge) → B .step image (B .read b) i q given buffer .answer ≡ Met x
       → Back B (B .step image (B .read b) i q given buffer .session)
 
-module _ {S : Type 0} (seen : S → BufferedSession) (B : board.Engine S) (look : List ℕ → S → ℕ → ℕ → List ℕ) (keeps : Keeps seen B look) where
+module _ {S : Type 0} {seen : S → BufferedSession} {B : board.Engine S} {look : List ℕ → S → ℕ → ℕ → List ℕ} (keeps : Keeps seen B look) where
   abbrev E : Engine
   E = lentEngine seen B
 
