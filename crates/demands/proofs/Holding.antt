@@ -15,9 +15,10 @@ use Rattle.directory.specs.Entries.{isKind}
 use Rattle.packing.specs.Placing.{Change, filled, goesTo, changes}
 use Rattle.packing.specs.Reading.{startOf, goesOn}
 use Rattle.packing.proofs.Placed.{Case, here, atEnd, over, which}
+use Rattle.sessions.specs.Session.{extent}
 use Rattle.tapes.specs.Model.{Asked}
 use Rattle.demands.specs.Engine.{Engine, Standing, answered, stepOf}
-use Rattle.demands.specs.Buffer.{Desk, seenOn, back, taken, worked, inTurn, readIn, changesOf, deskDone, deskNext, takenBy, within, fileAt, deskAt, Buffered, Buffering, liesIn, goesIn, Holds, Holding}
+use Rattle.demands.specs.Buffer.{Desk, deskOf, seenOn, back, taken, worked, inTurn, readIn, changesOf, deskDone, deskNext, takenBy, within, putsBack, fileAt, deskAt, Buffered, Keeps, Buffering, liesIn, goesIn, Holds, Holding}
 use Rattle.directory.specs.declared.Entry.{Entry}
 use Rattle.requests.specs.declared.Answer.{Answer}
 use Rattle.requests.specs.declared.Answer.the-variants.{Done, Met, Refused}
@@ -146,25 +147,29 @@ module _ (E : Engine) (buffers : Buffering E) (w : Standing (E .Session)) (a : A
     unfolding deskDone
     writes-hold p = subst (λ (v : Desk). Holds v (goesIn e f (a .given))) (sym (left Write p)) (write-last e f (a .given) d)
 
-  -- no other sector is taken of it, and it is not closed
-  abbrev Kept : ℕ → Entry → Type 0
-  Kept i e = (¬ (a .request ≡ Position RewindOffline)) × (within (deskAt E w e i) (takenBy (a .request) e (fileAt E w i .file) (a .given) (deskAt E w e i)) ≡ true)
-
-  own-stays : (e : Entry) (k : ℕ) → Buffered E w a (a .entry) e → Holds (deskAt E w e (a .entry)) k → Kept (a .entry) e → Holds (deskAt E (stepOf E w a) e (a .entry)) k
-  own-stays e k b h c = subst (λ (v : Desk). Holds v k) (sym (buffers .own w a e b)) (next-same (answered E w a .answer) (a .request) e _ (a .given) _ k h (c .0) (c .1))
-
-  stays-held : (i : ℕ) (e : Entry) → Buffered E w a i e → (k : ℕ) → Holds (deskAt E w e i) k → (i ≡ a .entry → Kept i e) → Holds (deskAt E (stepOf E w a) e i) k
-  stays-held i e b k h c = go (ℕ-discrete i (a .entry))
+  -- what is so of the request's own file, and of any other
+  by-entry : (P : ℕ → Type 0) → P (a .entry) → ((i : ℕ) → ¬ (i ≡ a .entry) → P i) → (i : ℕ) → P i
+  by-entry P own other i = go (ℕ-discrete i (a .entry))
     where
-      go : Dec (i ≡ a .entry) → Holds (deskAt E (stepOf E w a) e i) k
-      go (yes z) =
-          subst (λ (j : ℕ). Buffered E w a j e → Holds (deskAt E w e j) k → Kept j e → Holds (deskAt E (stepOf E w a) e j) k) (sym z)
-          (own-stays e k) b h (c z)
-      go (no n) = subst (λ (v : Desk). Holds v k) (sym (buffers .others w a i e b n)) h
+      go : Dec (i ≡ a .entry) → P i
+      go (yes z) = subst P (sym z) own
+      go (no n) = other i n
+
+  stays-held : (e : Entry) (k : ℕ) (i : ℕ) → Buffered E w a i e → Holds (deskAt E w e i) k → (i ≡ a .entry → (¬ (a .request ≡ Position RewindOffline)) × Keeps E w a i e)
+      → Holds (deskAt E (stepOf E w a) e i) k
+  stays-held e k = by-entry (λ i. Buffered E w a i e → Holds (deskAt E w e i) k → (i ≡ a .entry → (¬ (a .request ≡ Position RewindOffline)) × Keeps E w a i e) → Holds (deskAt E (stepOf E w a) e i) k)
+      (λ b h c. subst (λ (v : Desk). Holds v k) (sym (buffers .own w a e b)) (next-same (answered E w a .answer) (a .request) e _ (a .given) _ k h (c refl .0) (c refl .1)))
+      (λ i n b h c. subst (λ (v : Desk). Holds v k) (sym (buffers .others w a i e b n)) h)
+
+  stays-put : (e : Entry) (i : ℕ) → Buffered E w a i e → (i ≡ a .entry → (putsBack (a .request) ≡ false) × Keeps E w a i e) → deskAt E (stepOf E w a) e i .extent ≡ deskAt E w e i .extent
+  stays-put e = by-entry (λ i. Buffered E w a i e → (i ≡ a .entry → (putsBack (a .request) ≡ false) × Keeps E w a i e) → deskAt E (stepOf E w a) e i .extent ≡ deskAt E w e i .extent)
+      (λ b c. unfold stepOf deskOf in ap (extent e) (buffers .inside w a e b (c refl .0) (c refl .1)))
+      (λ i n b c. ap (λ (d : Desk). d .extent) (buffers .others w a i e b n))
 
 pub holding : (E : Engine) → Buffering E → Holding E
 holding E buffers = record {
+  stays = λ w a i e. stays-put E buffers w a e i;
   reads = λ w a e b p d. reads-hold E buffers w a e b d p;
   writes = λ w a e b p d. writes-hold E buffers w a e b d p;
-  until = stays-held E buffers;
+  until = λ w a i e b k. stays-held E buffers w a e k i b;
 }

@@ -152,7 +152,7 @@ putsBack (Position RecordBack) = false
 putsBack (Position FileForward) = true
 putsBack (Position FileBack) = true
 
--- it takes no sector but the one that is held
+-- every one of some sectors is the one that is held
 abbrev pub within : Desk → List ℕ → Bool
 within d ks = every (λ k. d .holds && eqb (d .held) k) ks
 
@@ -171,6 +171,10 @@ pub record Buffered (E : Engine) (w : Standing (E .Session)) (a : Asked) (i : �
   pub its : entryAt (E .seen (w .session) .table) i ≡ e
   pub kind : hasBuffer e ≡ true
 
+-- and no sector of it is taken but the one that is held
+abbrev pub Keeps : (E : Engine) → Standing (E .Session) → Asked → ℕ → Entry → Type 0
+Keeps E w a i e = within (deskAt E w e i) (takenBy (a .request) e (fileAt E w i .file) (a .given) (deskAt E w e i)) ≡ true
+
 pub record Buffering (E : Engine) : Type 0 where
   -- a request on the file
   pub own : (w : Standing (E .Session)) (a : Asked) (e : Entry) → Buffered E w a (a .entry) e
@@ -179,8 +183,7 @@ pub record Buffering (E : Engine) : Type 0 where
   pub others : (w : Standing (E .Session)) (a : Asked) (i : ℕ) (e : Entry) → Buffered E w a i e → ¬ (i ≡ a .entry) → deskAt E (stepOf E w a) e i ≡ deskAt E w e i
   -- "so a write wholly in the held sector leaves the image as it was"; and so does a read in it, an opening, a record skip
   pub inside : (w : Standing (E .Session)) (a : Asked) (e : Entry) → Buffered E w a (a .entry) e → putsBack (a .request) ≡ false
-      → within (deskAt E w e (a .entry)) (takenBy (a .request) e (fileAt E w (a .entry) .file) (a .given) (deskAt E w e (a .entry))) ≡ true
-      → answered E w a .image ≡ w .image
+      → Keeps E w a (a .entry) e → answered E w a .image ≡ w .image
 
 -- ---- what is held
 
@@ -197,14 +200,16 @@ goesIn e f given = elim (isKind compressed e) [
 abbrev pub Holds : Desk → ℕ → Type 0
 Holds d k = (d .holds ≡ true) × (d .held ≡ k)
 
--- so of every engine whose buffers are as above
+-- so of every engine whose buffers are as above, whatever is asked of whichever entry
 pub record Holding (E : Engine) : Type 0 where
+  -- "put back before another sector takes it, before any order but the record skips, and at close, and at no other time"
+  pub stays : (w : Standing (E .Session)) (a : Asked) (i : ℕ) (e : Entry) → Buffered E w a i e → (i ≡ a .entry → (putsBack (a .request) ≡ false) × Keeps E w a i e)
+      → deskAt E (stepOf E w a) e i .extent ≡ deskAt E w e i .extent
   -- a read or write answered 0 "ends holding the one its record lies in"
   pub reads : (w : Standing (E .Session)) (a : Asked) (e : Entry) → Buffered E w a (a .entry) e → a .request ≡ Read → answered E w a .answer ≡ Done
       → Holds (deskAt E (stepOf E w a) e (a .entry)) (liesIn e (fileAt E w (a .entry) .file) (seenOn (deskAt E w e (a .entry))))
   pub writes : (w : Standing (E .Session)) (a : Asked) (e : Entry) → Buffered E w a (a .entry) e → a .request ≡ Write → answered E w a .answer ≡ Done
       → Holds (deskAt E (stepOf E w a) e (a .entry)) (goesIn e (fileAt E w (a .entry) .file) (a .given))
-  -- "until another is taken or the file is closed": whatever is asked of whichever entry
+  -- "until another is taken or the file is closed"
   pub until : (w : Standing (E .Session)) (a : Asked) (i : ℕ) (e : Entry) → Buffered E w a i e → (k : ℕ) → Holds (deskAt E w e i) k
-      → (i ≡ a .entry → (¬ (a .request ≡ Position RewindOffline)) × (within (deskAt E w e i) (takenBy (a .request) e (fileAt E w i .file) (a .given) (deskAt E w e i)) ≡ true))
-      → Holds (deskAt E (stepOf E w a) e i) k
+      → (i ≡ a .entry → (¬ (a .request ≡ Position RewindOffline)) × Keeps E w a i e) → Holds (deskAt E (stepOf E w a) e i) k
