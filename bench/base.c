@@ -686,11 +686,6 @@ static bool is_legal(const struct desk *d, size_t size)
     return true;
 }
 
-static bool has_buffer(const struct entry *e)
-{
-    return e->kind == BLOCKED || e->kind == COMPRESSED;
-}
-
 /* Each held sector lies in its file's extent. Asked of a session that is legal else. */
 static bool holds_are_legal(const struct buffered_session *s)
 {
@@ -698,8 +693,7 @@ static bool holds_are_legal(const struct buffered_session *s)
         const struct buffered_file *b = &s->files[k];
         if (!b->file.used || !b->holds)
             continue;
-        const struct entry *e = &s->table[b->file.entry];
-        if (!has_buffer(e) || b->held >= e->sectors)
+        if (b->held >= s->table[b->file.entry].sectors)
             return false;
     }
     return true;
@@ -831,6 +825,12 @@ enum answer base_request(uint8_t *image, size_t size, struct session *s, size_t 
     if (code == REWIND_OFFLINE)
         s->files[slot] = (struct open_file){0};
     return a;
+}
+
+/* Only such a file has a buffer: nothing is read from, or put back for, any other. */
+static bool has_buffer(const struct entry *e)
+{
+    return e->kind == BLOCKED || e->kind == COMPRESSED;
 }
 
 enum answer base_buffered_request(uint8_t *image, size_t size, struct buffered_session *s,

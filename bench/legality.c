@@ -152,8 +152,10 @@ int main(void)
     KEEP((s.files[0].holds = true, s.files[0].held = 2));
     KEEP(s.files[0].held = 3);
     BREAK_BUFFERED((s.files[1].holds = true, s.files[1].held = 4));
-    BREAK_BUFFERED(s.files[2].holds = true);
-    BREAK_BUFFERED(s.files[3].holds = true);
+    KEEP((s.files[2].holds = true, s.files[2].held = 4));
+    BREAK_BUFFERED((s.files[2].holds = true, s.files[2].held = 5));
+    KEEP((s.files[3].holds = true, s.files[3].held = 5));
+    BREAK_BUFFERED((s.files[3].holds = true, s.files[3].held = 6));
     printf("%d sessions tried, %d not as due\n", tried, failed);
     return failed != 0;
 }

@@ -1,7 +1,7 @@
--- A request is what its verdict says: in a legal session the scene that is judged, with the held sector lent, is the engine's own; and each answer
--- is its own case of the step.
-use mathlib.Core.Path.{_≡_, refl, sym, ap, _∙_}
-use mathlib.Core.Bool.{Bool, true, false, _&&_, _||_, not}
+-- A request is what its verdict says: the scene that is judged, with the held sector lent, is the engine's own; and each answer is its own case of
+-- the step.
+use mathlib.Core.Path.{_≡_, refl, sym, ap, ap₂, _∙_}
+use mathlib.Core.Bool.{Bool, true, false, _&&_, not}
 use mathlib.Core.List.{List, []}
 use Prim.Native.Nat.{ℕ, _+_, _*_, _≤_, _<_}
 use native.Mathlib.Omega.{arith}
@@ -12,13 +12,13 @@ use lib.ListN.{length, getD, set, List·getD-eq-default}
 use borrow.Author.Tests.{eq-eqb, not-true}
 use Rattle.geometry.specs.Bytes.{part, lay}
 use Rattle.geometry.specs.Lists.{every, firstWith}
-use Rattle.geometry.specs.Sizes.{sector, entries, blocked, compressed}
-use Rattle.geometry.proofs.Tests.{either, both-ways, chosen, not-chosen, and-both, first-holds}
-use Rattle.directory.specs.Entries.{entryAt, isKind}
+use Rattle.geometry.specs.Sizes.{sector, entries}
+use Rattle.geometry.proofs.Tests.{either, both-ways, chosen, not-chosen, first-holds}
+use Rattle.directory.specs.Entries.{entryAt}
 use Rattle.packing.specs.Reading.{overlaid, startOf}
 use Rattle.requests.specs.Judge.{judge}
-use Rattle.sessions.specs.Session.{idle, fresh, bare, fileOf, slotOf, openFiles, extent, extentWith, heldGood, legal, bufferedLegal}
-use Rattle.sessions.proofs.Legal.{bare-legal, held-inside}
+use Rattle.sessions.specs.Session.{idle, fresh, bare, fileOf, slotOf, openFiles, extent, hasBuffer, holdsOne, extentWith, heldGood, legal, bufferedLegal}
+use Rattle.sessions.proofs.Legal.{bare-legal}
 use Rattle.steps.specs.Effects.{Bench, effects, bufferedAll}
 use Rattle.steps.specs.Next.{Scene, codeLength, factsOf}
 use Rattle.steps.specs.Step.{heldOf, kept, bufferedScene, bufferedAnswer, bufferedAfter, bufferedStep}
@@ -43,22 +43,21 @@ use Rattle.sessions.specs.declared.BufferedSession.{BufferedSession}
 use Rattle.sessions.specs.declared.OpenFile.{OpenFile}
 use Rattle.steps.specs.declared.Verdict.{Verdict}
 
--- the held sector is seen where it is held, if only a file that has a buffer holds one
+-- the held sector is seen where it is held, if only an open file holds one
 seen-held : (e : Entry) (f : OpenFile) (b : BufferedFile) (image : List ℕ) → length (b .buffer) ≡ sector
-    → (b .holds ≡ true → f .used && (isKind blocked e || isKind compressed e) ≡ true) → seenBytes e f (extent e image) (b .held) (lentBy b) ≡ extentWith e b image
-unfolding seenBytes overlaid lentBy extentWith
+    → (b .holds ≡ true → f .used ≡ true) → seenBytes e f (extent e image) (b .held) (lentBy b) ≡ extentWith e b image
+unfolding seenBytes overlaid lentBy extentWith holdsOne
 seen-held e f b image l h = either (b .holds)
     (λ (t : b .holds ≡ true).
     let p : lentBy b ≡ b .buffer = chosen (b .holds) (b .buffer) [] t in
-    chosen (f .used && (isKind blocked e || isKind compressed e)) (overlaid (extent e image) (b .held) (lentBy b)) (extent e image) (h t)
-    ∙ ap (overlaid (extent e image) (b .held)) p
-    ∙ chosen (eqb (length (b .buffer)) sector) (lay (extent e image) (sector * b .held) (b .buffer)) (extent e image) (eq-eqb _ _ l)
-    ∙ sym (chosen (b .holds) (lay (extent e image) (sector * b .held) (b .buffer)) (extent e image) t))
+    let m : overlaid (extent e image) (b .held) (lentBy b) ≡ lay (extent e image) (sector * b .held) (b .buffer) =
+    ap (overlaid (extent e image) (b .held)) p ∙ chosen (eqb (length (b .buffer)) sector) _ (extent e image) (eq-eqb _ _ l) in
+    ap₂ (λ (u : Bool) (xs : List ℕ). elim (u && hasBuffer e) [ true ↦ xs | false ↦ extent e image ]) (h t ∙ sym t) m)
     (λ (t : b .holds ≡ false).
     let p : lentBy b ≡ [] = not-chosen (b .holds) (b .buffer) [] t in
     ap (λ (xs : List ℕ). seenBytes e f (extent e image) (b .held) xs) p
     ∙ nothing-over e f (extent e image) (b .held)
-    ∙ sym (not-chosen (b .holds) (lay (extent e image) (sector * b .held) (b .buffer)) (extent e image) t))
+    ∙ ap (λ (u : Bool). elim (u && hasBuffer e) [ true ↦ lay (extent e image) (sector * b .held) (b .buffer) | false ↦ extent e image ]) (sym t))
 
 -- ---- the state of an entry
 
@@ -88,14 +87,12 @@ module _ (s : BufferedSession) (i : ℕ) where
   unfolding stateAt inUse heldOf
   state-is = ap (λ (t : Bool). elim t [ true ↦ b | false ↦ fresh idle ]) (sym in-use)
 
-  -- only an open blocked or compressed file holds a sector
-  only-buffers : (image : List ℕ) → bufferedLegal image s ≡ true → heldOf s i .holds ≡ true
-      → f .used && (isKind blocked (entryAt (s .table) i) || isKind compressed (entryAt (s .table) i)) ≡ true
-  only-buffers image ok h = go (standing s i)
+  -- only an open file holds a sector
+  only-open : heldOf s i .holds ≡ true → f .used ≡ true
+  only-open h = go (standing s i)
     where
-      go : Standing s i → f .used && (isKind blocked (entryAt (s .table) i) || isKind compressed (entryAt (s .table) i)) ≡ true
-      go (isOpen n o) = and-both _ _ (ap (λ (f : OpenFile). f .used) (o .file) ∙ o .used)
-          (held-inside image s ok n (heldAt s n) (entryAt (s .table) i) refl (ap (entryAt (s .table)) (sym (o .entry))) (o .used) (ap (λ (b : BufferedFile). b .holds) (sym (o .buffer)) ∙ h) .0)
+      go : Standing s i → f .used ≡ true
+      go (isOpen n o) = ap (λ (f : OpenFile). f .used) (o .file) ∙ o .used
       go (isShut z) = both-ways (heldOf s i .holds) h (ap (λ (b : BufferedFile). b .holds) (z .buffer))
 
 -- ---- each answer
@@ -125,9 +122,9 @@ module _ (image : List ℕ) (s : BufferedSession) (i : ℕ) (q : Request) (given
   abbrev found : Scene
   found = seenScene image (bare s) (held .held) (lentBy held) i given
 
-  seen : length (held .buffer) ≡ sector → ok ≡ true → found ≡ c
+  seen : length (held .buffer) ≡ sector → found ≡ c
   unfolding seenScene bufferedScene bare
-  seen l h = rw (seen-held (entryAt (s .table) i) (fileOf (bare s .files) i) held image l (only-buffers s i image h))
+  seen l = rw (seen-held (entryAt (s .table) i) (fileOf (bare s .files) i) held image l (only-open s i))
 
   right-code : ok ≡ true → n ≡ codeLength (entryAt (s .table) i) given
   unfolding bare
@@ -136,12 +133,12 @@ module _ (image : List ℕ) (s : BufferedSession) (i : ℕ) (q : Request) (given
   pub verdict-is : length (held .buffer) ≡ sector
       → verdictOf (legal image (bare s) && every (heldGood (s .table)) (s .files)) files (length buffer) n q found ≡ j
   unfolding seenScene bufferedScene bufferedLegal bare
-  verdict-is l = judged files (length buffer) q ok n found c refl refl (seen l) right-code
+  verdict-is l = judged files (length buffer) q ok n found c refl refl (λ h. seen l) right-code
 
   pub buffer-is : length (held .buffer) ≡ sector
       → bufferNext (answerOf (legal image (bare s) && every (heldGood (s .table)) (s .files)) files (length buffer) n q found) q found buffer ≡ bufferNext a q c buffer
   unfolding seenScene bufferedScene bufferedLegal bare
-  buffer-is l = buffer-judged files (length buffer) q ok n found c (seen l) right-code buffer
+  buffer-is l = buffer-judged files (length buffer) q ok n found c (λ h. seen l) right-code buffer
 
   -- the scene that the effects go by
   pub scene-is : sceneWith image i (entryAt (s .table) i) held given ≡ c

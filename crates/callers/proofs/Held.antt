@@ -33,6 +33,7 @@ use Rattle.steps.specs.Next.{Scene, factsOf, fileDone, fileMet, entryDone}
 use Rattle.steps.specs.Step.{heldOf, kept, bufferedScene, bufferedAnswer, bufferedAfter, bufferedStep}
 use Rattle.steps.specs.Verdict.{entryNext, fileNext}
 use Rattle.steps.proofs.Answered.{buffered-answered, buffered-is}
+use Rattle.steps.proofs.Buffer.{back-cases}
 use Rattle.steps.proofs.Inside.{Suits, AllSuit, lawful, suit}
 use Rattle.steps.proofs.Lawful.{Lawful}
 use Rattle.steps.proofs.Standing.{kept-used, kept-unused}
@@ -101,7 +102,7 @@ module _ (c : Scene) (few : c .entry .sectors ≤ mostSectors) where
   do-held (change x) s w h = take-held (x .place .sector) (s .1) w
   do-held (store k xs) s w h = h
   do-held (stamp xs) s w h = h
-  do-held putBack s w h = rw (put-held w) h
+  do-held putBack s w h = back-cases (λ (v : Bench). fits 4 (v .file .held) ≡ true) c w (λ z. rw (put-held w) h) (λ z. h)
 
   all-held : (xs : List Effect) → AllSuit (c .entry) xs → (w : Bench) → fits 4 (w .file .held) ≡ true → fits 4 (bufferedAll c xs w .file .held) ≡ true
   unfolding bufferedAll

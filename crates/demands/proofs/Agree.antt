@@ -11,7 +11,8 @@ use Rattle.geometry.specs.Bytes.{part, lay}
 use Rattle.geometry.proofs.Bytes.{Apart, length-part, part-lay-same}
 use Rattle.geometry.proofs.Tests.{both-ways, chosen}
 use Rattle.directory.specs.Entries.{tableOf, entryAt}
-use Rattle.sessions.specs.Session.{bare, isOf, fileOf, extent, extentWith}
+use Rattle.sessions.specs.Session.{bare, isOf, fileOf, hasBuffer, holdsOne, extent, extentWith}
+use Rattle.sessions.proofs.Held.{holds-one}
 use Rattle.sessions.proofs.Files.{is-of, Finds, opened, closed, finds}
 use Rattle.mounting.specs.Mounting.{mounts, bufferedMount}
 use Rattle.mounting.proofs.Mounted.{mounts-length}
@@ -27,7 +28,6 @@ use Rattle.settling.proofs.Scene.{same-bytes}
 use Rattle.settling.proofs.Step.{Agrees}
 use Rattle.demands.specs.Engine.{plainEngine, bufferedEngine, Standing, answered, stepOf, run, mounted}
 use Rattle.demands.specs.Demand2.{closing, Faithful, CountsStored}
-use Rattle.demands.specs.Buffer.{hasBuffer}
 use Rattle.demands.specs.Demand3.{Outside, Untouched, Agreeing, Agree}
 use Rattle.demands.proofs.Buffering.{buffer-used}
 use Rattle.demands.proofs.Passing.{held-within}
@@ -112,7 +112,7 @@ module _ (image : List ℕ) (ok : mounts image ≡ true) (asked : List Asked) wh
     seen-bytes : lay (extent e (w .image)) (sector * b .held) (b .buffer) ≡ extent e (v .image)
     unfolding extentWith
     seen-bytes =
-        sym (chosen (b .holds) _ (extent e (w .image)) h)
+        sym (chosen (holdsOne e b) _ (extent e (w .image)) (holds-one e b h kind))
         ∙ same-bytes (w .image) (w .session) kept i
         ∙ ap (λ (x : Standing Session). extent e (x .image)) same
 
@@ -124,7 +124,7 @@ module _ (image : List ℕ) (ok : mounts image ≡ true) (asked : List Asked) wh
 
     held-bytes : b .buffer ≡ part (extent e (v .image)) (sector * b .held) sector
     held-bytes =
-        let l : b .held < e .sectors = held-within (w .image) (w .session) (kept .isLegal) i h .1 in
+        let l : b .held < e .sectors = held-within (w .image) (w .session) (kept .isLegal) i h in
         sym (part-lay-same (extent e (w .image)) (sector * b .held) (b .buffer) sector (held-size (w .session) (kept .isTyped) i) (omega (arith, extent-size)))
         ∙ ap (λ (y : List ℕ). part y (sector * b .held) sector) seen-bytes
 

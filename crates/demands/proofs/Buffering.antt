@@ -2,7 +2,7 @@
 -- back first, and the state that is left has it. A sector that is held already is not taken again, so nothing is put back.
 use mathlib.Core.Path.{_≡_, refl, sym, ap, ap₂, subst, _∙_}
 use mathlib.Core.Logic.{_≢_}
-use mathlib.Core.Bool.{Bool, true, false, _&&_}
+use mathlib.Core.Bool.{Bool, true, false, _&&_, and-true}
 use mathlib.Core.List.{List, [], _∷_, map}
 use Prim.Native.Nat.{ℕ, _+_, _*_, _<_}
 use native.Mathlib.Omega.{arith}
@@ -15,7 +15,7 @@ use Rattle.geometry.specs.Places.{placeOf}
 use Rattle.geometry.specs.Sizes.{sector, entrySize, entries, blocked, compressed, random, sectorsOf}
 use Rattle.geometry.proofs.Bytes.{part-lay-apart}
 use Rattle.geometry.proofs.Places.{lawful-whole}
-use Rattle.geometry.proofs.Tests.{either, both-ways, and-left, and-right, or-either}
+use Rattle.geometry.proofs.Tests.{either, both-ways, chosen, and-left, and-right, or-either}
 use Rattle.directory.specs.Entries.{entryAt, isFree, isKind}
 use Rattle.directory.specs.Stamp.{stampBytes}
 use Rattle.directory.proofs.Good.{Lies, lies, used-inside, extents-apart}
@@ -24,9 +24,9 @@ use Rattle.packing.specs.Placing.{Change}
 use Rattle.requests.specs.Judge.{judge}
 use Rattle.requests.proofs.Done.{done-allows, met-meets}
 use Rattle.requests.proofs.Live.{done-real, met-live}
-use Rattle.sessions.specs.Session.{bare, fileOf, openFiles, extent, extentWith, legal, bufferedLegal, typed}
+use Rattle.sessions.specs.Session.{bare, fileOf, openFiles, hasBuffer, holdsOne, extent, extentWith, legal, bufferedLegal, typed}
 use Rattle.sessions.proofs.Legal.{lawful-length, bare-legal, good-table}
-use Rattle.steps.specs.Effects.{Effect, hold, change, readEffects, writeEffects, blockedEffect, effects, Bench, puttingBack, taking, working, plainDo, bufferedDo, bufferedAll}
+use Rattle.steps.specs.Effects.{Effect, hold, change, putBack, readEffects, writeEffects, blockedEffect, effects, Bench, puttingBack, taking, working, plainDo, bufferedDo, bufferedAll}
 use Rattle.steps.specs.Next.{Scene, factsOf, fileDone, fileMet}
 use Rattle.steps.specs.Step.{heldOf, bufferedScene, bufferedAnswer, bufferedAfter, bufferedStep}
 use Rattle.steps.specs.Verdict.{fileNext}
@@ -38,7 +38,7 @@ use Rattle.settling.proofs.Bench.{Elsewhere}
 use Rattle.settling.proofs.Kept.{table-length}
 use Rattle.tapes.specs.Model.{Asked}
 use Rattle.demands.specs.Engine.{bufferedEngine, Standing, answered, stepOf, sound}
-use Rattle.demands.specs.Buffer.{hasBuffer, Desk, deskOf, seenOn, back, taken, worked, closed, inTurn, readIn, changesOf, deskDone, deskNext, takenBy, putsBack, within, deskAt, fileAt, Buffering}
+use Rattle.demands.specs.Buffer.{Desk, deskOf, seenOn, back, taken, worked, closed, inTurn, readIn, changesOf, deskDone, deskNext, takenBy, putsBack, within, deskAt, fileAt, Buffering}
 use Rattle.demands.proofs.Desk.{desk, Ready, desk-back, desk-takes, desk-works, same-all}
 use Rattle.demands.proofs.Illegal.{answers-12, nothing-changed}
 use Rattle.demands.proofs.Orderly.{buffered-orderly}
@@ -168,7 +168,7 @@ module _ (image : List ℕ) (s : BufferedSession) (fine : sound image s ≡ true
   ready u = record {
     room = omega (arith, lies-at i u .ends, lawful-whole image (lawful-length image (bare s) plain-legal));
     size = held-whole image s fine i .size;
-    inside = λ h. held-within image s ok i h .1;
+    inside = λ h. held-within image s ok i h;
   }
 
   used-done : (q : Request) → judge q (facts q) ≡ Done → isFree entry ≡ false
@@ -222,34 +222,58 @@ module _ (image : List ℕ) (s : BufferedSession) (fine : sound image s ≡ true
         let b : BufferedFile = bufferedAll scene (effects q scene) found .file in
         ap (deskOf entry (bufferedAll scene (effects q scene) found .image)) (held-open image s types ok i given (length buffer) used q Done (done (done-allows q _ j)) _ b u ∙ kept-used (fileDone q scene) b u)
 
+    -- what it sees of its extent
+    seen-is : scene .bytes ≡ seenOn d
+    unfolding bufferedScene seenOn deskOf extentWith holdsOne
+    seen-is =
+        let b : BufferedFile = heldOf s i in
+        ap (λ (t : Bool). elim t [ true ↦ lay (extent entry image) (sector * b .held) (b .buffer) | false ↦ extent entry image ])
+        (ap (λ (t : Bool). b .holds && t) kind ∙ and-true (b .holds))
+
+    read-is : effects Read scene ≡ map hold (readIn entry file (seenOn d))
+    unfolding effects bufferedScene
+    read-is = read-list scene its-kind ∙ ap (λ (x : List ℕ). map hold (readIn entry file x)) seen-is
+
+    write-is : effects Write scene ≡ map change (changesOf entry file given)
+    unfolding effects bufferedScene
+    write-is = write-list scene its-kind
+
     read-desk : judge Read (facts Read) ≡ Done → desk entry (bufferedAll scene (effects Read scene) found) ≡ inTurn taken (readIn entry file (seenOn d)) d
-    unfolding effects bufferedScene seenOn deskOf extentWith
+    unfolding bufferedScene
     read-desk j =
-        ap (λ (xs : List Effect). desk entry (bufferedAll scene xs found)) (read-list scene its-kind)
-        ∙ desk-takes scene (readIn entry file (scene .bytes)) (subst (AllSuit entry) (read-list scene its-kind) (suits Read j)) found (ready used)
+        ap (λ (xs : List Effect). desk entry (bufferedAll scene xs found)) read-is
+        ∙ desk-takes scene (readIn entry file (seenOn d)) (subst (AllSuit entry) read-is (suits Read j)) found (ready used)
 
     write-desk : judge Write (facts Write) ≡ Done → desk entry (bufferedAll scene (effects Write scene) found) ≡ inTurn worked (changesOf entry file given) d
-    unfolding effects bufferedScene
+    unfolding bufferedScene
     write-desk j =
-        ap (λ (xs : List Effect). desk entry (bufferedAll scene xs found)) (write-list scene its-kind)
-        ∙ desk-works scene (changesOf entry file given) (subst (AllSuit entry) (write-list scene its-kind) (suits Write j)) found (ready used)
+        ap (λ (xs : List Effect). desk entry (bufferedAll scene xs found)) write-is
+        ∙ desk-works scene (changesOf entry file given) (subst (AllSuit entry) write-is (suits Write j)) found (ready used)
+
+    -- put back
+    put-first : bufferedDo scene putBack found ≡ puttingBack entry found
+    unfolding bufferedDo bufferedScene
+    put-first = chosen (hasBuffer entry) (puttingBack entry found) found kind
+
+    back-desk : desk entry (bufferedDo scene putBack found) ≡ back d
+    back-desk = ap (desk entry) put-first ∙ desk-back entry found (ready used)
 
     -- count and flags are stored in the directory, and no extent begins there
     stamped : (x : List ℕ) → extent entry (lay x (entrySize * i + 16) (stampBytes (entry .count) (entry .flags))) ≡ extent entry x
     unfolding extent stampBytes word
     stamped x = part-lay-apart x (entrySize * i + 16) _ _ _ (omega (arith, lies-at i used .starts, number-inside i used))
 
-    back-extent : extent entry (puttingBack entry found .image) ≡ back d .extent
+    back-extent : extent entry (bufferedDo scene putBack found .image) ≡ back d .extent
     unfolding deskOf
-    back-extent = ap (λ (x : Desk). x .extent) (desk-back entry found (ready used))
+    back-extent = ap (λ (x : Desk). x .extent) back-desk
 
     close-desk : judge (Position RewindOffline) (facts (Position RewindOffline)) ≡ Done
         → deskOf entry (left Done (Position RewindOffline) .image) (heldOf (left Done (Position RewindOffline) .session) i) ≡ closed (back d)
     unfolding bufferedAfter bufferedScene fileNext fileDone effects bufferedAll bufferedDo plainDo deskOf closed
     close-desk j =
         ap (deskOf entry (bufferedAll scene (effects (Position RewindOffline) scene) found .image))
-        (held-closed image s types ok i given (length buffer) used (Position RewindOffline) Done (done (done-allows (Position RewindOffline) _ j)) _ (puttingBack entry found .file) refl)
-        ∙ ap (λ (x : List ℕ). record { extent = x; holds = false; held = 0; changed = false; buffer = replicate sector 0 }) (stamped (puttingBack entry found .image) ∙ back-extent)
+        (held-closed image s types ok i given (length buffer) used (Position RewindOffline) Done (done (done-allows (Position RewindOffline) _ j)) _ (bufferedDo scene putBack found .file) refl)
+        ∙ ap (λ (x : List ℕ). record { extent = x; holds = false; held = 0; changed = false; buffer = replicate sector 0 }) (stamped (bufferedDo scene putBack found .image) ∙ back-extent)
 
     after-done : (q : Request) → judge q (facts q) ≡ Done → deskOf entry (left Done q .image) (heldOf (left Done q .session) i) ≡ deskDone q entry file given d
     unfolding deskDone effects bufferedAll bufferedDo bufferedScene fileDone factsOf
@@ -259,13 +283,13 @@ module _ (image : List ℕ) (s : BufferedSession) (fine : sound image s ≡ true
     after-done (GranuleRead g) j = absurd (not-random scene its-kind (done-allows (GranuleRead g) _ j .finds .random))
     after-done (GranuleWrite g) j = absurd (not-random scene its-kind (done-allows (GranuleWrite g) _ j .finds .random))
     after-done (GranuleLook g) j = absurd (not-random scene its-kind (done-allows (GranuleLook g) _ j .random))
-    after-done (Position WriteMark) j = still-open (Position WriteMark) j refl ∙ desk-back entry found (ready used)
-    after-done (Position RewindOnline) j = still-open (Position RewindOnline) j refl ∙ desk-back entry found (ready used)
+    after-done (Position WriteMark) j = still-open (Position WriteMark) j refl ∙ back-desk
+    after-done (Position RewindOnline) j = still-open (Position RewindOnline) j refl ∙ back-desk
     after-done (Position RewindOffline) j = close-desk j
     after-done (Position RecordForward) j = still-open (Position RecordForward) j refl
     after-done (Position RecordBack) j = still-open (Position RecordBack) j refl
-    after-done (Position FileForward) j = still-open (Position FileForward) j refl ∙ desk-back entry found (ready used)
-    after-done (Position FileBack) j = still-open (Position FileBack) j refl ∙ desk-back entry found (ready used)
+    after-done (Position FileForward) j = still-open (Position FileForward) j refl ∙ back-desk
+    after-done (Position FileBack) j = still-open (Position FileBack) j refl ∙ back-desk
 
     met-used : (x : Edge) → fileMet x (scene .file) .used ≡ true
     unfolding fileMet
@@ -286,10 +310,8 @@ module _ (image : List ℕ) (s : BufferedSession) (fine : sound image s ≡ true
       where
         go : (q : Request) → judge q (facts q) ≡ Done → putsBack q ≡ false → within d (takenBy q entry file given d) ≡ true → bufferedAll scene (effects q scene) found .image ≡ image
         go Open j p h = unfold effects bufferedAll in refl
-        go Read j p h = unfold effects bufferedScene takenBy deskOf seenOn extentWith in
-            (ap (λ (xs : List Effect). bufferedAll scene xs found .image) (read-list scene its-kind) ∙ takes-none scene (readIn entry file (scene .bytes)) found h)
-        go Write j p h = unfold effects bufferedScene takenBy deskOf in
-            (ap (λ (xs : List Effect). bufferedAll scene xs found .image) (write-list scene its-kind) ∙ works-none scene (changesOf entry file given) found h)
+        go Read j p h = unfold takenBy deskOf in (ap (λ (xs : List Effect). bufferedAll scene xs found .image) read-is ∙ takes-none scene (readIn entry file (seenOn d)) found h)
+        go Write j p h = unfold takenBy deskOf in (ap (λ (xs : List Effect). bufferedAll scene xs found .image) write-is ∙ works-none scene (changesOf entry file given) found h)
         go (GranuleRead g) j p h = unfold effects bufferedAll in refl
         go (GranuleWrite g) j p h = absurd (not-random scene its-kind (unfold factsOf in done-allows (GranuleWrite g) _ j .finds .random))
         go (GranuleLook g) j p h = unfold effects bufferedAll in refl

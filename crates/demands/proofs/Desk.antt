@@ -15,6 +15,7 @@ use Rattle.packing.specs.Placing.{Change}
 use Rattle.sessions.specs.Session.{extent}
 use Rattle.steps.specs.Effects.{Effect, hold, change, store, stamp, putBack, sectorAt, plainDo, Bench, puttingBack, loaded, taking, working, bufferedDo, bufferedAll}
 use Rattle.steps.specs.Next.{Scene}
+use Rattle.steps.proofs.Buffer.{back-cases}
 use Rattle.steps.proofs.Inside.{Suits, AllSuit}
 use Rattle.settling.proofs.Bench.{Elsewhere, takes-held}
 use Rattle.demands.specs.Buffer.{Desk, deskOf, back, taken, worked, inTurn}
@@ -127,7 +128,7 @@ module _ (c : Scene) (inTable : c .number < entries) where
   ready-do (change x) s w r = work-ready c x s w r
   ready-do (store k xs) s w r = record { room = rw (length-lay (w .image) (sectorAt (c .entry) k) xs) (r .room); size = r .size; inside = r .inside }
   ready-do (stamp xs) s w r = record { room = rw (length-lay (w .image) (entrySize * c .number + 16) xs) (r .room); size = r .size; inside = r .inside }
-  ready-do putBack s w r = back-ready (c .entry) w r
+  ready-do putBack s w r = back-cases (Ready (c .entry)) c w (λ z. back-ready (c .entry) w r) (λ z. r)
 
   -- a part of the image that is in neither the extent nor the directory
   module _ (at n : ℕ) (far : Elsewhere (c .entry) at n) where
@@ -151,7 +152,7 @@ module _ (c : Scene) (inTable : c .number < entries) where
     same-do (change x) s w r = same-take (x .place .sector) w r
     same-do (store k xs) s w r = part-lay-apart (w .image) (sectorAt (c .entry) k) xs at n (omega (arith, far .0, s .1))
     same-do (stamp xs) s w r = part-lay-apart (w .image) (entrySize * c .number + 16) xs at n (omega (arith, far .1))
-    same-do putBack s w r = same-back w r
+    same-do putBack s w r = back-cases (λ (v : Bench). part (v .image) at n ≡ part (w .image) at n) c w (λ z. same-back w r) (λ z. refl)
 
     pub same-all : (xs : List Effect) → AllSuit (c .entry) xs → (w : Bench) → Ready (c .entry) w → part (bufferedAll c xs w .image) at n ≡ part (w .image) at n
     unfolding bufferedAll

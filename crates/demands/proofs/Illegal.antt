@@ -49,12 +49,13 @@ isLegal : List ℕ → BufferedSession → Bool
 unfolding part padded wordAt word all every pairwise howMany same sectorsFor perSector capacity sectorsOf lawfulLength entryFrom entryBytes entriesFrom tableOf isMarked kindKnown freeIsZero capital digit restOfName isName nameGood namesDiffer extentInside extentsApart flagsKnown longest lengthGood countGood randomBare tableRules tableGood bare isOf openFiles ofUsedEntry ofOther positionGood beyondGood placeGood placesGood heldGood sessionRules legal bufferedLegal
 isLegal image s = bufferedLegal image s
 
--- three sectors: entry 0 a blocked file of R 180, one record, marked; entry 1 a compressed file with no record; one sector each
-three : List ℕ
-three =
+-- four sectors: entry 0 a blocked file of R 180, one record, marked; entry 1 a compressed file with no record; entry 2 a random file; one sector each
+four : List ℕ
+four =
     (193 ∷ 64 ∷ 64 ∷ 64 ∷ 64 ∷ 64 ∷ 64 ∷ 64 ∷ 0 ∷ 2 ∷ 0 ∷ 180 ∷ 0 ∷ 1 ∷ 0 ∷ 1 ∷ 0 ∷ 1 ∷ 0 ∷ 1
-    ∷ 194 ∷ 64 ∷ 64 ∷ 64 ∷ 64 ∷ 64 ∷ 64 ∷ 64 ∷ 0 ∷ 3 ∷ 0 ∷ 80 ∷ 0 ∷ 2 ∷ 0 ∷ 1 ∷ [])
-    ++ replicate 1044 0
+    ∷ 194 ∷ 64 ∷ 64 ∷ 64 ∷ 64 ∷ 64 ∷ 64 ∷ 64 ∷ 0 ∷ 3 ∷ 0 ∷ 80 ∷ 0 ∷ 2 ∷ 0 ∷ 1 ∷ 0 ∷ 0 ∷ 0 ∷ 0
+    ∷ 195 ∷ 64 ∷ 64 ∷ 64 ∷ 64 ∷ 64 ∷ 64 ∷ 64 ∷ 0 ∷ 4 ∷ 0 ∷ 80 ∷ 0 ∷ 3 ∷ 0 ∷ 1 ∷ [])
+    ++ replicate 1384 0
 
 abbrev at : ℕ → ℕ → Bool → Place → Place → OpenFile
 at i p b h e = record { used = true; entry = i; position = p; beyond = b; here = h; end = e }
@@ -72,20 +73,22 @@ having t a b = record { table = t; files = a ∷ b ∷ fresh idle ∷ fresh idle
 abbrev first : BufferedFile
 first = fresh (at 0 1 true origin origin)
 
-examples : isLegal three (having (tableOf three) first (holdingIt 0 (at 1 0 false (place 0 360) origin)))
-    ∷ isLegal three (having (tableOf three) first (record { file = idle; holds = true; held = 9; changed = true; buffer = [] }))  -- a state not in use is not looked at
-    ∷ isLegal (replicate 1079 0) (having (tableOf three) first (fresh idle))  -- the image's length
-    ∷ isLegal three (having (set (tableOf three) 2 (entryAt (tableOf three) 0)) first (fresh idle))  -- a table with one name twice
-    ∷ isLegal three (having (tableOf three) first (fresh (at 2 0 false origin origin)))  -- a free entry open
-    ∷ isLegal three (having (tableOf three) first (fresh (at 18 0 false origin origin)))  -- no such entry open
-    ∷ isLegal three (having (tableOf three) first (fresh (at 0 0 false origin origin)))  -- one entry twice
-    ∷ isLegal three (having (tableOf three) (fresh (at 0 2 false origin origin)) (fresh idle))  -- p over the count
-    ∷ isLegal three (having (tableOf three) (fresh (at 0 0 true origin origin)) (fresh idle))  -- beyond before the end
-    ∷ isLegal three (having (tableOf three) first (fresh (at 1 0 true origin origin)))  -- beyond, not marked
-    ∷ isLegal three (having (tableOf three) first (fresh (at 1 0 false (place 1 0) origin)))  -- current place past the extent
-    ∷ isLegal three (having (tableOf three) first (fresh (at 1 0 false origin (place 0 361))))  -- end place at byte 361
-    ∷ isLegal three (having (tableOf three) first (holdingIt 1 (at 1 0 false origin origin)))  -- a held sector past the extent
+examples : isLegal four (having (tableOf four) first (holdingIt 0 (at 1 0 false (place 0 360) origin)))
+    ∷ isLegal four (having (tableOf four) first (record { file = idle; holds = true; held = 9; changed = true; buffer = [] }))  -- a state not in use is not looked at
+    ∷ isLegal four (having (tableOf four) first (holdingIt 0 (at 2 0 false origin origin)))  -- a random file has no buffer, but the sector lies in its extent
+    ∷ isLegal (replicate 1439 0) (having (tableOf four) first (fresh idle))  -- the image's length
+    ∷ isLegal four (having (set (tableOf four) 3 (entryAt (tableOf four) 0)) first (fresh idle))  -- a table with one name twice
+    ∷ isLegal four (having (tableOf four) first (fresh (at 3 0 false origin origin)))  -- a free entry open
+    ∷ isLegal four (having (tableOf four) first (fresh (at 18 0 false origin origin)))  -- no such entry open
+    ∷ isLegal four (having (tableOf four) first (fresh (at 0 0 false origin origin)))  -- one entry twice
+    ∷ isLegal four (having (tableOf four) (fresh (at 0 2 false origin origin)) (fresh idle))  -- p over the count
+    ∷ isLegal four (having (tableOf four) (fresh (at 0 0 true origin origin)) (fresh idle))  -- beyond before the end
+    ∷ isLegal four (having (tableOf four) first (fresh (at 1 0 true origin origin)))  -- beyond, not marked
+    ∷ isLegal four (having (tableOf four) first (fresh (at 1 0 false (place 1 0) origin)))  -- current place past the extent
+    ∷ isLegal four (having (tableOf four) first (fresh (at 1 0 false origin (place 0 361))))  -- end place at byte 361
+    ∷ isLegal four (having (tableOf four) first (holdingIt 1 (at 1 0 false origin origin)))  -- a held sector past the extent
+    ∷ isLegal four (having (tableOf four) first (holdingIt 1 (at 2 0 false origin origin)))  -- also of a random file
     ∷ []
-    ≡ true ∷ true ∷ replicate 11 false
-unfolding isLegal three
+    ≡ true ∷ true ∷ true ∷ replicate 12 false
+unfolding isLegal four
 examples = refl

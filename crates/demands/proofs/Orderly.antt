@@ -20,7 +20,7 @@ use Rattle.directory.specs.Entries.{entryAt, isKind}
 use Rattle.packing.specs.Reading.{got, lost, gotFrom, startOf, readAt, readBehind, extentEnd}
 use Rattle.requests.specs.Judge.{tests, whether, orElse, firstOf, judge, placeInLine, inOrder}
 use Rattle.requests.proofs.InOrder.{tests-in-order}
-use Rattle.sessions.specs.Session.{idle, fresh, bare, unheld, fileOf, slotOf, extentWith}
+use Rattle.sessions.specs.Session.{idle, fresh, bare, unheld, fileOf, slotOf, holdsOne, extentWith}
 use Rattle.sessions.proofs.Unheld.{bare-unheld, unheld-legal}
 use Rattle.steps.specs.Look.{shown, plainLookAnswer, plainLook, bufferedLookAnswer, bufferedLook}
 use Rattle.steps.specs.Next.{Scene, factsOf, fixedAt, recordHere, bytesGot, fileMet, intoBuffer}
@@ -224,7 +224,7 @@ kept-fresh EndOfFile f g = refl
 kept-fresh BeginningOfTape f g = refl
 
 pub same-scene : (image : List ℕ) (s : Session) (i : ℕ) (given : List ℕ) → bufferedScene image (unheld s) i given ≡ plainScene image s i given
-unfolding plainScene bufferedScene extentWith
+unfolding plainScene bufferedScene extentWith holdsOne
 same-scene image s i given =
     let h = fresh-held s i in
     rw (bare-unheld s, h .1, unheld-table s)

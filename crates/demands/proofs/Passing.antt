@@ -27,7 +27,7 @@ use Rattle.steps.specs.Effects.{Bench, effects, plainAll, bufferedAll}
 use Rattle.steps.specs.Next.{Scene, factsOf, fileDone, fileMet, entryDone}
 use Rattle.steps.specs.Step.{heldOf, kept, plainScene, plainAnswer, plainAfter, plainStep, bufferedScene, bufferedAnswer, bufferedAfter, bufferedStep}
 use Rattle.steps.specs.Verdict.{entryNext, fileNext}
-use Rattle.steps.proofs.Inside.{buffers, lawful, suit}
+use Rattle.steps.proofs.Inside.{lawful, suit}
 use Rattle.steps.proofs.Lawful.{Lawful}
 use Rattle.serving.proofs.Keeping.{goes-used, goes, Of, done, met, legal-next, legal-step}
 use Rattle.settling.proofs.Bench.{Within, within-all, length-all}

@@ -16,6 +16,7 @@ use Rattle.sessions.specs.Session.{idle, fresh, unheld, typed}
 use Rattle.steps.specs.Effects.{Effect, hold, change, store, stamp, putBack, plainDo, sectorAt, Bench, puttingBack, loaded, taking, working, bufferedDo, bufferedAll}
 use Rattle.steps.specs.Next.{Scene}
 use Rattle.steps.specs.Step.{heldOf, kept}
+use Rattle.steps.proofs.Buffer.{back-cases}
 use Rattle.steps.proofs.Inside.{Suits, AllSuit}
 use Rattle.steps.proofs.Standing.{Standing, isOpen, isShut, standing, kept-used, kept-unused}
 use Rattle.settling.proofs.Kept.{buffer-length, typed-set}
@@ -148,7 +149,7 @@ module _ (c : Scene) where
   do-sound (change x) s h w b = works (c .entry) (x .place .byte) (x .bytes) h _ (takes (c .entry) (x .place .sector) (s .1) w b)
   do-sound (store k xs) s h w b = straight (c .entry) _ xs h w b
   do-sound (stamp xs) s h w b = straight (c .entry) _ xs h w b
-  do-sound putBack s h w b = puts (c .entry) w b
+  do-sound putBack s h w b = back-cases (SoundBench (c .entry)) c w (λ z. puts (c .entry) w b) (λ z. b)
 
   pub all-sound : (xs : List Effect) → AllSuit (c .entry) xs → AllInBytes xs → (w : Bench) → SoundBench (c .entry) w → SoundBench (c .entry) (bufferedAll c xs w)
   unfolding bufferedAll

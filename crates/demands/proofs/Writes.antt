@@ -18,7 +18,7 @@ use Rattle.geometry.specs.Places.{perSector, placeOf, sectorsFor}
 use Rattle.geometry.specs.Sizes.{blocked}
 use Rattle.geometry.proofs.Bytes.{lay-nil}
 use Rattle.geometry.proofs.Places.{place-blocked}
-use Rattle.geometry.proofs.Tests.{either, and-left, and-right, and-both}
+use Rattle.geometry.proofs.Tests.{either, chosen, and-left, and-right, and-both}
 use Rattle.directory.specs.Entries.{entryAt, freeEntry, isFree, isKind}
 use Rattle.directory.proofs.Free.{every-append}
 use Rattle.directory.proofs.Good.{used-inside}
@@ -27,12 +27,13 @@ use Rattle.requests.specs.Numbers.{numberOf}
 use Rattle.requests.proofs.Done.{done-allows}
 use Rattle.requests.proofs.Live.{done-real}
 use Rattle.requests.proofs.Numbers.{done-is}
-use Rattle.sessions.specs.Session.{bare, unheld, fileOf, openFiles, bufferedLegal}
+use Rattle.sessions.specs.Session.{bare, unheld, fileOf, openFiles, hasBuffer, bufferedLegal}
 use Rattle.steps.specs.Effects.{Effect, hold, change, store, stamp, putBack, writeEffects, blockedEffect, effects, Bench, puttingBack, loaded, taking, working, plainDo, plainAll, bufferedDo, bufferedAll}
 use Rattle.steps.specs.Next.{Scene, factsOf, counted, fileDone, entryDone}
 use Rattle.steps.specs.Step.{After, heldOf, plainScene, plainAnswer, plainAfter, plainStep, bufferedScene, bufferedAnswer, bufferedAfter, bufferedStep}
 use Rattle.steps.specs.Verdict.{fileNext}
 use Rattle.steps.proofs.Answered.{plain-is, buffered-answered, buffered-is}
+use Rattle.steps.proofs.Buffer.{back-cases}
 use Rattle.steps.proofs.Standing.{withBuffer, kept-used, held-file}
 use Rattle.serving.proofs.Keeping.{done}
 use Rattle.settling.proofs.Bench.{takes-held}
@@ -93,13 +94,13 @@ module _ (c : Scene) where
       go true t = rw (t, taking)
       go false t = rw (t, taking) (back-none w (rw (t, takeWrites) at h))
 
-  buffered-none : (x : Effect) (w : Bench) → bufferedWrites x w ≡ 0 → bufferedDo c x w .image ≡ w .image
+  buffered-none : (x : Effect) (w : Bench) → bufferedWrites (c .entry) x w ≡ 0 → bufferedDo c x w .image ≡ w .image
   unfolding bufferedWrites bufferedDo working
   buffered-none (hold k) w h = take-none k w h
   buffered-none (change x) w h = take-none (x .place .sector) w h
   buffered-none (store k xs) w h = plain-none (store k xs) (w .image) h
   buffered-none (stamp xs) w h = plain-none (stamp xs) (w .image) h
-  buffered-none putBack w h = back-none w h
+  buffered-none putBack w h = back-cases (λ (v : Bench). v .image ≡ w .image) c w (λ b. back-none w (sym (chosen (hasBuffer (c .entry)) (backWrites w) 0 b) ∙ h)) (λ b. refl)
 
   buffered-all-none : (xs : List Effect) (w : Bench) → bufferedSum c xs w ≡ 0 → bufferedAll c xs w .image ≡ w .image
   unfolding bufferedSum bufferedAll
@@ -358,10 +359,13 @@ in-sector w i p q (given ∷ givens) b e l =
     (omega (arith, r, s, take-most (p / q) (benchAt bufferedEngine w i)), λ c. omega (arith, r, s, take-unchanged (p / q) (benchAt bufferedEngine w i) c))
 
 close-count : (w : Standing BufferedSession) (i q m : ℕ) → Behind w i q m → answered bufferedEngine w (closing i) .answer ≡ Done → count w (closing i) ≡ 2
-unfolding bufferedCount effectsOf effects bufferedSum bufferedWrites plainWrites
+unfolding bufferedCount effectsOf effects bufferedSum bufferedWrites plainWrites bufferedScene
 close-count w i q m b d =
     let c : Scene = sceneAt bufferedEngine w (closing i) in
-    ap (λ (a : Answer). bufferedSum c (effectsOf a (Position RewindOffline) c) (benchAt bufferedEngine w i)) d ∙ omega (arith, back-changed (benchAt bufferedEngine w i) (b .holds) (b .changed))
+    let z : isKind blocked (entryAt (w .session .table) i) ≡ true = b .blockedAt .kind in
+    let k : hasBuffer (entryAt (w .session .table) i) ≡ true = rw z in
+    ap (λ (a : Answer). bufferedSum c (effectsOf a (Position RewindOffline) c) (benchAt bufferedEngine w i)) d
+    ∙ omega (arith, chosen (hasBuffer (entryAt (w .session .table) i)) (backWrites (benchAt bufferedEngine w i)) 0 k, back-changed (benchAt bufferedEngine w i) (b .holds) (b .changed))
 
 whole-file : (w : Standing BufferedSession) (i q : ℕ) (given : List ℕ) (givens : List (List ℕ)) → heldOf (w .session) i .changed ≡ false
     → Writing bufferedEngine w i 0 q (records i (given ∷ givens) ++ (closing i ∷ []))

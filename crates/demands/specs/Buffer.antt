@@ -2,7 +2,7 @@
 -- and at no other time"; a read or write "takes each sector that it must read or change, unless held already, and ends holding the one its record lies
 -- in, until another is taken or the file is closed". As statements over an engine, for every request and every blocked or compressed file.
 use mathlib.Core.Path.{_≡_}
-use mathlib.Core.Bool.{Bool, true, false, _&&_, _||_}
+use mathlib.Core.Bool.{Bool, true, false, _&&_}
 use mathlib.Core.List.{List, [], _∷_, map}
 use Prim.Native.Nat.{ℕ, _-_, _*_}
 use lib.ListN.{length, replicate}
@@ -10,12 +10,13 @@ use lib.Dec.{eqb, ltb}
 use Rattle.geometry.specs.Bytes.{part, lay, padded}
 use Rattle.geometry.specs.Lists.{every}
 use Rattle.geometry.specs.Places.{placeOf}
-use Rattle.geometry.specs.Sizes.{sector, blocked, compressed}
+use Rattle.geometry.specs.Sizes.{sector, compressed}
 use Rattle.coding.specs.Encode.{codeOf}
 use Rattle.directory.specs.Entries.{entryAt, isKind}
 use Rattle.packing.specs.Placing.{Change, goesTo, changes}
 use Rattle.packing.specs.Reading.{startOf, goesOn}
 use Rattle.sessions.specs.Session as sessions
+use Rattle.sessions.specs.Session.{hasBuffer}
 use Rattle.steps.specs.Step.{heldOf}
 use Rattle.tapes.specs.Model.{Asked}
 use Rattle.demands.specs.Engine.{Engine, Standing, answered, stepOf, areBytes, sound}
@@ -28,10 +29,6 @@ use Rattle.requests.specs.declared.Request.{Request}
 use Rattle.requests.specs.declared.Request.the-variants.{Open, Read, Write, GranuleRead, GranuleWrite, GranuleLook, Position}
 use Rattle.sessions.specs.declared.BufferedFile.{BufferedFile}
 use Rattle.sessions.specs.declared.OpenFile.{OpenFile}
-
--- "The buffered engine gives each open blocked or compressed file a blocking buffer of 360 bytes"
-abbrev pub hasBuffer : Entry → Bool
-hasBuffer e = isKind blocked e || isKind compressed e
 
 -- ---- a file's sectors in the image, and its buffer
 

@@ -11,13 +11,12 @@ use Rattle.geometry.specs.Bytes.{part}
 use Rattle.geometry.specs.Lists.{every}
 use Rattle.geometry.specs.Sizes.{sector, entrySize, blocked, compressed}
 use Rattle.directory.specs.Entries.{tableOf, entryAt}
-use Rattle.sessions.specs.Session.{extent}
+use Rattle.sessions.specs.Session.{hasBuffer, extent}
 use Rattle.mounting.specs.Mounting.{mounts}
 use Rattle.steps.specs.Step.{heldOf}
 use Rattle.tapes.specs.Model.{Asked, modelsOf, modelRun, nothingOpen, opened}
 use Rattle.demands.specs.Engine.{Engine, reports, run, mounted, inBytes}
 use Rattle.demands.specs.Demand2.{Faithful}
-use Rattle.demands.specs.Buffer.{hasBuffer}
 use Rattle.directory.specs.declared.Entry.{Entry}
 use Rattle.sessions.specs.declared.BufferedFile.{BufferedFile}
 

@@ -10,7 +10,7 @@ use Rattle.geometry.specs.Lists.{every}
 use Rattle.geometry.specs.Places.{perSector, sectorsFor}
 use Rattle.geometry.specs.Sizes.{blocked}
 use Rattle.directory.specs.Entries.{entryAt, isKind}
-use Rattle.sessions.specs.Session.{bare, fileOf}
+use Rattle.sessions.specs.Session.{bare, fileOf, hasBuffer}
 use Rattle.steps.specs.Effects.{Effect, hold, change, store, stamp, putBack, effects, Bench, bufferedDo}
 use Rattle.steps.specs.Next.{Scene}
 use Rattle.steps.specs.Step.{bufferedScene}
@@ -18,6 +18,7 @@ use Rattle.tapes.specs.Model.{Asked}
 use Rattle.demands.specs.Engine.{Engine, Standing, answered, stepOf, reports, giveBytes, sound}
 use Rattle.demands.specs.Demand2.{writing, closing}
 use Rattle.demands.specs.Buffer.{fileAt}
+use Rattle.directory.specs.declared.Entry.{Entry}
 use Rattle.requests.specs.declared.Answer.{Answer}
 use Rattle.requests.specs.declared.Answer.the-variants.{Done, Met, Refused}
 use Rattle.requests.specs.declared.Request.{Request}
@@ -41,13 +42,13 @@ backWrites w = elim (w .file .holds && w .file .changed) [ true ↦ 1 | false �
 unfoldable pub takeWrites : ℕ → Bench → ℕ
 takeWrites k w = elim (w .file .holds && eqb (w .file .held) k) [ true ↦ 0 | false ↦ backWrites w ]
 
--- by way of the buffer
-unfoldable pub bufferedWrites : Effect → Bench → ℕ
-bufferedWrites (hold k) w = takeWrites k w
-bufferedWrites (change x) w = takeWrites (x .place .sector) w
-bufferedWrites (store k xs) w = plainWrites (store k xs)
-bufferedWrites (stamp xs) w = plainWrites (stamp xs)
-bufferedWrites putBack w = backWrites w
+-- by way of the buffer; a file that has none puts nothing back
+unfoldable pub bufferedWrites : Entry → Effect → Bench → ℕ
+bufferedWrites e (hold k) w = takeWrites k w
+bufferedWrites e (change x) w = takeWrites (x .place .sector) w
+bufferedWrites e (store k xs) w = plainWrites (store k xs)
+bufferedWrites e (stamp xs) w = plainWrites (stamp xs)
+bufferedWrites e putBack w = elim (hasBuffer e) [ true ↦ backWrites w | false ↦ 0 ]
 
 -- ---- one request
 
@@ -63,7 +64,7 @@ plainSum (x ∷ xs) = plainWrites x + plainSum xs
 
 unfoldable pub bufferedSum : Scene → List Effect → Bench → ℕ
 bufferedSum c [] w = 0
-bufferedSum c (x ∷ xs) w = bufferedWrites x w + bufferedSum c xs (bufferedDo c x w)
+bufferedSum c (x ∷ xs) w = bufferedWrites (c .entry) x w + bufferedSum c xs (bufferedDo c x w)
 
 module _ (E : Engine) where
   -- what a request finds: its file; and the image, and the buffer

@@ -15,6 +15,7 @@ use Rattle.directory.specs.Entries.{isKind}
 use Rattle.packing.specs.Placing.{changes}
 use Rattle.steps.specs.Effects.{Effect, hold, change, store, stamp, putBack, storeEffect, blockedEffect, sectorAt, plainDo, Bench, puttingBack, loaded, taking, working, bufferedDo, bufferedAll}
 use Rattle.steps.specs.Next.{Scene}
+use Rattle.steps.proofs.Buffer.{back-cases}
 use Rattle.steps.proofs.Frame.{Unstamped, choice, all-changes}
 use Rattle.steps.proofs.Inside.{Suits, AllSuit}
 use Rattle.sessions.specs.Session.{idle}
@@ -57,7 +58,7 @@ length-do c (hold k) w = length-take (c .entry) w k
 length-do c (change x) w = length-take (c .entry) w (x .place .sector)
 length-do c (store k xs) w = length-lay _ _ _
 length-do c (stamp xs) w = length-lay _ _ _
-length-do c putBack w = length-put (c .entry) w
+length-do c putBack w = back-cases (λ (v : Bench). length (v .image) ≡ length (w .image)) c w (λ h. length-put (c .entry) w) (λ h. refl)
 
 -- ---- effects that suit the file
 
@@ -71,7 +72,7 @@ whole-do c (hold k) w s h l = whole-take (c .entry) w k (inside (c .entry) k _ (
 whole-do c (change x) w s h l = length-lay _ _ _ ∙ whole-take (c .entry) w (x .place .sector) (inside (c .entry) (x .place .sector) _ (h .1) s) l
 whole-do c (store k xs) w s h l = l
 whole-do c (stamp xs) w s h l = l
-whole-do c putBack w s h l = ap length (whole-put (c .entry) w) ∙ l
+whole-do c putBack w s h l = back-cases (λ (v : Bench). length (v .file .buffer) ≡ sector) c w (λ b. ap length (whole-put (c .entry) w) ∙ l) (λ b. l)
 
 there : (e : Entry) (k n : ℕ) → k < e .sectors → sector * (e .first + e .sectors) ≤ n → isThere e k n ≡ true
 unfolding isThere

@@ -1,5 +1,5 @@
 -- What each definition of the buffer's work comes to, case by case: the tests of its definition, one way each.
-use mathlib.Core.Path.{_≡_, refl, sym}
+use mathlib.Core.Path.{_≡_, refl, sym, _∙_}
 use mathlib.Core.Bool.{Bool, true, false, _&&_}
 use mathlib.Core.List.{List, [], _∷_, map}
 use Prim.Native.Nat.{ℕ, _+_, _-_, _≤_, _<_}
@@ -11,11 +11,11 @@ use denote.Enum.Declared.{tagOf}
 use Rattle.geometry.specs.Bytes.{lay, padded}
 use Rattle.geometry.specs.Places.{placeOf}
 use Rattle.geometry.specs.Sizes.{sector, entries, blocked, compressed}
-use Rattle.geometry.proofs.Tests.{either, and-left, and-right}
+use Rattle.geometry.proofs.Tests.{either, chosen, not-chosen, and-left, and-right}
 use Rattle.directory.specs.Stamp.{stampBytes, stamped}
 use Rattle.packing.specs.Placing.{fitsHere, filled, changes}
 use Rattle.steps.specs.Effects.{hold, change, stamp, putBack, storeEffect, blockedEffect, effects, sectorAt, plainDo, holding, Bench, puttingBack, loaded, taking, working, bufferedDo}
-use Rattle.sessions.specs.Session.{idle}
+use Rattle.sessions.specs.Session.{idle, hasBuffer}
 use Rattle.straight.specs.Straight.{writing}
 use Rattle.requests.proofs.Order as order
 use Rattle.geometry.specs.declared.Place.{Place}
@@ -30,20 +30,26 @@ use Rattle.held.specs.Held.{bench, lent, scene, isThere, isWhole, canDo,
 -- ---- the buffer
 
 module _ (e : Entry) (w : Bench) where
-  pub put-changed : isWhole w && (w .file .holds && w .file .changed) ≡ true
-      → bench (lay (w .image) (sectorAt e (w .file .held)) (w .file .buffer)) (holding (w .file) (w .file .held) false (w .file .buffer)) ≡ heldDo (scene 0 e) putBack w
-  unfolding heldDo canDo bufferedDo puttingBack
-  put-changed h = rw (and-left (isWhole w) (w .file .holds && w .file .changed) h, and-right (isWhole w) (w .file .holds && w .file .changed) h, heldDo, puttingBack)
+  pub lay-changed : w .file .holds && w .file .changed ≡ true
+      → bench (lay (w .image) (sectorAt e (w .file .held)) (w .file .buffer)) (holding (w .file) (w .file .held) false (w .file .buffer)) ≡ puttingBack e w
+  unfolding puttingBack
+  lay-changed h = rw (h, puttingBack)
 
-  pub put-unchanged : isWhole w && (w .file .holds && w .file .changed) ≡ false → w ≡ heldDo (scene 0 e) putBack w
-  unfolding heldDo canDo bufferedDo puttingBack
-  put-unchanged h = either (isWhole w)
-      (λ (t : isWhole w ≡ true). let z : w .file .holds && w .file .changed ≡ false = rw t at h in rw (t, z, heldDo, puttingBack))
-      (λ (t : isWhole w ≡ false). rw (t, heldDo))
+  pub lay-unchanged : w .file .holds && w .file .changed ≡ false → w ≡ puttingBack e w
+  unfolding puttingBack
+  lay-unchanged h = rw (h, puttingBack)
 
-  pub put-whole : length (w .file .buffer) ≡ sector → heldDo (scene 0 e) putBack w ≡ puttingBack e w
-  unfolding heldDo canDo bufferedDo
-  put-whole h = rw (eq-eqb (length (w .file .buffer)) sector h, heldDo)
+  -- t says whether the file has a buffer
+  module _ (t : Bool) (told : t ≡ hasBuffer e) where
+    pub put-there : isWhole w && t ≡ true → puttingBack e w ≡ heldDo (scene 0 e) putBack w
+    unfolding heldDo canDo bufferedDo
+    put-there h = sym (chosen (isWhole w) _ w (and-left (isWhole w) t h) ∙ chosen (hasBuffer e) (puttingBack e w) w (sym told ∙ and-right (isWhole w) t h))
+
+    pub put-nowhere : isWhole w && t ≡ false → w ≡ heldDo (scene 0 e) putBack w
+    unfolding heldDo canDo bufferedDo
+    put-nowhere h = either (isWhole w)
+        (λ (k : isWhole w ≡ true). sym (chosen (isWhole w) _ w k ∙ not-chosen (hasBuffer e) (puttingBack e w) w (sym told ∙ rw k at h)))
+        (λ (k : isWhole w ≡ false). sym (not-chosen (isWhole w) _ w k))
 
   pub take-held : (k : ℕ) → w .file .holds && eqb (w .file .held) k ≡ true → w ≡ taking e k w
   unfolding taking

@@ -22,24 +22,43 @@ ghost use Rattle.geometry.specs.Bytes.{part, padded};
 ghost use Rattle.geometry.specs.Sizes.{sector};
 ghost use Rattle.packing.specs.Placing.{changes};
 ghost use Rattle.requests.specs.declared.Request.the-variants.{Position};
-ghost use Rattle.steps.specs.Effects.{effects, sectorAt, taking};
+ghost use Rattle.sessions.specs.Session.{hasBuffer};
+ghost use Rattle.steps.specs.Effects.{effects, sectorAt, puttingBack, taking};
 ghost use Rattle.steps.specs.Effects as Effects;
 ghost use Rattle.straight.specs.Straight.{writing};
 ghost use Rattle.held.specs.Held.{lent, scene, isThere, heldDo, heldAll, readWith, writeWith};
 
 // ---- the buffer
 
-// A changed buffer goes back to its sector; one that is not changed is not written.
-pub fn put_back(image: &mut [u8], e: Entry, h: Holding, buffer: &[u8]) -> Holding
-    ensures { λ r. ⌜ lent (now (image .exit)) r (now (buffer .entry)) ≡ heldDo (scene 0 e) Effects.putBack (lent (now (image .entry)) h (now (buffer .entry))) ⌝ }
+// Whether a file has a blocking buffer: a blocked or compressed one.
+fn has_buffer(e: Entry) -> bool
+    ensures { λ r. ⌜ r ≡ hasBuffer e ⌝ }
 {
-    if (buffer.len() == Geometry::SECTOR) & (h.holds & h.changed) {
+    (e.kind == Geometry::BLOCKED) | (e.kind == Geometry::COMPRESSED)
+}
+
+// A changed buffer goes back to its sector; one that is not changed is not written.
+fn lay_back(image: &mut [u8], e: Entry, h: Holding, buffer: &[u8]) -> Holding
+    ensures { λ r. ⌜ lent (now (image .exit)) r (now (buffer .entry)) ≡ puttingBack e (lent (now (image .entry)) h (now (buffer .entry))) ⌝ }
+{
+    if h.holds & h.changed {
         lay(image, sector_at(e, h.held), buffer);
         Holding {
             holds: true,
             held: h.held,
             changed: false,
         }
+    } else {
+        h
+    }
+}
+
+// The buffer of a file that has one goes back.
+pub fn put_back(image: &mut [u8], e: Entry, h: Holding, buffer: &[u8]) -> Holding
+    ensures { λ r. ⌜ lent (now (image .exit)) r (now (buffer .entry)) ≡ heldDo (scene 0 e) Effects.putBack (lent (now (image .entry)) h (now (buffer .entry))) ⌝ }
+{
+    if (buffer.len() == Geometry::SECTOR) & has_buffer(e) {
+        lay_back(image, e, h, buffer)
     } else {
         h
     }
@@ -61,7 +80,7 @@ fn take(image: &mut [u8], e: Entry, h: Holding, buffer: &mut [u8], k: u32) -> Ho
     if h.holds & (h.held == k) {
         h
     } else {
-        put_back(image, e, h, buffer);
+        lay_back(image, e, h, buffer);
         load(image, e, k, buffer);
         Holding {
             holds: true,

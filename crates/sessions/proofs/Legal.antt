@@ -9,7 +9,7 @@ use lib.ListN.{length, getD, List·getD-eq-default}
 use lib.Dec.{eqb, ltb}
 use borrow.Author.Tests.{leb-true, ltb-true, eqb-true, not-true}
 use Rattle.geometry.specs.Lists.{every, pairwise}
-use Rattle.geometry.specs.Sizes.{sector, entries, blocked, compressed, sectorsOf, lawfulLength}
+use Rattle.geometry.specs.Sizes.{sector, entries, compressed, sectorsOf, lawfulLength}
 use Rattle.geometry.proofs.Tests.{and-left, and-right, all-getD, every-any, pairwise-getD, both-ways}
 use Rattle.directory.specs.Entries.{entryAt, isFree, isKind, isMarked}
 use Rattle.directory.specs.Rules.{tableGood}
@@ -120,9 +120,8 @@ module _ (image : List ℕ) (s : BufferedSession) (ok : bufferedLegal image s �
 
   -- "a held sector lies in its file's extent"
   pub held-inside : (k : ℕ) (b : BufferedFile) (e : Entry) → b ≡ getD (s .files) k (fresh idle) → e ≡ entryAt (s .table) (b .file .entry) → b .file .used ≡ true → b .holds ≡ true
-      → ((isKind blocked e || isKind compressed e) ≡ true) × (b .held < e .sectors)
+      → b .held < e .sectors
   unfolding heldGood
   held-inside k b e p q u h =
       let g : heldGood (s .table) b ≡ true = rw p (every-any (heldGood (s .table)) (s .files) k (fresh idle) all-held refl) in
-      let r : ((isKind blocked e || isKind compressed e) && ltb (b .held) (e .sectors)) ≡ true = implied (b .file .used && b .holds) _ (rw q g) (rw (u, h)) in
-      (and-left (isKind blocked e || isKind compressed e) _ r, ltb-true (b .held) (e .sectors) (and-right (isKind blocked e || isKind compressed e) _ r))
+      ltb-true (b .held) (e .sectors) (implied (b .file .used && b .holds) _ (rw q g) (rw (u, h)))

@@ -6,3 +6,4 @@ pub mod Kept
 pub mod Counted
 pub mod Grouped
 pub mod Four
+pub mod Held

@@ -4,7 +4,7 @@ use mathlib.Core.List.{List}
 use Prim.Native.Nat.{ℕ}
 use lib.Dec.{eqb, leb, ltb}
 use Rattle.geometry.specs.Lists.{every, pairwise}
-use Rattle.geometry.specs.Sizes.{entries, blocked, compressed, mostOpen}
+use Rattle.geometry.specs.Sizes.{entries, compressed, mostOpen}
 use Rattle.directory.specs.Entries.{isFree, isKind, isMarked}
 use Rattle.directory.specs.declared.Entry.{Entry}
 use Rattle.sessions.specs.Session.{openFiles, ofUsedEntry, ofOther, positionGood, beyondGood, placeGood, placesGood}
@@ -29,4 +29,4 @@ openGood e f =
 
 -- and of the sector that it holds
 unfoldable pub holdGood : Entry → ℕ → Bool
-holdGood e held = (isKind blocked e || isKind compressed e) && ltb held (e .sectors)
+holdGood e held = ltb held (e .sectors)

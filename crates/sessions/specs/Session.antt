@@ -68,9 +68,17 @@ spotOf s i = stand (fileOf (s .files) i)
 unfoldable pub extent : Entry → List ℕ → List ℕ
 extent e image = part image (sector * e .first) (sector * e .sectors)
 
+-- "The buffered engine gives each open blocked or compressed file a blocking buffer"
+abbrev pub hasBuffer : Entry → Bool
+hasBuffer e = isKind blocked e || isKind compressed e
+
+-- whether a file holds a sector in its buffer; whatever the state of a file that has none says, nothing is read from it or put back
+unfoldable pub holdsOne : Entry → BufferedFile → Bool
+holdsOne e b = b .holds && hasBuffer e
+
 -- and as the file has it: the held sector in place of the image's
 unfoldable pub extentWith : Entry → BufferedFile → List ℕ → List ℕ
-extentWith e b image = elim (b .holds) [ true ↦ lay (extent e image) (sector * b .held) (b .buffer) | false ↦ extent e image ]
+extentWith e b image = elim (holdsOne e b) [ true ↦ lay (extent e image) (sector * b .held) (b .buffer) | false ↦ extent e image ]
 
 -- ---- "A session is legal exactly if":
 
@@ -102,11 +110,9 @@ placesGood table f =
     let e : Entry = entryAt table (f .entry) in
     not (f .used && isKind compressed e) || (placeGood e (f .here) && placeGood e (f .end))
 
--- "a held sector lies in its file's extent"; only a "blocked or compressed file" has a buffer to hold one in
+-- "a held sector lies in its file's extent"
 unfoldable pub heldGood : List Entry → BufferedFile → Bool
-heldGood table b =
-    let e : Entry = entryAt table (b .file .entry) in
-    not (b .file .used && b .holds) || ((isKind blocked e || isKind compressed e) && ltb (b .held) (e .sectors))
+heldGood table b = not (b .file .used && b .holds) || ltb (b .held) (entryAt table (b .file .entry) .sectors)
 
 unfoldable pub sessionRules : List ℕ → Session → List Bool
 sessionRules image s =

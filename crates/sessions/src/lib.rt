@@ -149,5 +149,5 @@ pub fn file_good(e: Entry, f: OpenFile) -> bool
 pub fn hold_good(e: Entry, held: u32) -> bool
     ensures { λ r. ⌜ r ≡ holdGood e held ⌝ }
 {
-    ((e.kind == Geometry::BLOCKED) | (e.kind == Geometry::COMPRESSED)) & (held < (e.sectors as u32))
+    held < (e.sectors as u32)
 }

@@ -5,7 +5,7 @@ use mathlib.Core.List.{List}
 use Prim.Native.Nat.{ℕ}
 use Rattle.geometry.specs.Sizes.{lawfulLength}
 use Rattle.geometry.proofs.Tests.{either, both-ways}
-use Rattle.sessions.specs.Session.{fresh, bare, unheld, legal, typed}
+use Rattle.sessions.specs.Session.{fresh, bare, unheld, holdsOne, legal, typed}
 use Rattle.sessions.proofs.Unheld.{bare-unheld, unheld-at, unheld-legal}
 use Rattle.mounting.specs.Mounting.{plainMount, bufferedMount}
 use Rattle.mounting.proofs.Mounted.{mounted-legal, mounted-typed}
@@ -24,7 +24,7 @@ settle-idle image s u = back-empty (holds s) image (λ k. hold-at s k ∙ hold-u
 
 -- nothing held
 fresh-hold : (table : List Entry) (f : OpenFile) → holdOf table (fresh f) ≡ empty
-unfolding heldBy
+unfolding heldBy holdsOne
 fresh-hold table f = either (f .used) (λ (u : f .used ≡ true). hold-used table (fresh f) u) (λ (u : f .used ≡ false). hold-unused table (fresh f) u)
 
 pub settle-unheld : (image : List ℕ) (s : Session) → settle image (unheld s) ≡ image
@@ -32,6 +32,7 @@ unfolding settle
 settle-unheld image s = back-empty (holds (unheld s)) image (λ k. hold-at (unheld s) k ∙ ap (holdOf (unheld s .table)) (unheld-at s k) ∙ fresh-hold (unheld s .table) _)
 
 pub kept-unheld : (image : List ℕ) (s : Session) → legal image s ≡ true → typed (unheld s) ≡ true → Kept image (unheld s)
+unfolding holdsOne
 kept-unheld image s l t = record {
   isLegal = unheld-legal image s ∙ l;
   isTyped = t;

@@ -11,9 +11,12 @@ use Rattle.geometry.specs.Bytes.{part, lay}
 use Rattle.geometry.specs.Sizes.{sector, entrySize, entries}
 use Rattle.geometry.proofs.Bytes.{Apart, length-lay, length-part, lay-nil, lay-part, lay-lay-same, lay-lay-apart, lay-lay-inside, part-lay-same, part-lay-apart}
 use Rattle.geometry.proofs.Tests.{either, both-ways, and-left, and-right}
+use Rattle.sessions.specs.Session.{hasBuffer, holdsOne}
+use Rattle.sessions.proofs.Held.{one-buffer, one-holds, holds-one, no-buffer-none}
 use Rattle.steps.specs.Effects.{Effect, hold, change, store, stamp, putBack, sectorAt, plainDo, plainAll, Bench, holding, puttingBack, loaded, taking, working, bufferedDo, bufferedAll}
 use Rattle.steps.specs.Next.{Scene}
-use Rattle.steps.proofs.Inside.{buffers, Suits, AllSuit}
+use Rattle.steps.proofs.Buffer.{back-cases}
+use Rattle.steps.proofs.Inside.{Suits, AllSuit}
 use Rattle.settling.proofs.Settle.{Hold, back, allBack, holdAt, Off, heldBy, back-lay}
 use Rattle.directory.specs.declared.Entry.{Entry}
 use Rattle.sessions.specs.declared.BufferedFile.{BufferedFile}
@@ -22,9 +25,9 @@ use Rattle.sessions.specs.declared.BufferedFile.{BufferedFile}
 abbrev pub own : Entry → Bench → List ℕ
 own e w = back (w .image) (heldBy e (w .file))
 
--- "a held sector lies in its file's extent"; only a blocked or compressed file holds one
+-- "a held sector lies in its file's extent"
 abbrev pub Within : Entry → BufferedFile → Type 0
-Within e b = b .holds ≡ true → (buffers e ≡ true) × (b .held < e .sectors)
+Within e b = b .holds ≡ true → b .held < e .sectors
 
 -- the extent lies in the image behind the directory, and the buffer is as legality says; an unchanged one equals its sector
 pub record Fits (e : Entry) (w : Bench) : Type 0 where
@@ -32,7 +35,7 @@ pub record Fits (e : Entry) (w : Bench) : Type 0 where
   pub room : sector * (e .first + e .sectors) ≤ length (w .image)
   pub size : length (w .file .buffer) ≡ sector
   pub within : Within e (w .file)
-  pub unchanged : w .file .holds ≡ true → w .file .changed ≡ false → w .file .buffer ≡ part (w .image) (sectorAt e (w .file .held)) sector
+  pub unchanged : holdsOne e (w .file) ≡ true → w .file .changed ≡ false → w .file .buffer ≡ part (w .image) (sectorAt e (w .file .held)) sector
 
 -- apart from the extent and from the directory
 abbrev pub Elsewhere : Entry → ℕ → ℕ → Type 0
@@ -51,11 +54,11 @@ pub record Does (e : Entry) (w v : Bench) (image : List ℕ) : Type 0 where
   pub others : (a n : ℕ) → Elsewhere e a n → part (v .image) a n ≡ part (w .image) a n
 
 module _ (e : Entry) (w : Bench) where
-  pub own-held : w .file .holds ≡ true → own e w ≡ lay (w .image) (sectorAt e (w .file .held)) (w .file .buffer)
+  pub own-held : holdsOne e (w .file) ≡ true → own e w ≡ lay (w .image) (sectorAt e (w .file .held)) (w .file .buffer)
   unfolding heldBy
   own-held h = rw (h, heldBy)
 
-  pub own-none : w .file .holds ≡ false → own e w ≡ w .image
+  pub own-none : holdsOne e (w .file) ≡ false → own e w ≡ w .image
   unfolding heldBy
   own-none h = rw (h, heldBy) (lay-nil (w .image) 0)
 
@@ -71,18 +74,19 @@ module _ (e : Entry) (w : Bench) (f : Fits e w) where
   abbrev at : ℕ
   at = sectorAt e (w .file .held)
 
-  put : w .file .holds ≡ true → Does e w (record { image = lay (w .image) at (w .file .buffer); file = holding (w .file) (w .file .held) false (w .file .buffer) }) (own e w)
+  put : holdsOne e (w .file) ≡ true → Does e w (record { image = lay (w .image) at (w .file .buffer); file = holding (w .file) (w .file .held) false (w .file .buffer) }) (own e w)
   unfolding heldBy
   put h =
-      let r : w .file .held < e .sectors = f .within h .1 in
+      let r : w .file .held < e .sectors = f .within (one-holds e (w .file) h) in
+      let k : holdsOne e (holding (w .file) (w .file .held) false (w .file .buffer)) ≡ true = holds-one e _ refl (one-buffer e (w .file) h) in
       let l : length (lay (w .image) at (w .file .buffer)) ≡ length (w .image) = length-lay (w .image) at (w .file .buffer) in
       record {
-        same = lay-lay-same (w .image) at (w .file .buffer) (w .file .buffer) refl ∙ sym (own-held e w h);
+        same = own-held e _ k ∙ lay-lay-same (w .image) at (w .file .buffer) (w .file .buffer) refl ∙ sym (own-held e w h);
         fits = record {
           starts = f .starts;
           room = omega (arith, f .room);
           size = f .size;
-          within = λ q. f .within h;
+          within = λ q. r;
           unchanged = λ q z. sym (part-lay-same (w .image) at (w .file .buffer) sector (f .size) (omega (arith, f .room)));
         };
         state = refl;
@@ -90,22 +94,22 @@ module _ (e : Entry) (w : Bench) (f : Fits e w) where
         others = λ a n x. part-lay-apart (w .image) at (w .file .buffer) a n (omega (arith, f .size, x .0));
       }
 
-  puts : Does e w (puttingBack e w) (own e w)
+  puts : hasBuffer e ≡ true → Does e w (puttingBack e w) (own e w)
   unfolding puttingBack
-  puts = either (w .file .holds && w .file .changed)
-      (λ (t : (w .file .holds && w .file .changed) ≡ true). rw (t, puttingBack) (put (and-left (w .file .holds) (w .file .changed) t)))
+  puts b = either (w .file .holds && w .file .changed)
+      (λ (t : (w .file .holds && w .file .changed) ≡ true). rw (t, puttingBack) (put (holds-one e (w .file) (and-left (w .file .holds) (w .file .changed) t) b)))
       (λ (t : (w .file .holds && w .file .changed) ≡ false). rw (t, puttingBack) (stays e w f))
 
   -- a buffer that is not changed has what the image has
-  pub own-unchanged : w .file .holds ≡ true → w .file .changed ≡ false → own e w ≡ w .image
+  pub own-unchanged : holdsOne e (w .file) ≡ true → w .file .changed ≡ false → own e w ≡ w .image
   own-unchanged h z = own-held e w h ∙ ap (lay (w .image) at) (f .unchanged h z) ∙ lay-part (w .image) at sector
 
-  put-image : puttingBack e w .image ≡ own e w
+  put-image : hasBuffer e ≡ true → puttingBack e w .image ≡ own e w
   unfolding puttingBack
-  put-image = either (w .file .holds && w .file .changed)
-      (λ (t : (w .file .holds && w .file .changed) ≡ true). rw (t, puttingBack) (sym (own-held e w (and-left (w .file .holds) (w .file .changed) t))))
+  put-image b = either (w .file .holds && w .file .changed)
+      (λ (t : (w .file .holds && w .file .changed) ≡ true). rw (t, puttingBack) (sym (own-held e w (holds-one e (w .file) (and-left (w .file .holds) (w .file .changed) t) b))))
       (λ (t : (w .file .holds && w .file .changed) ≡ false).
-      rw (t, puttingBack) (sym (either (w .file .holds) (λ (h : w .file .holds ≡ true). own-unchanged h (and-other (w .file .holds) (w .file .changed) h t)) (own-none e w))))
+      rw (t, puttingBack) (sym (either (holdsOne e (w .file)) (λ (h : holdsOne e (w .file) ≡ true). own-unchanged h (and-other (w .file .holds) (w .file .changed) (one-holds e (w .file) h) t)) (own-none e w))))
 
 -- one after another
 then-does : (e : Entry) (w v u : Bench) (k m image : List ℕ) → Does e w v k → Does e v u m → m ≡ image → Does e w u image
@@ -118,26 +122,26 @@ then-does e w v u k m image d g q = record {
 }
 
 -- what lies apart from the extent lies apart from the held sector
-pub held-off : (e : Entry) (b : BufferedFile) (a n : ℕ) → length (b .buffer) ≡ sector → (b .holds ≡ true → b .held < e .sectors)
+pub held-off : (e : Entry) (b : BufferedFile) (a n : ℕ) → length (b .buffer) ≡ sector → Within e b
     → Apart a n (sector * e .first) (sector * e .sectors) → Off a n (heldBy e b)
 unfolding heldBy
-held-off e b a n l r x = either (b .holds)
-    (λ (h : b .holds ≡ true).
-    let q : b .held < e .sectors = r h in
+held-off e b a n l r x = either (holdsOne e b)
+    (λ (h : holdsOne e b ≡ true).
+    let q : b .held < e .sectors = r (one-holds e b h) in
     rw (h, heldBy) (omega arith))
-    (λ (h : b .holds ≡ false). rw (h, heldBy) (omega arith))
+    (λ (h : holdsOne e b ≡ false). rw (h, heldBy) (omega arith))
 
 -- a sector is taken: what is seen does not change
-module _ (e : Entry) (k : ℕ) (b : buffers e ≡ true) (h : k < e .sectors) where
+module _ (e : Entry) (k : ℕ) (b : hasBuffer e ≡ true) (h : k < e .sectors) where
   loads : (w : Bench) → Fits e w → own e w ≡ w .image → Does e w (loaded e k w) (own e w)
   unfolding loaded heldBy
   loads w f i = record {
-    same = lay-part (w .image) (sectorAt e k) sector ∙ sym i;
+    same = own-held e (loaded e k w) (holds-one e _ refl b) ∙ lay-part (w .image) (sectorAt e k) sector ∙ sym i;
     fits = record {
       starts = f .starts;
       room = f .room;
       size = length-part (w .image) (sectorAt e k) sector (omega (arith, f .room));
-      within = λ q. (b, h);
+      within = λ q. h;
       unchanged = λ q z. refl;
     };
     state = refl;
@@ -150,9 +154,9 @@ module _ (e : Entry) (k : ℕ) (b : buffers e ≡ true) (h : k < e .sectors) whe
   takes w f = either (w .file .holds && eqb (w .file .held) k)
       (λ (t : (w .file .holds && eqb (w .file .held) k) ≡ true). rw (t, taking) (stays e w f))
       (λ (t : (w .file .holds && eqb (w .file .held) k) ≡ false).
-      let p : Does e w (puttingBack e w) (own e w) = puts e w f in
+      let p : Does e w (puttingBack e w) (own e w) = puts e w f b in
       rw (t, taking) (then-does e w (puttingBack e w) (loaded e k (puttingBack e w)) _ (own e (puttingBack e w)) (own e w) p
-      (loads (puttingBack e w) (p .fits) (p .same ∙ sym (put-image e w f))) (p .same)))
+      (loads (puttingBack e w) (p .fits) (p .same ∙ sym (put-image e w f b))) (p .same)))
 
 -- and is then held
 pub takes-held : (e : Entry) (k : ℕ) (w : Bench) → (taking e k w .file .holds ≡ true) × (taking e k w .file .held ≡ k)
@@ -163,20 +167,21 @@ takes-held e k w = either (w .file .holds && eqb (w .file .held) k)
     (λ (t : (w .file .holds && eqb (w .file .held) k) ≡ false). rw (t, taking) (refl, refl))
 
 -- bytes laid in the held sector
-works : (e : Entry) (w : Bench) (o : ℕ) (xs : List ℕ) → Fits e w → w .file .holds ≡ true → o + length xs ≤ sector
+works : (e : Entry) (w : Bench) (o : ℕ) (xs : List ℕ) → Fits e w → holdsOne e (w .file) ≡ true → o + length xs ≤ sector
     → Does e w (working o xs w) (lay (own e w) (sectorAt e (w .file .held) + o) xs)
 unfolding working heldBy
 works e w o xs f h r =
-    let q : w .file .held < e .sectors = f .within h .1 in
+    let q : w .file .held < e .sectors = f .within (one-holds e (w .file) h) in
     let l : length (w .file .buffer) ≡ sector = f .size in
     record {
-      same = lay-lay-inside (w .image) (sectorAt e (w .file .held)) (w .file .buffer) o xs (omega (arith, f .room)) (omega arith)
+      same = own-held e (working o xs w) (holds-one e _ refl (one-buffer e (w .file) h))
+          ∙ lay-lay-inside (w .image) (sectorAt e (w .file .held)) (w .file .buffer) o xs (omega (arith, f .room)) (omega arith)
           ∙ ap (λ (z : List ℕ). lay z (sectorAt e (w .file .held) + o) xs) (sym (own-held e w h));
       fits = record {
         starts = f .starts;
         room = f .room;
         size = length-lay (w .file .buffer) o xs ∙ l;
-        within = λ z. f .within h;
+        within = λ z. q;
         unchanged = λ z y. both-ways true refl y;
       };
       state = refl;
@@ -199,18 +204,14 @@ module _ (c : Scene) (inTable : c .number < entries) where
       let t : Does e w v (own e w) = takes e (x .place .sector) (s .0) (s .1) w f in
       let h : (v .file .holds ≡ true) × (v .file .held ≡ x .place .sector) = takes-held e (x .place .sector) w in
       then-does e w v (working (x .place .byte) (x .bytes) v) _ (lay (own e v) (sectorAt e (v .file .held) + x .place .byte) (x .bytes)) _ t
-      (works e v (x .place .byte) (x .bytes) (t .fits) (h .0) (s .2))
+      (works e v (x .place .byte) (x .bytes) (t .fits) (holds-one e (v .file) (h .0) (s .0)) (s .2))
       (changed-at (own e v) (own e w) (v .file .held) (x .place .sector) (t .same) (h .1))
     where
       changed-at : (m image : List ℕ) (i j : ℕ) → m ≡ image → i ≡ j → lay m (sectorAt (c .entry) i + x .place .byte) (x .bytes) ≡ lay image (sectorAt (c .entry) j + x .place .byte) (x .bytes)
       changed-at m image i j p q = rw (p, q)
-  does (store k xs) s w f = stores (no-hold (w .file .holds) refl)
+  does (store k xs) s w f = stores (no-buffer-none (c .entry) (w .file) (s .0))
     where
-      no-hold : (b : Bool) → w .file .holds ≡ b → w .file .holds ≡ false
-      no-hold true h = both-ways (buffers (c .entry)) (f .within h .0) (s .0)
-      no-hold false h = h
-
-      stores : w .file .holds ≡ false → Does (c .entry) w (record { image = lay (w .image) (sectorAt (c .entry) k) xs; file = w .file }) (lay (own (c .entry) w) (sectorAt (c .entry) k) xs)
+      stores : holdsOne (c .entry) (w .file) ≡ false → Does (c .entry) w (record { image = lay (w .image) (sectorAt (c .entry) k) xs; file = w .file }) (lay (own (c .entry) w) (sectorAt (c .entry) k) xs)
       stores h = record {
         same = own-none (c .entry) (record { image = lay (w .image) (sectorAt (c .entry) k) xs; file = w .file }) h ∙ ap (λ (z : List ℕ). lay z (sectorAt (c .entry) k) xs) (sym (own-none (c .entry) w h));
         fits = record {
@@ -218,7 +219,7 @@ module _ (c : Scene) (inTable : c .number < entries) where
           room = omega (arith, f .room, length-lay (w .image) (sectorAt (c .entry) k) xs);
           size = f .size;
           within = f .within;
-          unchanged = λ q z. both-ways (w .file .holds) q h;
+          unchanged = λ q z. both-ways (holdsOne (c .entry) (w .file)) q h;
         };
         state = refl;
         size = length-lay (w .image) (sectorAt (c .entry) k) xs;
@@ -226,7 +227,7 @@ module _ (c : Scene) (inTable : c .number < entries) where
       }
   does (stamp xs) s w f = record {
     same = lay-lay-apart (w .image) stampAt xs (heldBy (c .entry) (w .file) .at) (heldBy (c .entry) (w .file) .bytes)
-        (held-off (c .entry) (w .file) stampAt (length xs) (f .size) (λ h. f .within h .1) (omega (arith, f .starts)));
+        (held-off (c .entry) (w .file) stampAt (length xs) (f .size) (f .within) (omega (arith, f .starts)));
     fits = record {
       starts = f .starts;
       room = omega (arith, f .room, length-lay (w .image) stampAt xs);
@@ -240,7 +241,7 @@ module _ (c : Scene) (inTable : c .number < entries) where
     size = length-lay (w .image) stampAt xs;
     others = λ a n x. part-lay-apart (w .image) stampAt xs a n (omega (arith, x .1));
   }
-  does putBack s w f = puts (c .entry) w f
+  does putBack s w f = back-cases (λ (v : Bench). Does (c .entry) w v (own (c .entry) w)) c w (puts (c .entry) w f) (λ h. stays (c .entry) w f)
 
   -- and so several
   pub all-does : (xs : List Effect) → AllSuit (c .entry) xs → (w : Bench) → Fits (c .entry) w → Does (c .entry) w (bufferedAll c xs w) (plainAll c xs (own (c .entry) w))
@@ -291,13 +292,12 @@ length-taking e k w = either (w .file .holds && eqb (w .file .held) k)
 module _ (c : Scene) where
   within-do : (x : Effect) → Suits (c .entry) x → (w : Bench) → Within (c .entry) (w .file) → Within (c .entry) (bufferedDo c x w .file)
   unfolding bufferedDo working
-  within-do (hold k) s w r h = (s .0, rw (takes-held (c .entry) k w .1) (s .1))
-  within-do (change x) s w r h = (s .0, rw (takes-held (c .entry) (x .place .sector) w .1) (s .1))
+  within-do (hold k) s w r h = rw (takes-held (c .entry) k w .1) (s .1)
+  within-do (change x) s w r h = rw (takes-held (c .entry) (x .place .sector) w .1) (s .1)
   within-do (store k xs) s w r h = r h
   within-do (stamp xs) s w r h = r h
   within-do putBack s w r h =
-      let z = r (sym (back-file (c .entry) w .0) ∙ h) in
-      (z .0, rw (back-file (c .entry) w .1) (z .1))
+      back-cases (λ (v : Bench). Within (c .entry) (v .file)) c w (λ b k. rw (back-file (c .entry) w .1) (r (sym (back-file (c .entry) w .0) ∙ k))) (λ b. r) h
 
   pub within-all : (xs : List Effect) → AllSuit (c .entry) xs → (w : Bench) → Within (c .entry) (w .file) → Within (c .entry) (bufferedAll c xs w .file)
   unfolding bufferedAll
@@ -310,7 +310,7 @@ module _ (c : Scene) where
   length-do (change x) w = length-taking (c .entry) (x .place .sector) w
   length-do (store k xs) w = length-lay (w .image) _ xs
   length-do (stamp xs) w = length-lay (w .image) _ xs
-  length-do putBack w = length-putting (c .entry) w
+  length-do putBack w = back-cases (λ (v : Bench). length (v .image) ≡ length (w .image)) c w (λ b. length-putting (c .entry) w) (λ b. refl)
 
   pub length-all : (xs : List Effect) (w : Bench) → length (bufferedAll c xs w .image) ≡ length (w .image)
   unfolding bufferedAll

@@ -18,13 +18,12 @@ use Rattle.directory.specs.Entries.{tableOf, entryAt, freeEntry, isFree}
 use Rattle.directory.specs.Rules.{tableGood}
 use Rattle.directory.proofs.Table.{table-part}
 use Rattle.directory.proofs.Good.{Lies, lies, extents-apart}
-use Rattle.sessions.specs.Session.{idle, fresh, bare, legal, bufferedLegal, typed}
+use Rattle.sessions.specs.Session.{idle, fresh, bare, holdsOne, legal, bufferedLegal, typed}
 use Rattle.sessions.proofs.Legal.{lawful-length, good-table, entry-inside, entry-used, bare-legal, held-inside}
 use Rattle.steps.specs.Effects.{sectorAt}
-use Rattle.steps.proofs.Inside.{buffers}
 use Rattle.steps.proofs.Standing.{heldAt, bare-at}
 use Rattle.settling.proofs.Settle.{Hold, empty, holdAt, heldBy, holdOf, settle, back-getD, back-part}
-use Rattle.settling.proofs.Bench.{Fits, Clear, held-off}
+use Rattle.settling.proofs.Bench.{Within, Fits, Clear, held-off}
 use Rattle.directory.specs.declared.Entry.{Entry}
 use Rattle.sessions.specs.declared.BufferedFile.{BufferedFile}
 use Rattle.sessions.specs.declared.BufferedSession.{BufferedSession}
@@ -33,7 +32,7 @@ use Rattle.sessions.specs.declared.OpenFile.{OpenFile}
 -- a buffer that is not changed equals its sector
 abbrev pub InStep : List ℕ → List Entry → BufferedFile → Type 0
 InStep image table b =
-    b .file .used ≡ true → b .holds ≡ true → b .changed ≡ false → b .buffer ≡ part image (sectorAt (entryAt table (b .file .entry)) (b .held)) sector
+    b .file .used ≡ true → holdsOne (entryAt table (b .file .entry)) b ≡ true → b .changed ≡ false → b .buffer ≡ part image (sectorAt (entryAt table (b .file .entry)) (b .held)) sector
 
 pub record Kept (image : List ℕ) (s : BufferedSession) : Type 0 where
   pub isLegal : bufferedLegal image s ≡ true
@@ -110,8 +109,7 @@ module _ (image : List ℕ) (s : BufferedSession) (kept : Kept image s) where
       let w : getD (bare s .files) k idle .used ≡ true = ap (λ (f : OpenFile). f .used) (bare-at s k) ∙ u in
       (rw (bare-at s k) at (entry-inside image (bare s) is-legal k w), rw (bare-at s k) at (entry-used image (bare s) is-legal k w))
 
-  pub held-below : (k : ℕ) → heldAt s k .file .used ≡ true → heldAt s k .holds ≡ true
-      → (buffers (entryAt (s .table) (heldAt s k .file .entry)) ≡ true) × (heldAt s k .held < entryAt (s .table) (heldAt s k .file .entry) .sectors)
+  pub held-below : (k : ℕ) → heldAt s k .file .used ≡ true → Within (entryAt (s .table) (heldAt s k .file .entry)) (heldAt s k)
   held-below k u h = held-inside image s (kept .isLegal) k (heldAt s k) _ refl refl u h
 
   -- a used entry's extent lies in the image, behind the directory
@@ -137,7 +135,7 @@ module _ (image : List ℕ) (s : BufferedSession) (kept : Kept image s) where
       let g : isFree x ≡ false = used-entry j u .1 in
       let a = extents-apart N (s .table) good i (heldAt s j .file .entry) (λ q. d u (sym q)) (eqb-false (entryAt (s .table) i .kind) 0 v) (eqb-false (x .kind) 0 g) in
       let l : length (heldAt s j .buffer) ≡ sector = buffer-length s (kept .isTyped) j in
-      let o : heldAt s j .holds ≡ true → heldAt s j .held < x .sectors = λ h. held-below j u h .1 in
+      let o : Within x (heldAt s j) = held-below j u in
       rw (hold-at s j ∙ hold-used (s .table) (heldAt s j) u)
       (held-off x (heldAt s j) (sector * entryAt (s .table) i .first) (sector * entryAt (s .table) i .sectors) l o (omega arith), held-off x (heldAt s j) 0 sector l o (omega (arith, entry-room (heldAt s j .file .entry) g .0))))
       (λ (u : heldAt s j .file .used ≡ false). rw (hold-at s j ∙ hold-unused (s .table) (heldAt s j) u) (omega arith, omega arith))
@@ -153,7 +151,7 @@ module _ (image : List ℕ) (s : BufferedSession) (kept : Kept image s) where
   settle-elsewhere a x = back-getD (holds s) image a λ j. either (heldAt s j .file .used)
       (λ (u : heldAt s j .file .used ≡ true).
       rw (hold-at s j ∙ hold-used (s .table) (heldAt s j) u)
-      (held-off (entryAt (s .table) (heldAt s j .file .entry)) (heldAt s j) a 1 (buffer-length s (kept .isTyped) j) (λ h. held-below j u h .1) (x j u)))
+      (held-off (entryAt (s .table) (heldAt s j .file .entry)) (heldAt s j) a 1 (buffer-length s (kept .isTyped) j) (held-below j u) (x j u)))
       (λ (u : heldAt s j .file .used ≡ false). rw (hold-at s j ∙ hold-unused (s .table) (heldAt s j) u) (omega arith))
 
   -- the directory is held by no file
@@ -164,6 +162,6 @@ module _ (image : List ℕ) (s : BufferedSession) (kept : Kept image s) where
       ∙ ap tableOf (back-part (holds s) image 0 sector λ j. either (heldAt s j .file .used)
       (λ (u : heldAt s j .file .used ≡ true).
       rw (hold-at s j ∙ hold-used (s .table) (heldAt s j) u)
-      (held-off (entryAt (s .table) (heldAt s j .file .entry)) (heldAt s j) 0 sector (buffer-length s (kept .isTyped) j) (λ h. held-below j u h .1) (omega (arith, entry-room (heldAt s j .file .entry) (used-entry j u .1) .0))))
+      (held-off (entryAt (s .table) (heldAt s j .file .entry)) (heldAt s j) 0 sector (buffer-length s (kept .isTyped) j) (held-below j u) (omega (arith, entry-room (heldAt s j .file .entry) (used-entry j u .1) .0))))
       (λ (u : heldAt s j .file .used ≡ false). rw (hold-at s j ∙ hold-unused (s .table) (heldAt s j) u) (omega arith)))
       ∙ table-part image

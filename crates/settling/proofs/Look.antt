@@ -10,18 +10,18 @@ use Rattle.geometry.specs.Places.{capacity, placeOf, byteOf}
 use Rattle.geometry.specs.Sizes.{sector, random}
 use Rattle.geometry.proofs.Bytes.{part-part}
 use Rattle.geometry.proofs.Places.{record-inside}
-use Rattle.geometry.proofs.Tests.{either, both-ways, not-chosen}
+use Rattle.geometry.proofs.Tests.{not-chosen}
 use Rattle.directory.specs.Entries.{entryAt}
 use Rattle.requests.proofs.Done.{Finds, done-allows}
-use Rattle.sessions.specs.Session.{bare, openFiles, extent, extentWith}
+use Rattle.sessions.specs.Session.{bare, openFiles, holdsOne, extent, extentWith}
+use Rattle.sessions.proofs.Held.{no-buffer-none}
 use Rattle.steps.specs.Next.{factsOf}
 use Rattle.steps.specs.Step.{heldOf, bufferedScene, bufferedAnswer}
 use Rattle.steps.specs.Look.{shown, plainLook, plainLookAnswer, bufferedLook, bufferedLookAnswer}
-use Rattle.steps.proofs.Inside.{buffers, no-buffer}
+use Rattle.steps.proofs.Inside.{no-buffer}
 use Rattle.settling.proofs.Settle.{settle}
 use Rattle.settling.proofs.Kept.{Kept, entry-lies}
 use Rattle.settling.proofs.Scene.{same-bytes, same-answer}
-use Rattle.settling.proofs.Step.{live-slot}
 use Rattle.directory.specs.declared.Entry.{Entry}
 use Rattle.requests.specs.declared.Answer.{Answer}
 use Rattle.requests.specs.declared.Answer.the-variants.{Done, Met, Refused}
@@ -37,12 +37,9 @@ module _ (image : List ℕ) (s : BufferedSession) (ok : Kept image s) (i g : ℕ
   unfolding bufferedAnswer
   found d = done-allows (GranuleLook g) (factsOf true (openFiles (bare s .files)) 0 (GranuleLook g) (bufferedScene image s i [])) (rw (ok .isLegal) at d)
 
-  nothing-held : bufferedAnswer image s i (GranuleLook g) [] 0 ≡ Done → heldOf s i .holds ≡ false
+  nothing-held : bufferedAnswer image s i (GranuleLook g) [] 0 ≡ Done → holdsOne e (heldOf s i) ≡ false
   unfolding bufferedScene factsOf
-  nothing-held d = either (heldOf s i .holds)
-      (λ (h : heldOf s i .holds ≡ true).
-      both-ways (buffers e) (live-slot image s ok i _ [] 0 (GranuleLook g) (found d .live) .0 .fits .within h .0) (no-buffer e (found d .random)))
-      (λ h. h)
+  nothing-held d = no-buffer-none e (heldOf s i) (no-buffer e (found d .random))
 
   granule-inside : bufferedAnswer image s i (GranuleLook g) [] 0 ≡ Done → byteOf (placeOf random (e .length) g) + e .length ≤ sector * e .sectors
   unfolding bufferedScene factsOf
@@ -55,7 +52,7 @@ module _ (image : List ℕ) (s : BufferedSession) (ok : Kept image s) (i g : ℕ
   unfolding shown extentWith extent
   shows d =
       let at : ℕ = byteOf (placeOf random (e .length) g) in
-      let same : extent e image ≡ extent e (settle image s) = sym (not-chosen (heldOf s i .holds) _ (extent e image) (nothing-held d)) ∙ same-bytes image s ok i in
+      let same : extent e image ≡ extent e (settle image s) = sym (not-chosen (holdsOne e (heldOf s i)) _ (extent e image) (nothing-held d)) ∙ same-bytes image s ok i in
       sym (part-part image (sector * e .first) (sector * e .sectors) at (e .length) (granule-inside d))
       ∙ ap (λ (x : List ℕ). part x at (e .length)) same
       ∙ part-part (settle image s) (sector * e .first) (sector * e .sectors) at (e .length) (granule-inside d)

@@ -2,7 +2,7 @@
 use mathlib.Core.Path.{_≡_, refl, ap, subst, _∙_, fun-ext}
 use mathlib.Core.Bool.{Bool, true, false, _&&_, _||_, not, and-false}
 use mathlib.Core.List.{List, [], _∷_}
-use Prim.Native.Nat.{ℕ, zero, suc, _<_}
+use Prim.Native.Nat.{ℕ, zero, suc}
 use lib.ListN.{set}
 use lib.Dec.{ltb}
 use borrow.Author.Tests.{lt-ltb}
@@ -12,8 +12,8 @@ use Rattle.directory.specs.Entries.{entryAt}
 use Rattle.sessions.specs.Session.{fresh, bare, heldGood}
 use Rattle.steps.specs.Next.{Scene, entryDone, counted}
 use Rattle.steps.specs.Step.{kept}
-use Rattle.steps.proofs.Inside.{buffers}
 use Rattle.steps.proofs.Standing.{withBuffer, kept-used, kept-unused, kept-file, map-set}
+use Rattle.settling.proofs.Bench.{Within}
 use Rattle.directory.specs.declared.Entry.{Entry}
 use Rattle.requests.specs.declared.Order.the-variants.{WriteMark, RewindOnline, RewindOffline, RecordForward, RecordBack, FileForward, FileBack}
 use Rattle.requests.specs.declared.Request.{Request}
@@ -57,13 +57,12 @@ entry-shape (Position FileForward) c = same-shape (c .entry)
 entry-shape (Position FileBack) c = same-shape (c .entry)
 
 -- a held sector in its file's extent
-held-good : (table : List Entry) (b : BufferedFile) (e : Entry) → SameShape (entryAt table (b .file .entry)) e → (b .holds ≡ true → (buffers e ≡ true) × (b .held < e .sectors)) → heldGood table b ≡ true
+held-good : (table : List Entry) (b : BufferedFile) (e : Entry) → SameShape (entryAt table (b .file .entry)) e → Within e b → heldGood table b ≡ true
 unfolding heldGood
 held-good table b e h r = either (b .holds)
     (λ (q : b .holds ≡ true).
-    let l : ltb (b .held) (e .sectors) ≡ true = lt-ltb (b .held) (e .sectors) (r q .1) in
-    let m : buffers e ≡ true = r q .0 in
-    rw (h .kind, h .sectors, l, m) (anyway (b .file .used && b .holds)))
+    let l : ltb (b .held) (e .sectors) ≡ true = lt-ltb (b .held) (e .sectors) (r q) in
+    rw (h .sectors, l) (anyway (b .file .used && b .holds)))
     (λ (q : b .holds ≡ false). rw (q, and-false (b .file .used)))
   where
     anyway : (t : Bool) → (not t || true) ≡ true
@@ -91,13 +90,13 @@ module _ (s : BufferedSession) (i k : ℕ) (a : Entry) (shape : SameShape a (ent
   unfolding heldGood
   good-shape x =
       let h : SameShape (entryAt table′ (x .file .entry)) (entryAt (s .table) (x .file .entry)) = shape-at (s .table) i a shape (x .file .entry) in
-      rw (h .kind, h .sectors)
+      rw (h .sectors)
 
   -- the entry of the new state lies where it lay
   pub new-shape : f .used ≡ true → SameShape (entryAt table′ (f .entry)) (entryAt (s .table) i)
   new-shape u = subst (λ (j : ℕ). SameShape (entryAt table′ (f .entry)) (entryAt (s .table) j)) (ofEntry u) (shape-at (s .table) i a shape (f .entry))
 
-  pub held-next : (b .holds ≡ true → (buffers (entryAt (s .table) i) ≡ true) × (b .held < entryAt (s .table) i .sectors)) → every (heldGood (s .table)) (s .files) ≡ true
+  pub held-next : Within (entryAt (s .table) i) b → every (heldGood (s .table)) (s .files) ≡ true
       → every (heldGood table′) (set (s .files) k (kept f b)) ≡ true
   held-next r g = every-set (heldGood table′) (s .files) k (kept f b) (ap (λ (p : BufferedFile → Bool). every p (s .files)) (fun-ext good-shape) ∙ g) new-good
     where

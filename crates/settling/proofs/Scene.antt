@@ -15,7 +15,8 @@ use Rattle.geometry.proofs.Tests.{either, and-left, and-right, all-getD, every-
 use Rattle.directory.specs.Entries.{entryAt, entryBytes, freeEntry, isFree}
 use Rattle.directory.specs.Rules.{freeIsZero, tableGood, tableRules}
 use Rattle.directory.proofs.Free.{zero-entry}
-use Rattle.sessions.specs.Session.{idle, bare, fileOf, extent, extentWith, legal}
+use Rattle.sessions.specs.Session.{idle, bare, fileOf, holdsOne, extent, extentWith, legal}
+use Rattle.sessions.proofs.Held.{one-holds}
 use Rattle.sessions.proofs.Legal.{bare-legal, files-differ, legal-length, good-table}
 use Rattle.steps.specs.Effects.{sectorAt, Bench}
 use Rattle.steps.specs.Step.{heldOf, plainScene, plainAnswer, bufferedScene, bufferedAnswer}
@@ -36,26 +37,26 @@ length-settle image s = length-back (holds s) image
 -- what a file holds lies off what the others hold
 pub held-clear : (e : Entry) (w : Bench) → Fits e w → (h : Hold) → Clear e h → Off (heldBy e (w .file) .at) (length (heldBy e (w .file) .bytes)) h
 unfolding heldBy
-held-clear e w f h x = either (w .file .holds)
-    (λ (q : w .file .holds ≡ true).
-    let r : w .file .held < e .sectors = f .within q .1 in
+held-clear e w f h x = either (holdsOne e (w .file))
+    (λ (q : holdsOne e (w .file) ≡ true).
+    let r : w .file .held < e .sectors = f .within (one-holds e (w .file) q) in
     let l : length (w .file .buffer) ≡ sector = f .size in
     rw (q, heldBy) (omega (arith, x .0)))
-    (λ (q : w .file .holds ≡ false). rw (q, heldBy) (omega arith))
+    (λ (q : holdsOne e (w .file) ≡ false). rw (q, heldBy) (omega arith))
 
 -- a file's extent with its own buffer laid back
 pub extent-own : (e : Entry) (w : Bench) → Fits e w → extent e (own e w) ≡ extentWith e (w .file) (w .image)
 unfolding extentWith extent
-extent-own e w f = either (w .file .holds)
-    (λ (q : w .file .holds ≡ true).
-    let r : w .file .held < e .sectors = f .within q .1 in
+extent-own e w f = either (holdsOne e (w .file))
+    (λ (q : holdsOne e (w .file) ≡ true).
+    let r : w .file .held < e .sectors = f .within (one-holds e (w .file) q) in
     let l : length (w .file .buffer) ≡ sector = f .size in
     let z : sectorAt e (w .file .held) ≡ sector * e .first + sector * w .file .held = omega arith in
     ap (extent e) (own-held e w q)
     ∙ ap (λ (a : ℕ). extent e (lay (w .image) a (w .file .buffer))) z
     ∙ part-lay-within (w .image) (sector * e .first) (sector * e .sectors) (sector * w .file .held) (w .file .buffer) (omega arith)
-    ∙ sym (chosen (w .file .holds) _ _ q))
-    (λ (q : w .file .holds ≡ false). ap (extent e) (own-none e w q) ∙ sym (not-chosen (w .file .holds) _ _ q))
+    ∙ sym (chosen (holdsOne e (w .file)) _ _ q))
+    (λ (q : holdsOne e (w .file) ≡ false). ap (extent e) (own-none e w q) ∙ sym (not-chosen (holdsOne e (w .file)) _ _ q))
 
 -- a free entry, 20 zero bytes, has no sectors
 free-nothing : (e : Entry) → freeIsZero e ≡ true → isFree e ≡ true → e .sectors ≡ 0
@@ -110,7 +111,7 @@ module _ (image : List ℕ) (s : BufferedSession) (kept : Kept image s) (i : ℕ
   open-clear k o j n = clear image s kept i (open-used k o) j (alone k o j n)
 
   pub same-bytes : extentWith e (heldOf s i) image ≡ extent e (settle image s)
-  unfolding extentWith extent settle
+  unfolding extentWith holdsOne extent settle
   same-bytes = go (standing s i)
     where
       go : Standing s i → extentWith e (heldOf s i) image ≡ extent e (settle image s)

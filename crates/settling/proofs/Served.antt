@@ -1,7 +1,7 @@
 -- A request's effects, done by way of one file's buffer among the others': the session that is left stands for the image that the same
 -- effects leave straight, and keeps what is kept.
 use mathlib.Core.Path.{_≡_, refl, sym, ap, ap₂, subst, _∙_, fun-ext}
-use mathlib.Core.Bool.{true, false}
+use mathlib.Core.Bool.{Bool, true, false}
 use mathlib.Core.List.{List, map}
 use Prim.Native.Nat.{ℕ, _+_, _*_, _<_}
 use native.Mathlib.Omega.{arith}
@@ -14,7 +14,8 @@ use Rattle.geometry.specs.Sizes.{sector, entries}
 use Rattle.geometry.proofs.Bytes.{lay-nil}
 use Rattle.geometry.proofs.Tests.{either, both-ways, and-both, chosen}
 use Rattle.directory.specs.Entries.{entryAt}
-use Rattle.sessions.specs.Session.{idle, fresh, bare, fileOf, heldGood, legal, bufferedLegal}
+use Rattle.sessions.specs.Session.{idle, fresh, bare, fileOf, holdsOne, heldGood, legal, bufferedLegal}
+use Rattle.sessions.proofs.Held.{kind-holds}
 use Rattle.sessions.proofs.Legal.{all-held}
 use Rattle.steps.specs.Effects.{Effect, sectorAt, Bench, plainAll, bufferedAll}
 use Rattle.steps.specs.Next.{Scene}
@@ -32,17 +33,22 @@ use Rattle.sessions.specs.declared.BufferedSession.{BufferedSession}
 use Rattle.sessions.specs.declared.OpenFile.{OpenFile}
 
 -- what is held does not turn on count and flags, nor on the state
-held-shape : (a a′ : Entry) (b : BufferedFile) → a .first ≡ a′ .first → heldBy a b ≡ heldBy a′ b
+held-shape : (a a′ : Entry) (b : BufferedFile) → SameShape a a′ → heldBy a b ≡ heldBy a′ b
 unfolding heldBy
-held-shape a a′ b q = rw q
+held-shape a a′ b h =
+    ap₂ (λ (t : Bool) (n : ℕ). elim t [ true ↦ record { at = sector * (n + b .held); bytes = b .buffer } | false ↦ empty ]) (kind-holds a a′ b (h .kind)) (h .first)
 
 held-with : (e : Entry) (f : OpenFile) (b : BufferedFile) → heldBy e (withBuffer f b) ≡ heldBy e b
-unfolding heldBy
+unfolding heldBy holdsOne
 held-with e f b = refl
 
-held-there : (e : Entry) (b : BufferedFile) → b .holds ≡ true → heldBy e b ≡ record { at = sectorAt e (b .held); bytes = b .buffer }
+held-one : (e : Entry) (f : OpenFile) (b : BufferedFile) → holdsOne e (withBuffer f b) ≡ holdsOne e b
+unfolding holdsOne
+held-one e f b = refl
+
+held-there : (e : Entry) (b : BufferedFile) → holdsOne e b ≡ true → heldBy e b ≡ record { at = sectorAt e (b .held); bytes = b .buffer }
 unfolding heldBy
-held-there e b h = chosen (b .holds) (record { at = sectorAt e (b .held); bytes = b .buffer }) empty h
+held-there e b h = chosen (holdsOne e b) (record { at = sectorAt e (b .held); bytes = b .buffer }) empty h
 
 -- ---- one file among the others
 
@@ -77,14 +83,14 @@ module _ (image : List ℕ) (s : BufferedSession) (ok : Kept image s) (i : ℕ) 
     unfolding holdOf
     hold-shape x =
         ap (λ (h : Hold). elim (x .file .used) [ true ↦ h | false ↦ empty ])
-        (held-shape (entryAt (next .table) (x .file .entry)) (entryAt (s .table) (x .file .entry)) x (shape-at (s .table) i a shape (x .file .entry) .first))
+        (held-shape (entryAt (next .table) (x .file .entry)) (entryAt (s .table) (x .file .entry)) x (shape-at (s .table) i a shape (x .file .entry)))
 
     -- what it holds: what the buffer has; nothing where it is closed
     new-used : f .used ≡ true → holdOf (next .table) (kept f (v .file)) ≡ heldBy e (v .file)
     new-used u =
         ap (holdOf (next .table)) (kept-used f (v .file) u)
         ∙ hold-used (next .table) (withBuffer f (v .file)) u
-        ∙ held-shape (entryAt (next .table) (f .entry)) e (withBuffer f (v .file)) (shape-at (s .table) i a shape (f .entry) .first ∙ ap (λ (j : ℕ). entryAt (s .table) j .first) (ofEntry u))
+        ∙ held-shape (entryAt (next .table) (f .entry)) e (withBuffer f (v .file)) (new-shape s i k a shape f ofEntry (v .file) u)
         ∙ held-with e f (v .file)
 
     new-unused : f .used ≡ false → holdOf (next .table) (kept f (v .file)) ≡ empty
@@ -137,22 +143,23 @@ module _ (image : List ℕ) (s : BufferedSession) (ok : Kept image s) (i : ℕ) 
       new-step : InStep (v .image) (next .table) (kept f (v .file))
       new-step = either (f .used)
           (λ (u : f .used ≡ true).
-          let q : entryAt (next .table) (f .entry) .first ≡ e .first = new-shape s i k a shape f ofEntry (v .file) u .first in
+          let q : SameShape (entryAt (next .table) (f .entry)) e = new-shape s i k a shape f ofEntry (v .file) u in
           subst (InStep (v .image) (next .table)) (sym (kept-used f (v .file) u))
-          (λ y h x. done .fits .unchanged h x ∙ ap (λ (n : ℕ). part (v .image) (sector * (n + v .file .held)) sector) (sym q)))
+          (λ y h x. done .fits .unchanged (sym (held-one e f (v .file)) ∙ sym (kind-holds _ e (withBuffer f (v .file)) (q .kind)) ∙ h) x ∙ ap (λ (n : ℕ). part (v .image) (sector * (n + v .file .held)) sector) (sym (q .first))))
           (λ (u : f .used ≡ false). subst (InStep (v .image) (next .table)) (sym (kept-unused f (v .file) u)) (λ y h x. both-ways (f .used) y u))
 
       -- and the others still are
       old-step : (j : ℕ) → ¬ (j ≡ k) → InStep (v .image) (next .table) (heldAt s j)
       old-step j n u h x =
           let o : Entry = entryAt (s .table) (heldAt s j .file .entry) in
-          let q : entryAt (next .table) (heldAt s j .file .entry) .first ≡ o .first = shape-at (s .table) i a shape (heldAt s j .file .entry) .first in
-          let l : holdAt (holds s) j ≡ record { at = sectorAt o (heldAt s j .held); bytes = heldAt s j .buffer } = hold-at s j ∙ hold-used (s .table) (heldAt s j) u ∙ held-there o (heldAt s j) h in
+          let q : SameShape (entryAt (next .table) (heldAt s j .file .entry)) o = shape-at (s .table) i a shape (heldAt s j .file .entry) in
+          let p : holdsOne o (heldAt s j) ≡ true = sym (kind-holds _ o (heldAt s j) (q .kind)) ∙ h in
+          let l : holdAt (holds s) j ≡ record { at = sectorAt o (heldAt s j .held); bytes = heldAt s j .buffer } = hold-at s j ∙ hold-used (s .table) (heldAt s j) u ∙ held-there o (heldAt s j) p in
           let r : Clear e (record { at = sectorAt o (heldAt s j .held); bytes = heldAt s j .buffer }) = rw l at (z .clear j n) in
           let m : length (heldAt s j .buffer) ≡ sector = buffer-length s (ok .isTyped) j in
-          ok .inStep j u h x
+          ok .inStep j u p x
           ∙ sym (done .others (sectorAt o (heldAt s j .held)) sector (rw m at r))
-          ∙ ap (λ (n : ℕ). part (v .image) (sector * (n + heldAt s j .held)) sector) (sym q)
+          ∙ ap (λ (n : ℕ). part (v .image) (sector * (n + heldAt s j .held)) sector) (sym (q .first))
 
       next-step : (j : ℕ) → InStep (v .image) (next .table) (heldAt next j)
       next-step j = go (ℕ-discrete j k)
@@ -162,7 +169,7 @@ module _ (image : List ℕ) (s : BufferedSession) (ok : Kept image s) (i : ℕ) 
           go (no n) = subst (InStep (v .image) (next .table)) (sym (getD-set-other (s .files) k j (kept f (v .file)) (fresh idle) n)) (old-step j n)
 
       all-good : every (heldGood (next .table)) (next .files) ≡ true
-      all-good = held-next s i k a shape f ofEntry (v .file) (λ h. done .fits .within h) (all-held image s (ok .isLegal))
+      all-good = held-next s i k a shape f ofEntry (v .file) (done .fits .within) (all-held image s (ok .isLegal))
 
       pub kept-next : legal (v .image) (bare next) ≡ true → Kept (v .image) next
       unfolding bufferedLegal

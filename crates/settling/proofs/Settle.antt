@@ -10,6 +10,7 @@ use lib.ListN.{length, getD, set}
 use Rattle.geometry.specs.Bytes.{part, lay}
 use Rattle.geometry.proofs.Bytes.{Apart, length-lay, lay-nil, lay-lay-apart, part-lay-apart, getD-lay-out}
 use Rattle.directory.specs.Entries.{entryAt}
+use Rattle.sessions.specs.Session.{holdsOne}
 use Rattle.steps.specs.Effects.{sectorAt}
 use Rattle.directory.specs.declared.Entry.{Entry}
 use Rattle.sessions.specs.declared.BufferedFile.{BufferedFile}
@@ -34,9 +35,9 @@ unfoldable pub allBack : List Hold → List ℕ → List ℕ
 allBack [] image = image
 allBack (h ∷ hs) image = allBack hs (back image h)
 
--- a buffer of the file of entry e
+-- what the file of entry e holds in its buffer
 unfoldable pub heldBy : Entry → BufferedFile → Hold
-heldBy e b = elim (b .holds) [ true ↦ record { at = sectorAt e (b .held); bytes = b .buffer } | false ↦ empty ]
+heldBy e b = elim (holdsOne e b) [ true ↦ record { at = sectorAt e (b .held); bytes = b .buffer } | false ↦ empty ]
 
 -- what an open-file state holds: nothing, if it is not in use
 unfoldable pub holdOf : List Entry → BufferedFile → Hold

@@ -15,11 +15,13 @@ use Rattle.directory.proofs.Good.{used-inside}
 use Rattle.requests.specs.Judge.{judge}
 use Rattle.requests.proofs.Done.{Live, Opens, Allows, Meets, done-allows, met-meets}
 use Rattle.requests.proofs.Live.{met-live}
-use Rattle.sessions.specs.Session.{idle, fresh, bare, fileOf, slotOf, openFiles, extentWith, legal}
+use Rattle.sessions.specs.Session.{idle, fresh, bare, fileOf, slotOf, openFiles, holdsOne, extentWith, legal}
+use Rattle.sessions.proofs.Held.{one-holds, no-buffer-none}
 use Rattle.sessions.proofs.Legal.{bare-legal, legal-length}
 use Rattle.steps.specs.Effects.{Effect, stamp, putBack, Bench, effects, plainAll, bufferedDo, bufferedAll, puttingBack}
 use Rattle.steps.specs.Next.{Scene, factsOf, fileDone, fileMet, entryDone}
 use Rattle.steps.specs.Step.{After, heldOf, kept, plainAfter, plainStep, bufferedScene, bufferedAnswer, bufferedAfter, bufferedStep}
+use Rattle.steps.proofs.Buffer.{back-cases}
 use Rattle.steps.proofs.Lawful.{Lawful}
 use Rattle.steps.proofs.Inside.{lawful, AllSuit, suit}
 use Rattle.settling.proofs.Settle.{heldBy, settle}
@@ -65,7 +67,7 @@ module _ (image : List ℕ) (s : BufferedSession) (ok : Kept image s) (i : ℕ) 
 
   -- or, for an opening, the first that is not in use
   slot-shut : Shut s i → isFree e ≡ false → openFiles (bare s .files) < mostOpen → Slot image s i (slotOf (bare s .files) i) (heldOf s i)
-  unfolding heldBy openFiles
+  unfolding heldBy holdsOne openFiles
   slot-shut h u r =
       let k : ℕ = firstWith (λ f. not (f .used)) (bare s .files) in
       let m : length (bare s .files) ≡ length (s .files) = many in
@@ -89,8 +91,8 @@ module _ (image : List ℕ) (s : BufferedSession) (ok : Kept image s) (i : ℕ) 
 
 -- ---- after a closing nothing is held that the image has not
 
-pub idle-own : (e : Entry) (v : Bench) → Fits e v → (v .file .holds ≡ true → v .file .changed ≡ false) → own e v ≡ v .image
-idle-own e v f z = either (v .file .holds) (λ (h : v .file .holds ≡ true). own-unchanged e v f h (z h)) (own-none e v)
+pub idle-own : (e : Entry) (v : Bench) → Fits e v → (holdsOne e (v .file) ≡ true → v .file .changed ≡ false) → own e v ≡ v .image
+idle-own e v f z = either (holdsOne e (v .file)) (λ (h : holdsOne e (v .file) ≡ true). own-unchanged e v f h (z h)) (own-none e v)
 
 back-unchanged : (e : Entry) (w : Bench) → puttingBack e w .file .holds ≡ true → puttingBack e w .file .changed ≡ false
 unfolding puttingBack
@@ -98,9 +100,11 @@ back-unchanged e w = either (w .file .holds && w .file .changed)
     (λ (t : (w .file .holds && w .file .changed) ≡ true). rw (t, puttingBack) (λ h. refl))
     (λ (t : (w .file .holds && w .file .changed) ≡ false). rw (t, puttingBack) (λ h. and-other (w .file .holds) (w .file .changed) h t))
 
-closing-unchanged : (c : Scene) (w : Bench) (xs : List ℕ) → bufferedAll c (putBack ∷ stamp xs ∷ []) w .file .holds ≡ true → bufferedAll c (putBack ∷ stamp xs ∷ []) w .file .changed ≡ false
+closing-unchanged : (c : Scene) (w : Bench) (xs : List ℕ) → holdsOne (c .entry) (bufferedAll c (putBack ∷ stamp xs ∷ []) w .file) ≡ true → bufferedAll c (putBack ∷ stamp xs ∷ []) w .file .changed ≡ false
 unfolding bufferedAll bufferedDo
-closing-unchanged c w xs = back-unchanged (c .entry) w
+closing-unchanged c w xs = back-cases (λ (v : Bench). holdsOne (c .entry) (v .file) ≡ true → v .file .changed ≡ false) c w
+    (λ b h. back-unchanged (c .entry) w (one-holds (c .entry) (puttingBack (c .entry) w .file) h))
+    (λ b h. both-ways (holdsOne (c .entry) (w .file)) h (no-buffer-none (c .entry) (w .file) b))
 
 -- ---- a request that is not refused
 
@@ -137,7 +141,7 @@ module _ (image : List ℕ) (s : BufferedSession) (ok : Kept image s) (i : ℕ) 
     used : isFree (entryAt (s .table) i) ≡ false
     slot : Slot image s i (slotOf (bare s .files) i) (heldOf s i)
     ofEntry : f .used ≡ true → f .entry ≡ i
-    gone : f .used ≡ false → (bufferedAll scene xs found .file .holds ≡ true → bufferedAll scene xs found .file .changed ≡ false)
+    gone : f .used ≡ false → (holdsOne (entryAt (s .table) i) (bufferedAll scene xs found .file) ≡ true → bufferedAll scene xs found .file .changed ≡ false)
 
   -- one that stays open
   stays-open : (q : Request) (f : OpenFile) (xs : List Effect) → Live (facts q) → f .used ≡ true → f .entry ≡ fileOf (bare s .files) i .entry → Ready f xs

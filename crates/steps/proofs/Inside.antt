@@ -1,7 +1,7 @@
 -- A legal session makes a used entry and its state lawful; and what a request answered 0 does then stays in the file's extent:
 -- the tests that it passed say that its record lies below the count or the capacity, or that there is room for its code.
 use mathlib.Core.Path.{_≡_, refl, sym, subst}
-use mathlib.Core.Bool.{Bool, true, false, _&&_, _||_, false≢true}
+use mathlib.Core.Bool.{Bool, true, false, _&&_, false≢true}
 use mathlib.Core.List.{List, [], _∷_, map}
 use Prim.Native.Nat.{ℕ, _+_, _-_, _*_, _≤_, _<_}
 use native.Mathlib.Omega.{arith}
@@ -16,7 +16,7 @@ use Rattle.geometry.proofs.Places.{lawful-most, sector-below, byte-blocked, spa
 use Rattle.geometry.proofs.Bytes.{length-padded}
 use Rattle.directory.specs.Entries.{entryAt, isFree, isKind, isMarked}
 use Rattle.directory.proofs.Good.{Lies, lies}
-use Rattle.sessions.specs.Session.{idle, fileOf, slotOf, placeGood, legal}
+use Rattle.sessions.specs.Session.{idle, hasBuffer, fileOf, slotOf, placeGood, legal}
 use Rattle.sessions.proofs.Files.{Finds, opened, closed, finds}
 use Rattle.sessions.proofs.Legal.{lawful-length, good-table, position-most, beyond-marked, places-inside}
 use Rattle.coding.specs.Encode.{codeOf}
@@ -98,15 +98,11 @@ lawful image s ok i used = go (finds (s .files) i)
 
 -- ---- what a request may do to a file
 
--- "each open blocked or compressed file" has a buffer
-abbrev pub buffers : Entry → Bool
-buffers e = isKind blocked e || isKind compressed e
-
 -- by way of the buffer one sector of the extent at a time; straight only where there is no buffer
 abbrev pub Suits : Entry → Effect → Type 0
-Suits e (hold k) = (buffers e ≡ true) × (k < e .sectors)
-Suits e (change x) = (buffers e ≡ true) × (x .place .sector < e .sectors) × (x .place .byte + length (x .bytes) ≤ sector)
-Suits e (store k xs) = (buffers e ≡ false) × (sector * k + length xs ≤ sector * e .sectors)
+Suits e (hold k) = (hasBuffer e ≡ true) × (k < e .sectors)
+Suits e (change x) = (hasBuffer e ≡ true) × (x .place .sector < e .sectors) × (x .place .byte + length (x .bytes) ≤ sector)
+Suits e (store k xs) = (hasBuffer e ≡ false) × (sector * k + length xs ≤ sector * e .sectors)
 Suits e (stamp xs) = length xs ≡ 4
 Suits e putBack = record {}
 
@@ -171,7 +167,7 @@ module _ (files buffer : ℕ) (c : Scene) (l : Lawful (c .entry) (c .file)) wher
       there : isKind compressed e ≡ true → startOf (c .bytes) (c .file .here) .sector < e .sectors
       there k = not-lost e (c .bytes) (c .file .here) (unfold recordHere badIn in rw (lt-ltb (c .file .position) (e .count) h, k, recordHere) at bad)
 
-      one : (g : Bool) → isKind compressed e ≡ true → buffers e ≡ true
+      one : (g : Bool) → isKind compressed e ≡ true → hasBuffer e ≡ true
           → AllSuit e (elim g [ true ↦ hold (c .file .here .sector) ∷ hold (startOf (c .bytes) (c .file .here) .sector) ∷ [] | false ↦ hold (startOf (c .bytes) (c .file .here) .sector) ∷ [] ])
       one true k b = ((b, good-within e (c .file .here) (l .places k .0) .0), ((b, there k), record {}))
       one false k b = ((b, there k), record {})
@@ -189,7 +185,7 @@ module _ (files buffer : ℕ) (c : Scene) (l : Lawful (c .entry) (c .file)) wher
       go false false p q = record {}
 
   -- record or granule k, written straight
-  store-suits : (k : ℕ) → buffers e ≡ false → length (c .given) ≤ e .length → k < capacity (e .kind) (e .length) (e .sectors) → Suits e (storeEffect c k)
+  store-suits : (k : ℕ) → hasBuffer e ≡ false → length (c .given) ≤ e .length → k < capacity (e .kind) (e .length) (e .sectors) → Suits e (storeEffect c k)
   unfolding storeEffect
   store-suits k b h r =
       let n : ¬ (e .kind ≡ blocked) = not-blocked (neither-left (isKind blocked e) (isKind compressed e) b) in
@@ -210,7 +206,7 @@ module _ (files buffer : ℕ) (c : Scene) (l : Lawful (c .entry) (c .file)) wher
       (rw b, blocked-below (c .file .position) b r, omega arith)
 
   -- the changes of a coded record, each in one sector
-  changes-suit : buffers e ≡ true → (cs : List Change) → AllIn (e .sectors) cs → AllSuit e (map change cs)
+  changes-suit : hasBuffer e ≡ true → (cs : List Change) → AllIn (e .sectors) cs → AllSuit e (map change cs)
   changes-suit b [] i = record {}
   changes-suit b (x ∷ cs) i = ((b, i .0 .sector-in, omega (arith, i .0 .ends)), changes-suit b cs (i .1))
 
@@ -236,7 +232,7 @@ module _ (files buffer : ℕ) (c : Scene) (l : Lawful (c .entry) (c .file)) wher
       go false false p q = (store-suits (c .file .position) (rw (p, q)) (w .short) (below q), record {})
 
 -- a random file has no buffer
-pub no-buffer : (e : Entry) → isKind random e ≡ true → buffers e ≡ false
+pub no-buffer : (e : Entry) → isKind random e ≡ true → hasBuffer e ≡ false
 no-buffer e r =
     let q : e .kind ≡ random = eqb-true (e .kind) random r in
     rw (ne-eqb (e .kind) blocked (omega arith), ne-eqb (e .kind) compressed (omega arith))

@@ -12,6 +12,7 @@ use Rattle.directory.specs.Entries.{isKind}
 use Rattle.directory.specs.Stamp.{stampBytes}
 use Rattle.packing.specs.Placing.{Change, changes}
 use Rattle.packing.specs.Reading.{startOf, goesOn}
+use Rattle.sessions.specs.Session.{hasBuffer}
 use Rattle.steps.specs.Next.{Scene}
 use Rattle.geometry.specs.declared.Place.{Place}
 use Rattle.directory.specs.declared.Entry.{Entry}
@@ -120,13 +121,13 @@ taking e k w = elim (w .file .holds && eqb (w .file .held) k) [ true ↦ w | fal
 unfoldable pub working : ℕ → List ℕ → Bench → Bench
 working at xs w = record { image = w .image; file = holding (w .file) (w .file .held) true (lay (w .file .buffer) at xs) }
 
--- by way of the buffer
+-- by way of the buffer; a file that has none puts nothing back
 unfoldable pub bufferedDo : Scene → Effect → Bench → Bench
 bufferedDo c (hold k) w = taking (c .entry) k w
 bufferedDo c (change x) w = working (x .place .byte) (x .bytes) (taking (c .entry) (x .place .sector) w)
 bufferedDo c (store k xs) w = record { image = plainDo c (store k xs) (w .image); file = w .file }
 bufferedDo c (stamp xs) w = record { image = plainDo c (stamp xs) (w .image); file = w .file }
-bufferedDo c putBack w = puttingBack (c .entry) w
+bufferedDo c putBack w = elim (hasBuffer (c .entry)) [ true ↦ puttingBack (c .entry) w | false ↦ w ]
 
 unfoldable pub bufferedAll : Scene → List Effect → Bench → Bench
 bufferedAll c [] w = w

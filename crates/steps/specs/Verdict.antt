@@ -4,12 +4,12 @@ use mathlib.Core.Bool.{Bool, true, false, _&&_, _||_}
 use mathlib.Core.List.{List}
 use Prim.Native.Nat.{ℕ, _+_}
 use Rattle.geometry.specs.Bytes.{lay}
-use Rattle.geometry.specs.Sizes.{blocked, compressed}
+use Rattle.geometry.specs.Sizes.{compressed}
 use Rattle.directory.specs.Entries.{entryAt, isKind}
 use Rattle.packing.specs.Placing.{behindNew}
 use Rattle.packing.specs.Reading.{overlaid}
 use Rattle.requests.specs.Judge.{judge}
-use Rattle.sessions.specs.Session.{extent, fileOf}
+use Rattle.sessions.specs.Session.{extent, fileOf, hasBuffer}
 use Rattle.steps.specs.Next.{Scene, factsWith, moved, fileDone, fileMet, entryDone, intoBuffer}
 use Rattle.geometry.specs.declared.Place.{Place}
 use Rattle.directory.specs.declared.Entry.{Entry}
@@ -21,9 +21,9 @@ use Rattle.requests.specs.declared.Answer.{Answer}
 use Rattle.requests.specs.declared.Answer.the-variants.{Done, Met, Refused}
 use Rattle.steps.specs.declared.Verdict.{Verdict}
 
--- the bytes of a file's extent as the file has them: of an open blocked or compressed one the held sector, if 360 bytes are lent for it, in place of its own
+-- the bytes of a file's extent as the file has them: of an open one that has a buffer the held sector, if 360 bytes are lent for it, in place of its own
 unfoldable pub seenBytes : Entry → OpenFile → List ℕ → ℕ → List ℕ → List ℕ
-seenBytes e f bytes held over = elim (f .used && (isKind blocked e || isKind compressed e)) [ true ↦ overlaid bytes held over | false ↦ bytes ]
+seenBytes e f bytes held over = elim (f .used && hasBuffer e) [ true ↦ overlaid bytes held over | false ↦ bytes ]
 
 -- what a request on entry i finds in either engine
 unfoldable pub seenScene : List ℕ → Session → ℕ → List ℕ → ℕ → List ℕ → Scene

@@ -1,32 +1,30 @@
--- `held::put_back` meets its contract: a changed buffer is laid, any other left.
-use mathlib.Core.Path.{_∙_, ap}
-use mathlib.Core.Bool.{true, false}
-use Rattle.geometry.specs.Bytes.{lay}
-use Rattle.held.proofs.Cases.{put-changed, put-unchanged}
+-- `held::put_back` meets its contract: where the file has a buffer, and 360 bytes are lent for it, it goes back; else nothing does.
+use mathlib.Core.Path.{_∙_}
+use Rattle.held.proofs.Cases.{put-there, put-nowhere}
 use Rattle.held.specs.Held.{lent}
 use borrow.Author.Needs.{needs}
 use Rattle.held.proofs.put_back.Statement.{statement}
 use Rattle.held.proofs.put_back.Tie as tie
 
-sector-at-requires : tie.Need-sector-at-requires
-sector-at-requires c κs = search needs
+has-buffer-requires : tie.Need-has-buffer-requires
+has-buffer-requires c κs = search needs
 
-lay-requires : tie.Need-lay-requires
-lay-requires c κs = search needs
+lay-back-requires : tie.Need-lay-back-requires
+lay-back-requires c κs = search needs
 
 same-length : tie.Need-same-length
 same-length c = search needs
 
 returns : tie.Need-returns
 returns c =
-    let a = c .before .before .before .before .before .before .before .before .before .args in
-    ap (λ image. lent image (record { holds = true; held = a .h .held; changed = false }) (a .buffer .now)) (c .before .before .lay .ensures ∙ ap (λ at. lay (a .image .now) at (a .buffer .now)) (c .before .before .before .sector-at .ensures))
-    ∙ put-changed (a .e) (lent (a .image .now) (a .h) (a .buffer .now)) (c .before .before .before .before .before .if1 .taken)
+    let a = c .before .before .before .before .before .before .before .before .args in
+    c .before .before .lay-back .ensures ∙ put-there (a .e) (lent (a .image .now) (a .h) (a .buffer .now)) _ (c .before .before .before .before .before .has-buffer .ensures) (c .before .before .before .before .if1 .taken)
 
 returns-2 : tie.Need-returns-2
 returns-2 c =
     let a = c .before .before .before .before .args in
-    put-unchanged (a .e) (lent (a .image .now) (a .h) (a .buffer .now)) (c .if1 .left)
+    put-nowhere (a .e) (lent (a .image .now) (a .h) (a .buffer .now)) _ (c .before .has-buffer .ensures) (c .if1 .left)
 
 pub put-back-spec : {M : Type 1} → statement M
-put-back-spec = tie.close (tie.spec sector-at-requires lay-requires same-length returns returns-2)
+put-back-spec =
+    tie.close (tie.spec has-buffer-requires lay-back-requires same-length returns returns-2)

@@ -2,14 +2,14 @@
 use mathlib.Core.Path.{_∙_, ap}
 use mathlib.Core.Bool.{true, false}
 use Rattle.steps.specs.Effects.{loaded}
-use Rattle.held.proofs.Cases.{put-whole, take-held, take-other}
+use Rattle.held.proofs.Cases.{take-held, take-other}
 use Rattle.held.specs.Held.{lent}
 use borrow.Author.Needs.{needs}
 use Rattle.held.proofs.take.Statement.{statement}
 use Rattle.held.proofs.take.Tie as tie
 
-put-back-requires : tie.Need-put-back-requires
-put-back-requires c κs = search needs
+lay-back-requires : tie.Need-lay-back-requires
+lay-back-requires c κs = search needs
 
 load-requires : tie.Need-load-requires
 load-requires c κs = search needs
@@ -31,10 +31,10 @@ returns-2 c =
     let a = c .before .before .before .before .before .before .before .before .before .before .before .before .before .before .before .args in
     let w = lent (a .image .now) (a .h) (a .buffer .now) in
     ap (lent _ (record { holds = true; held = a .k; changed = false })) (c .before .before .load .ensures)
-    ∙ ap (loaded (a .e) (a .k)) (c .before .before .before .before .before .before .before .put-back .ensures ∙ put-whole (a .e) w (c .before .before .before .before .before .before .before .before .before .before .before .before .before .before .before .pre .1))
+    ∙ ap (loaded (a .e) (a .k)) (c .before .before .before .before .before .before .before .lay-back .ensures)
     ∙ take-other (a .e) w (a .k) (c .before .before .before .before .before .before .before .before .before .before .if1 .left)
 
 pub take-spec : {M : Type 1} → statement M
 take-spec =
     tie.close
-    (tie.spec put-back-requires load-requires returns same-length same-length-2 returns-2)
+    (tie.spec lay-back-requires load-requires returns same-length same-length-2 returns-2)
