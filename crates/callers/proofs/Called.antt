@@ -1,6 +1,5 @@
 -- The calls are the engines in lent bytes: their contracts cite the same definitions.
 use mathlib.Core.Path.{_≡_, refl, sym, ap, _∙_}
-use mathlib.Core.Bool.{Bool}
 use mathlib.Core.List.{List}
 use Prim.Native.Nat.{ℕ}
 use lib.Dec.{eqb}
@@ -21,7 +20,7 @@ pub requests-lent : Requests
 unfolding plain.requested buffered.requested
 requests-lent = record { plain = λ image b i q given buffer. refl; buffered = λ image b i q given buffer. refl }
 
-module _ {S : Type 0} (seen : S → BufferedSession) (B : board.Engine S) (takes : List ℕ → Bool) where
+module _ {S : Type 0} (seen : S → BufferedSession) (B : board.Engine S) where
   number-told : (image b : List ℕ) → length b ≡ B .size → board.mountNumber B image b ≡ numberOf (B .mount image .answer)
   unfolding board.mountNumber
   number-told image b l = chosen (eqb (length b) (B .size)) _ _ (eq-eqb (length b) (B .size) l)
@@ -30,7 +29,7 @@ module _ {S : Type 0} (seen : S → BufferedSession) (B : board.Engine S) (takes
   unfolding board.mountBytes
   session-told image b l d = chosen (eqb (board.mountNumber B image b) 0) _ _ (eq-eqb (board.mountNumber B image b) 0 (number-told image b l ∙ ap numberOf d))
 
-  pub called : Called seen B takes
+  pub called : Called seen B
   unfolding board.requested board.kept lentAfter
   called = record {
     requests = λ image b i q given buffer r e. ap (λ (w : After (List ℕ)). board.left (numberOf (w .answer)) (w .image) (w .session) (w .buffer)) (sym e);

@@ -1,10 +1,10 @@
 -- A run of the calls from C is the run of the engine in lent bytes, and so that of the tapes and rows.
 use mathlib.Core.Path.{_≡_, refl, ap, ap₂, _∙_}
-use mathlib.Core.Bool.{Bool, true}
+use mathlib.Core.Bool.{true}
 use mathlib.Core.List.{List, [], _∷_, map}
 use Prim.Native.Nat.{ℕ}
 use lib.ListN.{length}
-use Rattle.geometry.specs.Lists.{every, numbersFrom}
+use Rattle.geometry.specs.Lists.{numbersFrom}
 use Rattle.geometry.specs.Sizes.{entries}
 use Rattle.mounting.specs.Mounting.{mounts, plainMount, bufferedMount}
 use Rattle.requests.specs.Codes.{codes, askedFor}
@@ -16,7 +16,7 @@ use Rattle.tapes.specs.Model.{Asked, Report}
 use Rattle.judging.specs.Lent.{lentAfter}
 use Rattle.board.specs.Board as board
 use Rattle.demands.specs.Engine.{Standing, shownBy, spotsOf, answered, stepOf, reportOf, reports, mounted}
-use Rattle.demands.specs.Demand2.{isByte, Faithful}
+use Rattle.demands.specs.Demand2.{Faithful}
 use Rattle.callers.specs.Lent.{lentEngine, Called}
 use Rattle.callers.specs.Calls.{call, toldBy, callReport, callReports, Calling, Coded}
 use Rattle.callers.proofs.Lent.{lent-plain-faithful, lent-buffered-faithful, called-plain, called-buffered}
@@ -25,8 +25,8 @@ use Rattle.requests.specs.declared.Request.{Request}
 use Rattle.requests.specs.declared.Request.the-variants.{Open, Read, Write, GranuleRead, GranuleWrite, GranuleLook, Position}
 use Rattle.sessions.specs.declared.BufferedSession.{BufferedSession}
 
-module _ {S : Type 0} (seen : S → BufferedSession) (B : board.Engine S) (takes : List ℕ → Bool) where
-  told-shown : (image b : List ℕ) (i : ℕ) (q : Request) → toldBy B image b i q ≡ shownBy (lentEngine seen B takes) image b i q
+module _ {S : Type 0} (seen : S → BufferedSession) (B : board.Engine S) where
+  told-shown : (image b : List ℕ) (i : ℕ) (q : Request) → toldBy B image b i q ≡ shownBy (lentEngine seen B) image b i q
   unfolding toldBy shownBy
   told-shown image b i Open = refl
   told-shown image b i Read = refl
@@ -36,7 +36,7 @@ module _ {S : Type 0} (seen : S → BufferedSession) (B : board.Engine S) (takes
   told-shown image b i (GranuleLook g) = refl
   told-shown image b i (Position o) = refl
 
-  report-is : (w : Standing (List ℕ)) (a : Asked) → callReport B w a ≡ reportOf (lentEngine seen B takes) w a
+  report-is : (w : Standing (List ℕ)) (a : Asked) → callReport B w a ≡ reportOf (lentEngine seen B) w a
   unfolding callReport reportOf answered spotsOf board.requested board.kept lentAfter
   report-is w a = λ j. record {
     number = call B w a .number;
@@ -45,29 +45,29 @@ module _ {S : Type 0} (seen : S → BufferedSession) (B : board.Engine S) (takes
     spots = map (B .spot (B .read (call B w a .session))) (numbersFrom 0 entries);
   }
 
-  step-is : (w : Standing (List ℕ)) (a : Asked) → record { image = call B w a .image; session = call B w a .session } ≡ stepOf (lentEngine seen B takes) w a
+  step-is : (w : Standing (List ℕ)) (a : Asked) → record { image = call B w a .image; session = call B w a .session } ≡ stepOf (lentEngine seen B) w a
   unfolding stepOf answered board.requested board.kept lentAfter
   step-is w a = refl
 
-  reports-are : (asked : List Asked) (w : Standing (List ℕ)) → callReports B w asked ≡ reports (lentEngine seen B takes) w asked
+  reports-are : (asked : List Asked) (w : Standing (List ℕ)) → callReports B w asked ≡ reports (lentEngine seen B) w asked
   unfolding callReports reports
   reports-are [] w = refl
   reports-are (a ∷ rest) w =
       ap₂ (λ (x : Report) (xs : List Report). x ∷ xs) (report-is w a)
-      (ap (λ (v : Standing (List ℕ)). callReports B v rest) (step-is w a) ∙ reports-are rest (stepOf (lentEngine seen B takes) w a))
+      (ap (λ (v : Standing (List ℕ)). callReports B v rest) (step-is w a) ∙ reports-are rest (stepOf (lentEngine seen B) w a))
 
-  module _ (called : Called seen B takes) (faithful : Faithful (lentEngine seen B takes)) (done : (image : List ℕ) → mounts image ≡ true → B .mount image .answer ≡ Done) where
+  module _ (called : Called seen B) (faithful : Faithful (lentEngine seen B)) (done : (image : List ℕ) → mounts image ≡ true → B .mount image .answer ≡ Done) where
     start-is : (image b : List ℕ) → length b ≡ B .size → mounts image ≡ true
-        → record { image = image; session = board.mountBytes B image b } ≡ mounted (lentEngine seen B takes) image
+        → record { image = image; session = board.mountBytes B image b } ≡ mounted (lentEngine seen B) image
     unfolding mounted
     start-is image b l ok = ap (λ (x : List ℕ). record { image = image; session = x }) (called .session image b l (done image ok))
 
-    pub calling : Calling seen B takes
+    pub calling : Calling B
     calling = record {
       mounting = λ image b l ok. called .number image b l ∙ ap numberOf (done image ok);
       serves = λ image b l ok asked fit.
           reports-are asked (record { image = image; session = board.mountBytes B image b })
-          ∙ ap (λ (v : Standing (List ℕ)). reports (lentEngine seen B takes) v asked) (start-is image b l ok)
+          ∙ ap (λ (v : Standing (List ℕ)). reports (lentEngine seen B) v asked) (start-is image b l ok)
           ∙ faithful .serves image ok asked fit;
     }
 
@@ -94,9 +94,9 @@ mount-done : (image : List ℕ) → mounts image ≡ true → plainMount image .
 unfolding plainMount
 mount-done image ok = rw (ok, plainMount)
 
-pub plain-calling : Calling unheld board.plainEngine (λ b. true)
-plain-calling = calling unheld board.plainEngine (λ b. true) called-plain lent-plain-faithful mount-done
+pub plain-calling : Calling board.plainEngine
+plain-calling = calling unheld board.plainEngine called-plain lent-plain-faithful mount-done
 
-pub buffered-calling : Calling (λ s. s) board.bufferedEngine (every isByte)
+pub buffered-calling : Calling board.bufferedEngine
 unfolding bufferedMount
-buffered-calling = calling (λ s. s) board.bufferedEngine (every isByte) called-buffered lent-buffered-faithful mount-done
+buffered-calling = calling (λ s. s) board.bufferedEngine called-buffered lent-buffered-faithful mount-done

@@ -1,59 +1,35 @@
 -- What is proved of an engine on sessions as values holds of it on lent bytes. One argument for both engines.
 use mathlib.Core.Path.{_≡_, refl, sym, ap, subst, _∙_}
-use mathlib.Core.Bool.{Bool, true, false}
-use mathlib.Core.List.{List, [], _∷_}
+use mathlib.Core.Bool.{true, false}
+use mathlib.Core.List.{List}
 use Prim.Native.Nat.{ℕ}
+use lib.Dec.{eqb}
 use Rattle.geometry.specs.Lists.{every}
-use Rattle.geometry.proofs.Tests.{either, both-ways, chosen, not-chosen}
+use Rattle.geometry.proofs.Tests.{either, chosen, not-chosen}
 use Rattle.directory.specs.Entries.{entryAt, tableOf}
 use Rattle.directory.specs.declared.Entry.{Entry}
-use Rattle.sessions.specs.Session.{extentWith, bufferedLegal}
-use Rattle.steps.specs.Step.{After, heldOf}
-use Rattle.tapes.specs.Model.{Asked}
+use Rattle.sessions.specs.Session.{bufferedLegal}
+use Rattle.steps.specs.Step.{After}
+use Rattle.tapes.specs.Model.{Asked, Report}
 use Rattle.judging.specs.Lent.{lentAfter}
 use Rattle.board.specs.Board as board
-use Rattle.demands.specs.Engine.{Engine, taken}
-use Rattle.demands.specs.Demand1.{Proper, Orderly, Passing}
-use Rattle.demands.specs.Demand2.{isByte, Faithful, CountsStored}
-use Rattle.demands.specs.Demand3.{liesIn, goesIn, Holds, Buffers, Buffering}
-use Rattle.demands.proofs.Illegal.{answers-12}
+use Rattle.demands.specs.Engine.{Engine, Standing, answered, stepOf, mounted, areBytes, sound}
+use Rattle.demands.specs.Demand1.{Proper, Orderly, Passes, Passing}
+use Rattle.demands.specs.Demand2.{closing, Faithful, CountsStored}
+use Rattle.demands.specs.Buffer.{deskAt, Buffered, Buffering}
+use Rattle.demands.specs.Writes.{plainCount, bufferedCount, inRun, allDone, Counted, Writing}
+use Rattle.demands.proofs.Sound.{sound-image}
 use Rattle.callers.specs.Lent.{lentEngine}
-use Rattle.callers.proofs.Runs.{valueEngine, Back, Keeps, then-reports, then-answer, then-image-of}
-use Rattle.requests.specs.declared.Answer.{Answer}
-use Rattle.requests.specs.declared.Answer.the-variants.{Done, Met, Refused}
-use Rattle.requests.specs.declared.Edge.{Edge}
+use Rattle.callers.proofs.Runs.{valueEngine, Keeps, opened, read-left, opened-then, run-reports, run-sum, then-reports, then-answer, then-image-of}
 use Rattle.requests.specs.declared.Request.{Request}
-use Rattle.requests.specs.declared.Request.the-variants.{Read, Write}
-use Rattle.sessions.specs.declared.BufferedFile.{BufferedFile}
 use Rattle.sessions.specs.declared.BufferedSession.{BufferedSession}
 
-isDone : Answer → Bool
-isDone Done = true
-isDone (Met x) = false
-isDone (Refused x) = false
-
-isMet : Answer → Bool
-isMet Done = false
-isMet (Met x) = true
-isMet (Refused x) = false
-
-always : (asked : List Asked) → every (λ (a : Asked). true) asked ≡ true
-unfolding every
-always [] = refl
-always (a ∷ asked) = always asked
-
-module _ {S : Type 0} (seen : S → BufferedSession) (B : board.Engine S) (takes : List ℕ → Bool) (look : List ℕ → S → ℕ → ℕ → List ℕ)
-    (keeps : Keeps seen B takes look) where
+module _ {S : Type 0} {seen : S → BufferedSession} {B : board.Engine S} {look : List ℕ → S → ℕ → ℕ → List ℕ} (keeps : Keeps seen B look) where
   abbrev E : Engine
-  E = lentEngine seen B takes
+  E = lentEngine seen B
 
   abbrev F : Engine
   F = valueEngine seen B look
-
-  -- any list is taken by the engine on values
-  pub any-taken : (image : List ℕ) (asked : List Asked) → taken F image asked ≡ true
-  unfolding taken
-  any-taken image asked = always asked
 
   -- ---- one request
 
@@ -72,89 +48,114 @@ module _ {S : Type 0} (seen : S → BufferedSession) (B : board.Engine S) (takes
     unfolding lentAfter
     told-not h = not-chosen (B .isSession b) (B .stored (r .session)) b h
 
-    told-read : B .isSession b ≡ true → Back B (r .session) → B .read (l .session) ≡ r .session
-    told-read h k = ap (B .read) (told-stored h) ∙ k .1
-
     -- nothing changed
     kept : r .session ≡ B .read b → l .session ≡ b
     kept e = either (B .isSession b) (λ h. told-stored h ∙ ap (B .stored) e ∙ keeps .same b h) told-not
 
-    -- bytes that are no session meet nothing
-    met-read : Orderly F → (x : Edge) → r .answer ≡ Met x → B .read (l .session) ≡ r .session
-    unfolding isMet
-    met-read orderly x e = either (B .isSession b)
-        (λ h. told-read h (keeps .meets image b i q given buffer x e))
-        (λ h. both-ways (isMet (r .answer)) (ap isMet e) (ap isMet (answers-12 F orderly image (B .read b) i q given buffer (keeps .refuses image b h))))
-
-    -- nor are they served
-    done-read : Orderly F → takes image ≡ true → takes given ≡ true → r .answer ≡ Done → B .read (l .session) ≡ r .session
-    unfolding isDone
-    done-read orderly x y e = either (B .isSession b)
-        (λ h. told-read h (keeps .goes image b i q given buffer x y .0))
-        (λ h. both-ways (isDone (r .answer)) (ap isDone e) (ap isDone (answers-12 F orderly image (B .read b) i q given buffer (keeps .refuses image b h))))
-
-    legal-told : bufferedLegal image (seen (B .read b)) ≡ true → B .isSession b ≡ true
-    legal-told ok = either (B .isSession b) (λ h. h) (λ h. both-ways (bufferedLegal image (seen (B .read b))) ok (keeps .refuses image b h))
-
-    lent-proper : Orderly F → Proper E image b i q given buffer l
+    lent-proper : Proper E image b i q given buffer l
     unfolding lentAfter
-    lent-proper orderly =
-        let p : Proper F image (B .read b) i q given buffer r = orderly .every-request image (B .read b) i q given buffer in
+    lent-proper =
+        let p : Proper F image (B .read b) i q given buffer r = keeps .orderly .every-request image (B .read b) i q given buffer in
         record {
           ordered = p .ordered;
           refused = λ x e. let n = p .refused x e in (n .0, kept (n .1), n .2);
-          met = λ x e. let n = p .met x e in (n .0, ap seen (met-read orderly x e) ∙ n .1, n .2);
+          met = λ x e. let n = p .met x e in (n .0, ap seen (read-left keeps image b i q given buffer (keeps .meets image b i q given buffer x e)) ∙ n .1, n .2);
           bufferRest = p .bufferRest;
           bufferSize = p .bufferSize;
         }
 
-    lent-legal : takes image ≡ true → takes given ≡ true → bufferedLegal image (seen (B .read b)) ≡ true → bufferedLegal (r .image) (seen (r .session)) ≡ true
-        → bufferedLegal (l .image) (seen (B .read (l .session))) ≡ true
-    unfolding lentAfter
-    lent-legal x y ok h =
-        ap (λ (s : S). bufferedLegal (r .image) (seen s)) (told-read (legal-told ok) (keeps .goes image b i q given buffer x y .0)) ∙ h
+  pub lent-orderly : Orderly E
+  unfolding lentAfter
+  lent-orderly = record {
+    line = keeps .orderly .line;
+    every-request = lent-proper;
+    every-look = λ image b i g given buffer.
+        let p = keeps .orderly .every-look image (B .read b) i g given buffer in
+        record { inPlace = λ d. keeps .shows image b i g ∙ p .inPlace d; empty = λ x e. keeps .shows image b i g ∙ p .empty x e };
+  }
 
-  pub lent-orderly : Orderly F → Orderly E
-  lent-orderly orderly = record { every-request = λ image b i q given buffer. lent-proper image b i q given buffer orderly }
-
-  pub lent-passing : Passing F → Passing E
-  lent-passing passing = record {
-    mounting = λ image ok. ap (λ (s : S). bufferedLegal image (seen s)) (keeps .starts image .1) ∙ passing .mounting image ok;
-    requests = λ image b i q given buffer x y t ok. lent-legal image b i q given buffer x y ok (passing .requests image (B .read b) i q given buffer refl refl t ok);
+  pub lent-passing : Passing E
+  unfolding mounted
+  lent-passing = record {
+    mounting = λ image b ok.
+        let p : Passes F (mounted F image) = keeps .passing .mounting image b ok in
+        record {
+          isSound = ap (λ (s : S). sound image (seen s)) (keeps .starts image) ∙ p .isSound;
+          isLegal = ap (λ (s : S). bufferedLegal image (seen s)) (keeps .starts image) ∙ p .isLegal;
+        };
+    requests = λ w p a gives.
+        let q : Passes F (opened keeps (stepOf E w a)) =
+        subst (λ (v : Standing S). Passes F v) (sym (opened-then keeps w a (sound-image (w .image) (seen (B .read (w .session))) (p .isSound)) gives))
+        (keeps .passing .requests (opened keeps w) (record { isSound = p .isSound; isLegal = p .isLegal }) a gives) in
+        record { isSound = q .isSound; isLegal = q .isLegal };
   }
 
   -- ---- a run
 
-  pub lent-faithful : ((b : List ℕ) → every isByte b ≡ true → takes b ≡ true) → Faithful F → Faithful E
-  lent-faithful bytes faithful = record {
-    takes = bytes;
+  pub lent-faithful : Faithful F → Faithful E
+  lent-faithful faithful = record {
     mounting = faithful .mounting;
-    refusedMounting = λ image e. ap seen (keeps .starts image .1) ∙ faithful .refusedMounting image e;
-    serves = λ image ok asked fit. then-reports seen B takes look keeps image asked fit ∙ faithful .serves image ok asked (any-taken image asked);
+    refusedMounting = λ image e. ap seen (keeps .starts image) ∙ faithful .refusedMounting image e;
+    serves = λ image ok asked fit. then-reports keeps image asked fit ∙ faithful .serves image ok asked fit;
   }
 
   pub lent-counts : CountsStored F → CountsStored E
   lent-counts counts = record {
-    stored = λ image ok asked i t fit here a is done.
-        let p = counts .stored image ok asked i t (any-taken image asked) here a is (sym (then-answer seen B takes look keeps image asked fit a) ∙ done) in
-        let e = then-image-of seen B takes look keeps image asked fit a in
+    stored = λ image ok asked i fit m here done.
+        let p = counts .stored image ok asked i fit m here (sym (then-answer keeps image asked fit (closing i)) ∙ done) in
+        let e = then-image-of keeps image asked fit (closing i) in
         (ap (λ (x : List ℕ). entryAt (tableOf x) i .count) e ∙ p .0, ap (λ (x : List ℕ). entryAt (tableOf x) i .flags) e ∙ p .1);
   }
 
   -- ---- the blocking buffer
 
-  lent-buffers : Orderly F → (image b : List ℕ) (i : ℕ) (given buffer : List ℕ) → takes image ≡ true → takes given ≡ true → (e : Entry) (h : BufferedFile)
-      → Buffers F image (B .read b) i given buffer e h → Buffers E image b i given buffer e h
-  unfolding lentAfter
-  lent-buffers orderly image b i given buffer x y e h p = record {
-    inside = p .inside;
-    readInside = p .readInside;
-    ordered = p .ordered;
-    readHolds = λ d. subst (λ (s : S). Holds (heldOf (seen s) i) (liesIn e (h .file) (extentWith e h image))) (sym (done-read image b i Read given buffer orderly x y d)) (p .readHolds d);
-    writeHolds = λ d. subst (λ (s : S). Holds (heldOf (seen s) i) (goesIn e (h .file) given)) (sym (done-read image b i Write given buffer orderly x y d)) (p .writeHolds d);
+  value-buffered : (w : Standing (List ℕ)) (a : Asked) (i : ℕ) (e : Entry) → Buffered E w a i e → Buffered F (opened keeps w) a i e
+  value-buffered w a i e b = record { isSound = b .isSound; bytes = b .bytes; its = b .its; kind = b .kind }
+
+  desk-then : (w : Standing (List ℕ)) (a : Asked) (i : ℕ) (e : Entry) → Buffered E w a i e → deskAt E (stepOf E w a) e i ≡ deskAt F (stepOf F (opened keeps w) a) e i
+  desk-then w a i e b =
+      ap (λ (v : Standing S). deskAt F v e i) (opened-then keeps w a (sound-image (w .image) (seen (B .read (w .session))) (b .isSound)) (b .bytes))
+
+  pub lent-buffering : Buffering F → Buffering E
+  unfolding answered lentAfter
+  lent-buffering buffering = record {
+    own = λ w a e b. desk-then w a (a .entry) e b ∙ buffering .own (opened keeps w) a e (value-buffered w a (a .entry) e b);
+    others = λ w a i e b n. desk-then w a i e b ∙ buffering .others (opened keeps w) a i e (value-buffered w a i e b) n;
+    inside = λ w a e b. buffering .inside (opened keeps w) a e (value-buffered w a (a .entry) e b);
   }
 
-  pub lent-buffering : Orderly F → Buffering F → Buffering E
-  lent-buffering orderly buffering = record {
-    each = λ image b i given buffer x y t k. lent-buffers orderly image b i given buffer x y _ _ (buffering .each image (B .read b) i given buffer refl refl t k);
-  }
+  -- ---- the sectors written
+
+  pub plain-same : (w : Standing (List ℕ)) (a : Asked) → plainCount E w a ≡ plainCount F (opened keeps w) a
+  unfolding answered lentAfter plainCount
+  plain-same w a = refl
+
+  pub buffered-same : (w : Standing (List ℕ)) (a : Asked) → bufferedCount E w a ≡ bufferedCount F (opened keeps w) a
+  unfolding answered lentAfter bufferedCount
+  buffered-same w a = refl
+
+  pub lent-counted : (c : Standing (List ℕ) → Asked → ℕ) (d : Standing S → Asked → ℕ) → ((w : Standing (List ℕ)) (a : Asked) → c w a ≡ d (opened keeps w) a)
+      → Counted F d → Counted E c
+  unfolding answered lentAfter
+  lent-counted c d same counted = record { none = λ w a h. counted .none (opened keeps w) a (sym (same w a) ∙ h) }
+
+  -- a run from bytes that are given bytes
+  module _ (w : Standing (List ℕ)) (i p q : ℕ) (asked : List Asked) (b : Writing E w i p q asked) where
+    abbrev v : Standing S
+    v = opened keeps w
+
+    bytes : areBytes (w .image) ≡ true
+    bytes = sound-image (w .image) (seen (B .read (w .session))) (b .isSound)
+
+    pub value-writing : Writing F v i p q asked
+    unfolding allDone
+    value-writing = record {
+      isSound = b .isSound;
+      standing = b .standing;
+      bytes = b .bytes;
+      done = ap (every (λ (r : Report). eqb (r .number) 0)) (sym (run-reports keeps w bytes asked (b .bytes))) ∙ b .done;
+    }
+
+    pub lent-sum : (c : Standing (List ℕ) → Asked → ℕ) (d : Standing S → Asked → ℕ) → ((w : Standing (List ℕ)) (a : Asked) → c w a ≡ d (opened keeps w) a)
+        → inRun E c w asked ≡ inRun F d v asked
+    lent-sum c d same = run-sum keeps c d same w bytes asked (b .bytes)

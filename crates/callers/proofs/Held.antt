@@ -3,20 +3,16 @@
 use mathlib.Core.Path.{_≡_, refl, sym, _∙_}
 use mathlib.Core.Bool.{Bool, true, false, _&&_}
 use mathlib.Core.List.{List, [], _∷_, map}
-use Prim.Native.Nat.{ℕ, _+_, _*_, _≤_, _<_}
+use Prim.Native.Nat.{ℕ, _≤_, _<_}
 use native.Mathlib.Omega.{arith}
 use lib.Dec.{eqb}
 use lib.ListN.{length, getD, set, length-map}
 use lib.Seq.{set-getD}
-use borrow.Author.Tests.{eqb-true, eqb-false, eq-eqb}
-use Rattle.geometry.specs.Bytes.{lay}
+use borrow.Author.Tests.{eqb-true, eq-eqb}
 use Rattle.geometry.specs.Lists.{all, every}
-use Rattle.geometry.specs.Sizes.{sector, entries, mostOpen, mostSectors, sectorsOf}
-use Rattle.geometry.proofs.Bytes.{length-lay, length-part}
-use Rattle.geometry.proofs.Places.{lawful-whole}
+use Rattle.geometry.specs.Sizes.{sector, entries, mostOpen, mostSectors}
 use Rattle.geometry.proofs.Tests.{and-left, and-right, and-both, all-getD, either, every-any}
 use Rattle.directory.specs.Entries.{entryAt, freeEntry, isFree}
-use Rattle.directory.proofs.Good.{Lies, lies}
 use Rattle.directory.specs.declared.Entry.{Entry}
 use Rattle.requests.specs.Judge.{judge}
 use Rattle.requests.proofs.Done.{Allows, Meets, done-allows, met-meets}
@@ -26,13 +22,13 @@ use Rattle.requests.specs.declared.Answer.the-variants.{Done, Met, Refused}
 use Rattle.requests.specs.declared.Edge.{Edge}
 use Rattle.requests.specs.declared.Facts.{Facts}
 use Rattle.requests.specs.declared.Request.{Request}
-use Rattle.sessions.specs.Session.{idle, fresh, bare, holdsOne, fileOf, slotOf, openFiles, legal, bufferedLegal, typed}
-use Rattle.sessions.proofs.Legal.{lawful-length, good-table, bare-legal}
+use Rattle.sessions.specs.Session.{idle, fresh, bare, fileOf, slotOf, openFiles, legal, bufferedLegal, typed}
+use Rattle.sessions.proofs.Legal.{bare-legal}
 use Rattle.sessions.specs.declared.BufferedFile.{BufferedFile}
 use Rattle.sessions.specs.declared.BufferedSession.{BufferedSession}
 use Rattle.sessions.specs.declared.OpenFile.{OpenFile}
 use Rattle.sessions.specs.declared.Session.{Session}
-use Rattle.steps.specs.Effects.{Effect, hold, change, store, stamp, putBack, effects, plainDo, sectorAt, Bench, puttingBack, loaded, taking, working, bufferedDo, bufferedAll}
+use Rattle.steps.specs.Effects.{Effect, hold, change, store, stamp, putBack, effects, Bench, puttingBack, taking, working, bufferedDo, bufferedAll}
 use Rattle.steps.specs.Next.{Scene, factsOf, fileDone, fileMet, entryDone}
 use Rattle.steps.specs.Step.{heldOf, kept, bufferedScene, bufferedAnswer, bufferedAfter, bufferedStep}
 use Rattle.steps.specs.Verdict.{entryNext, fileNext}
@@ -41,13 +37,16 @@ use Rattle.steps.proofs.Buffer.{back-cases}
 use Rattle.steps.proofs.Inside.{Suits, AllSuit, lawful, suit}
 use Rattle.steps.proofs.Lawful.{Lawful}
 use Rattle.steps.proofs.Standing.{kept-used, kept-unused}
+use Rattle.settling.proofs.Bench.{takes-held}
 use Rattle.serving.proofs.Keeping.{Of, done, met}
-use Rattle.demands.specs.Engine.{bufferedEngine}
+use Rattle.demands.specs.Engine.{bufferedEngine, sound}
 use Rattle.demands.proofs.Orderly.{buffered-orderly}
+use Rattle.demands.proofs.Bytes.{Bytes, effects-bytes}
 use Rattle.demands.proofs.Illegal.{nothing-changed}
+use Rattle.demands.proofs.Passing.{start}
+use Rattle.demands.proofs.Sound.{sound-of, SoundBench, all-sound}
 use Rattle.storing.specs.Fits.{fits, areBytes, areAll, entryFits, fileFits, heldFits, sessionFits, bufferedFits}
 use Rattle.storing.specs.Numbers.{isByte}
-use Rattle.callers.proofs.Bytes.{Bytes, part-bytes, lay-bytes, InBytes, AllInBytes, effects-bytes}
 use Rattle.callers.proofs.Next.{below, are-every, are-many, set-are, entry-parts, entry-then, file-then-fits}
 use Rattle.callers.proofs.Start.{every-weaker, fresh-fits}
 
@@ -85,66 +84,30 @@ kept-fits f b h k a = either (f .used)
     (λ (u : f .used ≡ true). rw (kept-used f b u) (held-whole _ (record { file = h; held = k; buffer = a })))
     (λ (u : f .used ≡ false). rw (kept-unused f b u) (fresh-fits f h))
 
--- ---- the image and one buffer
-
-pub record BenchFits (e : Entry) (w : Bench) : Type 0 where
-  pub bytes : Bytes (w .image)
-  pub room : sector * (e .first + e .sectors) ≤ length (w .image)
-  pub held : fits 4 (w .file .held) ≡ true
-  pub buffer : areBytes sector (w .file .buffer) ≡ true
-
-module _ (e : Entry) (few : e .sectors ≤ mostSectors) where
-  putting-fits : (w : Bench) → BenchFits e w → BenchFits e (puttingBack e w)
-  unfolding puttingBack
-  putting-fits w f = either (holdsOne e (w .file) && w .file .changed)
-      (λ (t : (holdsOne e (w .file) && w .file .changed) ≡ true). rw (t, puttingBack) (record {
-        bytes = lay-bytes (w .image) _ (w .file .buffer) (f .bytes) (are-all sector (w .file .buffer) (f .buffer));
-        room = rw (length-lay (w .image) (sectorAt e (w .file .held)) (w .file .buffer)) (f .room);
-        held = f .held;
-        buffer = f .buffer;
-      }))
-      (λ (t : (holdsOne e (w .file) && w .file .changed) ≡ false). rw (t, puttingBack) f)
-
-  loaded-fits : (k : ℕ) → k < e .sectors → (w : Bench) → BenchFits e w → BenchFits e (loaded e k w)
-  unfolding loaded
-  loaded-fits k l w f = record {
-    bytes = f .bytes;
-    room = f .room;
-    held = below 4 k (omega arith);
-    buffer = are sector _ (length-part (w .image) (sectorAt e k) sector (omega (arith, f .room))) (part-bytes (w .image) (sectorAt e k) sector (f .bytes));
-  }
-
-  taking-fits : (k : ℕ) → k < e .sectors → (w : Bench) → BenchFits e w → BenchFits e (taking e k w)
-  unfolding taking
-  taking-fits k l w f = either (w .file .holds && eqb (w .file .held) k)
-      (λ (t : (w .file .holds && eqb (w .file .held) k) ≡ true). rw (t, taking) f)
-      (λ (t : (w .file .holds && eqb (w .file .held) k) ≡ false). rw (t, taking) (loaded-fits k l (puttingBack e w) (putting-fits w f)))
-
-  working-fits : (at : ℕ) (xs : List ℕ) → Bytes xs → (w : Bench) → BenchFits e w → BenchFits e (working at xs w)
-  unfolding working
-  working-fits at xs h w f = record {
-    bytes = f .bytes;
-    room = f .room;
-    held = f .held;
-    buffer = are sector _ (length-lay (w .file .buffer) at xs ∙ are-size sector (w .file .buffer) (f .buffer)) (lay-bytes (w .file .buffer) at xs (are-all sector (w .file .buffer) (f .buffer)) h);
-  }
-
-  straight-fits : (at : ℕ) (xs : List ℕ) → Bytes xs → (w : Bench) → BenchFits e w → BenchFits e (record { image = lay (w .image) at xs; file = w .file })
-  straight-fits at xs h w f = record { bytes = lay-bytes (w .image) at xs (f .bytes) h; room = rw (length-lay (w .image) at xs) (f .room); held = f .held; buffer = f .buffer }
+-- ---- the sector that is held: one of the extent, or the one that was
 
 module _ (c : Scene) (few : c .entry .sectors ≤ mostSectors) where
-  do-fits : (x : Effect) → Suits (c .entry) x → InBytes x → (w : Bench) → BenchFits (c .entry) w → BenchFits (c .entry) (bufferedDo c x w)
-  unfolding bufferedDo plainDo
-  do-fits (hold k) s h w f = taking-fits (c .entry) few k (s .1) w f
-  do-fits (change x) s h w f = working-fits (c .entry) few (x .place .byte) (x .bytes) h _ (taking-fits (c .entry) few (x .place .sector) (s .1) w f)
-  do-fits (store k xs) s h w f = straight-fits (c .entry) few _ xs h w f
-  do-fits (stamp xs) s h w f = straight-fits (c .entry) few _ xs h w f
-  do-fits putBack s h w f = back-cases (BenchFits (c .entry)) c w (λ b. putting-fits (c .entry) few w f) (λ b. f)
+  put-held : (w : Bench) → puttingBack (c .entry) w .file .held ≡ w .file .held
+  unfolding puttingBack
+  put-held w = either (w .file .holds && w .file .changed)
+      (λ (t : (w .file .holds && w .file .changed) ≡ true). rw (t, puttingBack))
+      (λ (t : (w .file .holds && w .file .changed) ≡ false). rw (t, puttingBack))
 
-  pub all-fits : (xs : List Effect) → AllSuit (c .entry) xs → AllInBytes xs → (w : Bench) → BenchFits (c .entry) w → BenchFits (c .entry) (bufferedAll c xs w)
+  take-held : (k : ℕ) → k < c .entry .sectors → (w : Bench) → fits 4 (taking (c .entry) k w .file .held) ≡ true
+  take-held k l w = rw (takes-held (c .entry) k w .1) (below 4 k (omega arith))
+
+  do-held : (x : Effect) → Suits (c .entry) x → (w : Bench) → fits 4 (w .file .held) ≡ true → fits 4 (bufferedDo c x w .file .held) ≡ true
+  unfolding bufferedDo working
+  do-held (hold k) s w h = take-held k (s .1) w
+  do-held (change x) s w h = take-held (x .place .sector) (s .1) w
+  do-held (store k xs) s w h = h
+  do-held (stamp xs) s w h = h
+  do-held putBack s w h = back-cases (λ (v : Bench). fits 4 (v .file .held) ≡ true) c w (λ z. rw (put-held w) h) (λ z. h)
+
+  all-held : (xs : List Effect) → AllSuit (c .entry) xs → (w : Bench) → fits 4 (w .file .held) ≡ true → fits 4 (bufferedAll c xs w .file .held) ≡ true
   unfolding bufferedAll
-  all-fits [] s h w f = f
-  all-fits (x ∷ xs) s h w f = all-fits xs (s .1) (h .1) (bufferedDo c x w) (do-fits x (s .0) (h .0) w f)
+  all-held [] s w h = h
+  all-held (x ∷ xs) s w h = all-held xs (s .1) (bufferedDo c x w) (do-held x (s .0) w h)
 
 -- ---- a session
 
@@ -204,11 +167,10 @@ fits-typed s h =
     (every-weaker heldFits (λ b. eqb (length (b .buffer)) sector) (λ b f. eq-eqb (length (b .buffer)) sector (are-size sector (b .buffer) (held-parts b f .buffer))) (s .files)
     (helds-every s h))))
 
--- ---- a request in the buffered engine
+pub fits-sound : (image : List ℕ) (s : BufferedSession) → Bytes image → bufferedFits s ≡ true → sound image s ≡ true
+fits-sound image s b h = sound-of image s b (fits-typed s h) (every-weaker heldFits (λ c. every isByte (c .buffer)) (λ c f. are-all sector (c .buffer) (held-parts c f .buffer)) (s .files) (helds-every s h))
 
-pub record Left (image : List ℕ) (s : BufferedSession) : Type 0 where
-  pub bytes : Bytes image
-  pub fit : bufferedFits s ≡ true
+-- ---- a request in the buffered engine
 
 module _ (image : List ℕ) (s : BufferedSession) (fit : bufferedFits s ≡ true) (ok : bufferedLegal image s ≡ true)
     (i : ℕ) (q : Request) (given buffer : List ℕ) where
@@ -225,17 +187,8 @@ module _ (image : List ℕ) (s : BufferedSession) (fit : bufferedFits s ≡ true
   unfolding bufferedScene bare
   its = record { number = refl; entry = refl; file = refl }
 
-  start : Bytes image → isFree (entryAt (s .table) i) ≡ false → BenchFits (entryAt (s .table) i) (record { image = image; file = heldOf s i })
-  unfolding bare
-  start bytes u =
-      let l : Lies (sectorsOf image) (entryAt (s .table) i) = lies (sectorsOf image) (s .table) (good-table image plain plain-legal) i (eqb-false (entryAt (s .table) i .kind) 0 u) in
-      let h : HeldFits (heldOf s i) = held-parts (heldOf s i) (held-of-fits s fit i) in
-      record {
-        bytes = bytes;
-        room = omega (arith, l .ends, lawful-whole image (lawful-length image plain plain-legal));
-        held = h .held;
-        buffer = h .buffer;
-      }
+  held : HeldFits (heldOf s i)
+  held = held-parts (heldOf s i) (held-of-fits s fit i)
 
   abbrev facts : Facts
   facts = factsOf true (openFiles (plain .files)) (length buffer) q scene
@@ -246,32 +199,32 @@ module _ (image : List ℕ) (s : BufferedSession) (fit : bufferedFits s ≡ true
   met-fits x e =
       let a : Meets facts q x = met-meets q _ x e in
       let u : isFree (entryAt (s .table) i) ≡ false = met-live _ q x a .used in
-      let h : HeldFits (heldOf s i) = held-parts (heldOf s i) (held-of-fits s fit i) in
       let l = next-fits s fit i (slotOf (plain .files) i) (entryAt (s .table) i) (kept (fileMet x (scene .file)) (heldOf s i))
       (entry-then image plain plain-legal (bare-fits s fit) i scene its u (length buffer) q (Met x) (met x a))
-      (kept-fits (fileMet x (scene .file)) (heldOf s i) (file-then-fits image plain plain-legal (bare-fits s fit) i scene its u (length buffer) q (Met x) (met x a)) (h .held) (h .buffer)) in
+      (kept-fits (fileMet x (scene .file)) (heldOf s i) (file-then-fits image plain plain-legal (bare-fits s fit) i scene its u (length buffer) q (Met x) (met x a)) (held .held) (held .buffer)) in
       rw (set-getD (s .table) i freeEntry) at l
 
   module _ (bytes : Bytes image) (gives : Bytes given) where
-    after-fits : (a : Answer) → judge q facts ≡ a → Left (bufferedAfter a image s q scene (heldOf s i) buffer .image) (bufferedAfter a image s q scene (heldOf s i) buffer .session)
+    after-fits : (a : Answer) → judge q facts ≡ a → bufferedFits (bufferedAfter a image s q scene (heldOf s i) buffer .session) ≡ true
     unfolding bufferedAfter bufferedScene bare factsOf entryNext fileNext
     after-fits Done e =
         let a : Allows q facts = done-allows q _ e in
         let u : isFree (entryAt (s .table) i) ≡ false = done-real q _ a .used in
         let w : Bench = record { image = image; file = heldOf s i } in
         let law : Lawful (entryAt (s .table) i) (fileOf (plain .files) i) = lawful image plain plain-legal i u in
-        let z : BenchFits (entryAt (s .table) i) (bufferedAll scene (effects q scene) w) =
-        all-fits scene (law .few) (effects q scene) (suit (openFiles (plain .files)) (length buffer) q scene law e) (effects-bytes scene gives (omega (arith, law .flags)) q) w (start bytes u) in
-        record {
-          bytes = z .bytes;
-          fit = next-fits s fit i (slotOf (plain .files) i) (entryDone q scene) (kept (fileDone q scene) (bufferedAll scene (effects q scene) w .file))
-              (entry-then image plain plain-legal (bare-fits s fit) i scene its u (length buffer) q Done (done a))
-              (kept-fits (fileDone q scene) (bufferedAll scene (effects q scene) w .file) (file-then-fits image plain plain-legal (bare-fits s fit) i scene its u (length buffer) q Done (done a)) (z .held) (z .buffer));
-        }
-    after-fits (Met x) e = record { bytes = bytes; fit = met-fits x e }
-    after-fits (Refused x) e = record { bytes = bytes; fit = fit }
+        let inside : AllSuit (entryAt (s .table) i) (effects q scene) = suit (openFiles (plain .files)) (length buffer) q scene law e in
+        let z : SoundBench (entryAt (s .table) i) (bufferedAll scene (effects q scene) w) =
+        all-sound scene (effects q scene) inside (effects-bytes scene gives (omega (arith, law .flags)) q) w (start image s (fits-sound image s bytes fit) ok i q given buffer u) in
+        next-fits s fit i (slotOf (plain .files) i) (entryDone q scene) (kept (fileDone q scene) (bufferedAll scene (effects q scene) w .file))
+        (entry-then image plain plain-legal (bare-fits s fit) i scene its u (length buffer) q Done (done a))
+        (kept-fits (fileDone q scene) (bufferedAll scene (effects q scene) w .file)
+        (file-then-fits image plain plain-legal (bare-fits s fit) i scene its u (length buffer) q Done (done a))
+        (all-held scene (law .few) (effects q scene) inside w (held .held))
+        (are sector (bufferedAll scene (effects q scene) w .file .buffer) (z .whole .size) (z .whole .bytes)))
+    after-fits (Met x) e = met-fits x e
+    after-fits (Refused x) e = fit
 
-    step-left : Left (bufferedStep image s i q given buffer .image) (bufferedStep image s i q given buffer .session)
+    step-left : bufferedFits (bufferedStep image s i q given buffer .session) ≡ true
     unfolding bufferedStep bufferedAnswer
     step-left = after-fits (bufferedAnswer image s i q given (length buffer)) (rw ok)
 
@@ -284,15 +237,11 @@ module _ (image : List ℕ) (s : BufferedSession) (fit : bufferedFits s ≡ true
 -- ---- and one on a session that is not legal changes nothing
 
 module _ (image : List ℕ) (s : BufferedSession) (fit : bufferedFits s ≡ true) (i : ℕ) (q : Request) (given buffer : List ℕ) where
-  unlawful-same : bufferedLegal image s ≡ false → (bufferedStep image s i q given buffer .image ≡ image) × (bufferedStep image s i q given buffer .session ≡ s)
-  unlawful-same l = let n = nothing-changed bufferedEngine buffered-orderly image s i q given buffer l in (n .0, n .1)
+  unlawful-same : bufferedLegal image s ≡ false → bufferedFits (bufferedStep image s i q given buffer .session) ≡ true
+  unlawful-same l = rw (nothing-changed bufferedEngine buffered-orderly image s i q given buffer l .1) fit
 
-  pub step-fits : Bytes image → Bytes given → Left (bufferedStep image s i q given buffer .image) (bufferedStep image s i q given buffer .session)
-  step-fits bytes gives = either (bufferedLegal image s)
-      (λ ok. step-left image s fit ok i q given buffer bytes gives)
-      (λ l. let n = unlawful-same l in record { bytes = rw (n .0) bytes; fit = rw (n .1) fit })
+  pub step-fits : Bytes image → Bytes given → bufferedFits (bufferedStep image s i q given buffer .session) ≡ true
+  step-fits bytes gives = either (bufferedLegal image s) (λ ok. step-left image s fit ok i q given buffer bytes gives) unlawful-same
 
   pub step-met-fits : (x : Edge) → bufferedStep image s i q given buffer .answer ≡ Met x → bufferedFits (bufferedStep image s i q given buffer .session) ≡ true
-  step-met-fits x e = either (bufferedLegal image s)
-      (λ ok. step-met image s fit ok i q given buffer x e)
-      (λ l. let n = unlawful-same l in rw (n .1) fit)
+  step-met-fits x e = either (bufferedLegal image s) (λ ok. step-met image s fit ok i q given buffer x e) unlawful-same

@@ -1,7 +1,6 @@
 pub mod Read
 pub mod Next
 pub mod Start
-pub mod Bytes
 pub mod Held
 pub mod Called
 pub mod Runs

@@ -1,7 +1,7 @@
 -- What C sees of a run of its calls, from a mounting on: each a request by its code, on the image and the session's bytes that the one before it left.
 -- Definitions only.
 use mathlib.Core.Path.{_≡_}
-use mathlib.Core.Bool.{Bool, true}
+use mathlib.Core.Bool.{true}
 use mathlib.Core.List.{List, [], _∷_, map}
 use Prim.Native.Nat.{ℕ}
 use lib.ListN.{length}
@@ -12,12 +12,10 @@ use Rattle.mounting.specs.Mounting.{mounts}
 use Rattle.requests.specs.Codes.{askedFor}
 use Rattle.tapes.specs.Model.{Asked, Report, modelsOf, modelReports}
 use Rattle.board.specs.Board as board
-use Rattle.demands.specs.Engine.{Standing, taken}
-use Rattle.callers.specs.Lent.{lentEngine}
+use Rattle.demands.specs.Engine.{Standing, inBytes}
 use Rattle.requests.specs.declared.Asked.the-variants.{For}
 use Rattle.requests.specs.declared.Request.{Request}
 use Rattle.requests.specs.declared.Request.the-variants.{Open, Read, Write, GranuleRead, GranuleWrite, GranuleLook, Position}
-use Rattle.sessions.specs.declared.BufferedSession.{BufferedSession}
 
 module _ {S : Type 0} (B : board.Engine S) where
   -- what the request call answers and leaves
@@ -48,9 +46,9 @@ module _ {S : Type 0} (B : board.Engine S) where
   callReports w (a ∷ rest) = callReport w a ∷ callReports (record { image = call w a .image; session = call w a .session }) rest
 
 -- demand 2, of the calls: a mounting on as many bytes as a session takes answers 0, and the run behind it is that of the tapes and rows
-pub record Calling {S : Type 0} (seen : S → BufferedSession) (B : board.Engine S) (takes : List ℕ → Bool) : Type 0 where
+pub record Calling {S : Type 0} (B : board.Engine S) : Type 0 where
   pub mounting : (image b : List ℕ) → length b ≡ B .size → mounts image ≡ true → board.mountNumber B image b ≡ 0
-  pub serves : (image b : List ℕ) → length b ≡ B .size → mounts image ≡ true → (asked : List Asked) → taken (lentEngine seen B takes) image asked ≡ true
+  pub serves : (image b : List ℕ) → length b ≡ B .size → mounts image ≡ true → (asked : List Asked) → inBytes image asked ≡ true
       → callReports B (record { image = image; session = board.mountBytes B image b }) asked ≡ modelReports (modelsOf image) asked
 
 -- and every request has a code, by which C names it

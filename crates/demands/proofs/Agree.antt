@@ -3,13 +3,16 @@
 use mathlib.Core.Path.{_≡_, refl, sym, ap, subst, _∙_}
 use mathlib.Core.Bool.{true}
 use mathlib.Core.List.{List, []}
-use Prim.Native.Nat.{ℕ, _*_}
+use Prim.Native.Nat.{ℕ, _*_, _<_}
+use native.Mathlib.Omega.{arith}
 use lib.ListN.{length, getD}
 use Rattle.geometry.specs.Sizes.{sector}
-use Rattle.geometry.proofs.Bytes.{Apart}
-use Rattle.geometry.proofs.Tests.{both-ways}
+use Rattle.geometry.specs.Bytes.{part, lay}
+use Rattle.geometry.proofs.Bytes.{Apart, length-part, part-lay-same}
+use Rattle.geometry.proofs.Tests.{both-ways, chosen}
 use Rattle.directory.specs.Entries.{tableOf, entryAt}
-use Rattle.sessions.specs.Session.{bare, isOf, fileOf}
+use Rattle.sessions.specs.Session.{bare, isOf, fileOf, hasBuffer, holdsOne, extent, extentWith}
+use Rattle.sessions.proofs.Held.{holds-one}
 use Rattle.sessions.proofs.Files.{is-of, Finds, opened, closed, finds}
 use Rattle.mounting.specs.Mounting.{mounts, bufferedMount}
 use Rattle.mounting.proofs.Mounted.{mounts-length}
@@ -20,11 +23,15 @@ use Rattle.steps.proofs.Standing.{heldAt, bare-at}
 use Rattle.steps.specs.Effects.{effects}
 use Rattle.steps.specs.Step.{heldOf, bufferedScene, bufferedAnswer, bufferedAfter, bufferedStep}
 use Rattle.settling.proofs.Bench.{length-all}
-use Rattle.settling.proofs.Kept.{Kept, settle-elsewhere, settle-table}
+use Rattle.settling.proofs.Kept.{Kept, entry-room, settle-elsewhere, settle-table}
+use Rattle.settling.proofs.Scene.{same-bytes}
 use Rattle.settling.proofs.Step.{Agrees}
-use Rattle.demands.specs.Engine.{plainEngine, bufferedEngine, Standing, answered, stepOf, run, mounted, taken}
-use Rattle.demands.specs.Demand2.{Faithful, CountsStored}
+use Rattle.demands.specs.Engine.{plainEngine, bufferedEngine, Standing, answered, stepOf, run, mounted}
+use Rattle.demands.specs.Demand2.{closing, Faithful, CountsStored}
 use Rattle.demands.specs.Demand3.{Outside, Untouched, Agreeing, Agree}
+use Rattle.demands.proofs.Buffering.{buffer-used}
+use Rattle.demands.proofs.Passing.{held-within}
+use Rattle.demands.proofs.Sound.{held-size}
 use Rattle.demands.proofs.Plain.{then-stands, then-view, afresh, plain-faithful}
 use Rattle.demands.proofs.Counts.{plain-counts}
 use Rattle.demands.proofs.Untouched.{far, Spared, as-long, mounted-spared, plain-untouched}
@@ -33,13 +40,13 @@ use Rattle.directory.specs.declared.Entry.{Entry}
 use Rattle.requests.specs.declared.Answer.{Answer}
 use Rattle.requests.specs.declared.Answer.the-variants.{Done, Met, Refused}
 use Rattle.requests.specs.declared.Request.{Request}
+use Rattle.sessions.specs.declared.BufferedFile.{BufferedFile}
 use Rattle.sessions.specs.declared.BufferedSession.{BufferedSession}
 use Rattle.sessions.specs.declared.Session.{Session}
 
 pub buffered-faithful : Faithful bufferedEngine
-unfolding bufferedMount taken
+unfolding bufferedMount
 buffered-faithful = record {
-  takes = λ b h. refl;
   mounting = λ image. refl;
   refusedMounting = λ image e. plain-faithful .refusedMounting image e;
   serves = λ image ok asked fit. mounted-reports image (mounts-length image ok) asked ∙ plain-faithful .serves image ok asked fit;
@@ -94,6 +101,33 @@ module _ (image : List ℕ) (ok : mounts image ≡ true) (asked : List Asked) wh
           far (tableOf image) j (v .image) (v .session) i [] (p .same i) (p .none i o) .extent in
           subst (λ (x : Standing Session). Apart j 1 (sector * entryAt (x .session .table) i .first) (sector * entryAt (x .session .table) i .sectors)) (sym same) y
 
+  -- the held sector's bytes, as the plain engine has them in its image
+  module _ (i : ℕ) (kind : hasBuffer (entryAt (w .session .table) i) ≡ true) (h : heldOf (w .session) i .holds ≡ true) where
+    abbrev e : Entry
+    e = entryAt (w .session .table) i
+
+    abbrev b : BufferedFile
+    b = heldOf (w .session) i
+
+    seen-bytes : lay (extent e (w .image)) (sector * b .held) (b .buffer) ≡ extent e (v .image)
+    unfolding extentWith
+    seen-bytes =
+        sym (chosen (holdsOne e b) _ (extent e (w .image)) (holds-one e b h kind))
+        ∙ same-bytes (w .image) (w .session) kept i
+        ∙ ap (λ (x : Standing Session). extent e (x .image)) same
+
+    extent-size : length (extent e (w .image)) ≡ sector * e .sectors
+    unfolding extent
+    extent-size =
+        let r = entry-room (w .image) (w .session) kept i (buffer-used e kind) in
+        length-part (w .image) (sector * e .first) (sector * e .sectors) (omega (arith, r .1))
+
+    held-bytes : b .buffer ≡ part (extent e (v .image)) (sector * b .held) sector
+    held-bytes =
+        let l : b .held < e .sectors = held-within (w .image) (w .session) (kept .isLegal) i h in
+        sym (part-lay-same (extent e (w .image)) (sector * b .held) (b .buffer) sector (held-size (w .session) (kept .isTyped) i) (omega (arith, extent-size)))
+        ∙ ap (λ (y : List ℕ). part y (sector * b .held) sector) seen-bytes
+
   buffered-untouched : Untouched bufferedEngine image asked
   buffered-untouched = (as-long bufferedEngine buffered-long image asked, elsewhere)
 
@@ -101,13 +135,14 @@ module _ (image : List ℕ) (ok : mounts image ≡ true) (asked : List Asked) wh
   agreeing = record {
     alike = sym (mounted-reports image (mounts-length image ok) asked);
     untouched = (plain-untouched image ok asked, buffered-untouched);
+    held = λ i e b p z q h. rw (← p, ← q) (held-bytes i (rw p z) (rw q h));
     whenIdle = λ z.
         let f = afresh image ok asked z in
         (sym (idle-images image (mounts-length image ok) asked (λ i l. none-open (v .image) (v .session) (then-stands image ok asked) (rw (then-view image ok asked) z) i)), f .0, f .1);
   }
 
 pub agree : Agree plainEngine bufferedEngine
-agree = record { first = plain-faithful; second = buffered-faithful; agreeing = λ image ok asked x y. agreeing image ok asked }
+agree = record { first = plain-faithful; second = buffered-faithful; agreeing = λ image ok asked x. agreeing image ok asked }
 
 -- the count that a closing stores: the directory is in no buffer
 module _ (image : List ℕ) (ok : mounts image ≡ true) (asked : List Asked) (a : Asked) where
@@ -122,9 +157,9 @@ module _ (image : List ℕ) (ok : mounts image ≡ true) (asked : List Asked) (a
   same-table = sym (settle-table (answered bufferedEngine (w image ok asked) a .image) (answered bufferedEngine (w image ok asked) a .session) then-kept) ∙ ap tableOf (then-agrees .image)
 
 pub buffered-counts : CountsStored bufferedEngine
-unfolding taken
 buffered-counts = record {
-  stored = λ image ok asked i t fit here a is done.
-      let p = plain-counts .stored image ok asked i t fit here a is (sym (then-agrees image ok asked a .answer) ∙ done) in
-      (ap (λ (table : List Entry). entryAt table i .count) (same-table image ok asked a) ∙ p .0, ap (λ (table : List Entry). entryAt table i .flags) (same-table image ok asked a) ∙ p .1);
+  stored = λ image ok asked i fit m here done.
+      let p = plain-counts .stored image ok asked i fit m here (sym (then-agrees image ok asked (closing i) .answer) ∙ done) in
+      let t = same-table image ok asked (closing i) in
+      (ap (λ (table : List Entry). entryAt table i .count) t ∙ p .0, ap (λ (table : List Entry). entryAt table i .flags) t ∙ p .1);
 }

@@ -2,42 +2,45 @@
 use mathlib.Core.Path.{_≡_, refl, sym, ap, _∙_}
 use mathlib.Core.Bool.{true}
 use mathlib.Core.List.{List, [], _∷_, _++_}
-use Prim.Native.Nat.{ℕ}
-use lib.ListN.{length, getD}
+use Prim.Native.Nat.{ℕ, _<_}
+use native.Mathlib.Omega.{arith}
+use native.Mathlib.Decide.{decLt}
+use lib.ListN.{length, getD, set, length-set, List·getD-eq-default}
+use lib.Seq.{getD-set-same}
 use Rattle.geometry.specs.Bytes.{lay}
 use Rattle.geometry.specs.Lists.{every}
 use Rattle.geometry.proofs.Tests.{and-left, and-right, and-both}
 use Rattle.directory.proofs.Free.{every-append}
 use Rattle.requests.proofs.Numbers.{same-number}
 use Rattle.mounting.specs.Mounting.{mounts}
-use Rattle.tapes.specs.Model.{Model, Asked, Report, modelAt, modelsOf, modelInto, modelShown, modelAnswer, modelStep, modelReport, modelReports, modelRun, ifDone}
-use Rattle.demands.specs.Engine.{Engine, Standing, shownBy, answered, stepOf, reportOf, reports, run, mounted, taken}
+use Rattle.tapes.specs.Model.{Model, nothing, Asked, Report, modelAt, modelsOf, modelNext, modelInto, modelShown, modelAnswer, modelStep, modelReport, modelReports, modelRun, ifDone}
+use Rattle.demands.specs.Engine.{Engine, Standing, shownBy, answered, stepOf, reportOf, reports, run, mounted, areBytes, giveBytes, inBytes}
 use Rattle.demands.specs.Demand2.{Faithful}
+use Rattle.requests.specs.declared.Answer.{Answer}
 
--- ---- what is taken
+-- ---- runs in bytes
 
-module _ (E : Engine) (image : List ℕ) where
-  pub taken-image : (asked : List Asked) → taken E image asked ≡ true → E .takes image ≡ true
-  unfolding taken
-  taken-image asked h = and-left (E .takes image) (every (λ a. E .takes (a .given)) asked) h
-
-  pub taken-given : (asked : List Asked) → taken E image asked ≡ true → every (λ a. E .takes (a .given)) asked ≡ true
-  unfolding taken
-  taken-given asked h = and-right (E .takes image) (every (λ a. E .takes (a .given)) asked) h
-
-  pub taken-more : (asked rest : List Asked) → taken E image asked ≡ true → every (λ a. E .takes (a .given)) rest ≡ true → taken E image (asked ++ rest) ≡ true
-  unfolding taken
-  taken-more asked rest h k =
-      and-both (E .takes image) _ (taken-image asked h) (every-append (λ a. E .takes (a .given)) asked rest ∙ and-both _ _ (taken-given asked h) k)
-
-  pub taken-one : (asked : List Asked) (a : Asked) → taken E image asked ≡ true → E .takes (a .given) ≡ true → taken E image (asked ++ (a ∷ [])) ≡ true
-  unfolding every
-  taken-one asked a h k = taken-more asked (a ∷ []) h (and-both (E .takes (a .given)) true k refl)
-
--- no bytes are taken
-pub takes-none : (E : Engine) → Faithful E → E .takes [] ≡ true
+pub no-bytes : areBytes [] ≡ true
 unfolding every
-takes-none E faithful = faithful .takes [] refl
+no-bytes = refl
+
+module _ (image : List ℕ) where
+  pub bytes-image : (asked : List Asked) → inBytes image asked ≡ true → areBytes image ≡ true
+  unfolding inBytes
+  bytes-image asked h = and-left (areBytes image) (giveBytes asked) h
+
+  pub bytes-given : (asked : List Asked) → inBytes image asked ≡ true → giveBytes asked ≡ true
+  unfolding inBytes
+  bytes-given asked h = and-right (areBytes image) (giveBytes asked) h
+
+  pub bytes-more : (asked rest : List Asked) → inBytes image asked ≡ true → giveBytes rest ≡ true → inBytes image (asked ++ rest) ≡ true
+  unfolding inBytes
+  bytes-more asked rest h k =
+      and-both (areBytes image) _ (bytes-image asked h) (every-append (λ a. areBytes (a .given)) asked rest ∙ and-both _ _ (bytes-given asked h) k)
+
+  pub bytes-one : (asked : List Asked) (a : Asked) → inBytes image asked ≡ true → areBytes (a .given) ≡ true → inBytes image (asked ++ (a ∷ [])) ≡ true
+  unfolding every
+  bytes-one asked a h k = bytes-more asked (a ∷ []) h (and-both (areBytes (a .given)) true k refl)
 
 -- ---- the last report of a run
 
@@ -58,8 +61,22 @@ unfolding modelRun
 run-append ms [] q = refl
 run-append ms (a ∷ p) q = run-append (modelStep ms a) p q
 
+-- what a request makes of its own model
+pub step-at : (ms : List Model) (a : Asked) (x : Answer) → modelAnswer ms a ≡ x → modelAt (modelStep ms a) (a .entry) ≡ modelNext (a .request) x (a .given) (modelAt ms (a .entry))
+unfolding modelStep
+step-at ms a x e = go (decLt (a .entry) (length ms))
+  where
+    none : ¬ (a .entry < length ms) → modelNext (a .request) x (a .given) (modelAt ms (a .entry)) ≡ nothing
+    none h = unfold modelNext in ap (modelNext (a .request) x (a .given)) (List·getD-eq-default ms nothing {n = a .entry} (omega arith))
+
+    go : Dec (a .entry < length ms) → modelAt (modelStep ms a) (a .entry) ≡ modelNext (a .request) x (a .given) (modelAt ms (a .entry))
+    go (yes h) = getD-set-same ms (a .entry) _ nothing h ∙ rw e
+    go (no h) =
+        let l : length (set ms (a .entry) (modelNext (a .request) (modelAnswer ms a) (a .given) (modelAt ms (a .entry)))) ≡ length ms = length-set ms (a .entry) _ in
+        List·getD-eq-default (modelStep ms a) nothing {n = a .entry} (omega arith) ∙ sym (none h)
+
 module _ (E : Engine) (faithful : Faithful E) (image : List ℕ) (ok : mounts image ≡ true) (asked : List Asked) (a : Asked)
-    (fit : taken E image (asked ++ (a ∷ [])) ≡ true) where
+    (fit : inBytes image (asked ++ (a ∷ [])) ≡ true) where
   abbrev ms : List Model
   ms = modelRun (modelsOf image) asked
 

@@ -1,12 +1,11 @@
 -- A granule that is written reads back and is shown, and no other granule changes: of every faithful engine, since it is so of the rows.
 use mathlib.Core.Path.{_≡_, refl, sym, ap, _∙_}
 use mathlib.Core.Bool.{true, false}
-use mathlib.Core.List.{List, [], _∷_, _++_, append-nil}
+use mathlib.Core.List.{List, [], _∷_, _++_}
 use Prim.Native.Nat.{ℕ, zero, suc, _+_, _≤_, _<_}
 use native.Mathlib.Omega.{arith}
-use native.Mathlib.Decide.{decLt}
 use lib.Dec.{eqb}
-use lib.ListN.{length, set, length-append, drop-of-length-le, List·getD-eq-default}
+use lib.ListN.{length, drop, set, length-append}
 use lib.Seq.{getD-set-same, getD-set-other}
 use borrow.Author.Tests.{eqb-true, lt-leb, le-ltb}
 use Rattle.geometry.specs.Bytes.{lay, padded}
@@ -25,9 +24,9 @@ use Rattle.tapes.specs.Model.{Model, nothing, tape, row, Asked, shapeOf, modelA
 use Rattle.serving.proofs.Solo.{shows}
 use Rattle.serving.proofs.Step.{asked}
 use Rattle.serving.proofs.View.{showsAt}
-use Rattle.demands.specs.Engine.{Engine, Standing, shownBy, answered, run, mounted, taken}
+use Rattle.demands.specs.Engine.{Engine, Standing, shownBy, answered, run, mounted, areBytes, inBytes}
 use Rattle.demands.specs.Demand2.{Faithful, GranuleBack, granuleWriting, granuleReading}
-use Rattle.demands.proofs.Answers.{run-append, taken-one, takes-none, same-answer, same-buffer, same-shown}
+use Rattle.demands.proofs.Answers.{run-append, step-at, bytes-one, no-bytes, same-answer, same-buffer, same-shown}
 use Rattle.demands.proofs.Plain.{then-shows}
 use Rattle.requests.specs.declared.Answer.{Answer}
 use Rattle.requests.specs.declared.Answer.the-variants.{Done}
@@ -36,10 +35,11 @@ use Rattle.requests.specs.declared.Request.{Request}
 use Rattle.requests.specs.declared.Request.the-variants.{GranuleRead, GranuleWrite, GranuleLook}
 use Rattle.sessions.specs.declared.OpenFile.{OpenFile}
 
--- a whole buffer laid over
-pub lay-whole : (buffer xs : List ℕ) → length xs ≡ length buffer → lay buffer 0 xs ≡ xs
-lay-whole buffer xs e =
-    lay-fits buffer 0 xs (omega arith) ∙ ap (λ (r : List ℕ). xs ++ r) (drop-of-length-le buffer {i = 0 + length xs} (omega arith)) ∙ append-nil xs
+-- n bytes laid at the front of a buffer
+pub lay-front : (n : ℕ) (buffer xs : List ℕ) → length xs ≡ n → n ≤ length buffer → lay buffer 0 xs ≡ xs ++ drop n buffer
+lay-front n buffer xs e l =
+    let z : 0 + length xs ≡ n = omega arith in
+    lay-fits buffer 0 xs (omega arith) ∙ ap (λ (k : ℕ). xs ++ drop k buffer) z
 
 -- ---- as many granules as there is room for
 
@@ -76,23 +76,14 @@ row-many image ok before i w e =
 -- ---- one request on a row
 
 module _ (ms : List Model) (i : ℕ) (w : Row) (e : modelAt ms i ≡ row w) where
-  there : i < length ms
-  there = go (decLt i (length ms))
-    where
-      go : Dec (i < length ms) → i < length ms
-      go (yes h) = h
-      go (no h) =
-          let z : nothing ≡ row w = sym (List·getD-eq-default ms nothing {n = i} (omega arith)) ∙ e in
-          absurd (let o : _≡_ {A = ℕ} 0 1 = cc in omega arith)
-
   module _ (q : Request) (given buffer : List ℕ) where
     row-answer : modelAnswer ms (asked i q given buffer) ≡ judge q (rowFacts (openModels ms) given (length buffer) w)
     unfolding modelAnswer modelFacts
     row-answer = rw e
 
     row-step : judge q (rowFacts (openModels ms) given (length buffer) w) ≡ Done → modelAt (modelStep ms (asked i q given buffer)) i ≡ row (rowDone q given w)
-    unfolding modelStep modelNext rowNext
-    row-step d = getD-set-same ms i _ nothing there ∙ rw (row-answer, d, e)
+    unfolding modelNext rowNext
+    row-step d = step-at ms (asked i q given buffer) Done (row-answer ∙ d) ∙ rw e
 
 -- ---- the requests behind the write
 
@@ -117,8 +108,8 @@ same-look : (w : Row) (n m : ℕ) (gs : List (List ℕ)) (h : ℕ) → w .isOpen
 unfolding judge tests firstOf orElse whether rowFacts
 same-look w n m gs h o = rw o
 
-module _ (E : Engine) (faithful : Faithful E) (image : List ℕ) (ok : mounts image ≡ true) (before : List Asked) (i g : ℕ) (w : Row) (fit : taken E image before ≡ true)
-    (here : modelAt (modelRun (modelsOf image) before) i ≡ row w) (given : List ℕ) (takes : E .takes given ≡ true)
+module _ (E : Engine) (faithful : Faithful E) (image : List ℕ) (ok : mounts image ≡ true) (before : List Asked) (i g : ℕ) (w : Row) (fit : inBytes image before ≡ true)
+    (here : modelAt (modelRun (modelsOf image) before) i ≡ row w) (given : List ℕ) (bytes : areBytes given ≡ true)
     (done : answered E (run E (mounted E image) before) (granuleWriting i g given) .answer ≡ Done) where
   abbrev ms : List Model
   ms = modelRun (modelsOf image) before
@@ -126,8 +117,8 @@ module _ (E : Engine) (faithful : Faithful E) (image : List ℕ) (ok : mounts im
   abbrev R : ℕ
   R = w .shape .recordLength
 
-  written : taken E image (before ++ (granuleWriting i g given ∷ [])) ≡ true
-  written = taken-one E image before (granuleWriting i g given) fit takes
+  written : inBytes image (before ++ (granuleWriting i g given ∷ [])) ≡ true
+  written = bytes-one image before (granuleWriting i g given) fit bytes
 
   judged : judge (GranuleWrite g) (rowFacts (openModels ms) given 0 w) ≡ Done
   judged = sym (row-answer ms i w here (GranuleWrite g) given []) ∙ sym (same-answer E faithful image ok before (granuleWriting i g given) written) ∙ done
@@ -186,45 +177,45 @@ module _ (E : Engine) (faithful : Faithful E) (image : List ℕ) (ok : mounts im
   abbrev v′ : Standing (E .Session)
   v′ = run E (mounted E image) after
 
-  read-taken : (asked : List Asked) → taken E image asked ≡ true → (h : ℕ) (buffer : List ℕ) → taken E image (asked ++ (granuleReading i h buffer ∷ [])) ≡ true
-  read-taken asked t h buffer = taken-one E image asked (granuleReading i h buffer) t (takes-none E faithful)
+  read-bytes : (asked : List Asked) → inBytes image asked ≡ true → (h : ℕ) (buffer : List ℕ) → inBytes image (asked ++ (granuleReading i h buffer ∷ [])) ≡ true
+  read-bytes asked t h buffer = bytes-one image asked (granuleReading i h buffer) t (no-bytes)
 
   abbrev looking : ℕ → Asked
   looking h = record { entry = i; request = GranuleLook h; given = []; buffer = [] }
 
-  look-taken : (asked : List Asked) → taken E image asked ≡ true → (h : ℕ) → taken E image (asked ++ (looking h ∷ [])) ≡ true
-  look-taken asked t h = taken-one E image asked (looking h) t (takes-none E faithful)
+  look-bytes : (asked : List Asked) → inBytes image asked ≡ true → (h : ℕ) → inBytes image (asked ++ (looking h ∷ [])) ≡ true
+  look-bytes asked t h = bytes-one image asked (looking h) t (no-bytes)
 
   -- what a read answers and gives, and what a look shows, before and behind
   answer-before : (h : ℕ) (buffer : List ℕ) → answered E v (granuleReading i h buffer) .answer ≡ judge (GranuleRead h) (rowFacts (openModels ms) [] (length buffer) w)
-  answer-before h buffer = same-answer E faithful image ok before (granuleReading i h buffer) (read-taken before fit h buffer) ∙ row-answer ms i w here (GranuleRead h) [] buffer
+  answer-before h buffer = same-answer E faithful image ok before (granuleReading i h buffer) (read-bytes before fit h buffer) ∙ row-answer ms i w here (GranuleRead h) [] buffer
 
   answer-behind : (h : ℕ) (buffer : List ℕ) → answered E v′ (granuleReading i h buffer) .answer ≡ judge (GranuleRead h) (rowFacts (openModels ms′) [] (length buffer) w′)
-  answer-behind h buffer = same-answer E faithful image ok after (granuleReading i h buffer) (read-taken after written h buffer) ∙ row-answer ms′ i w′ here′ (GranuleRead h) [] buffer
+  answer-behind h buffer = same-answer E faithful image ok after (granuleReading i h buffer) (read-bytes after written h buffer) ∙ row-answer ms′ i w′ here′ (GranuleRead h) [] buffer
 
   buffer-before : (h : ℕ) (buffer : List ℕ) → answered E v (granuleReading i h buffer) .buffer
       ≡ lay buffer 0 (ifDone (judge (GranuleRead h) (rowFacts (openModels ms) [] (length buffer) w)) (granule w h))
   unfolding modelInto modelGranule
   buffer-before h buffer =
-      same-buffer E faithful image ok before (granuleReading i h buffer) (read-taken before fit h buffer)
+      same-buffer E faithful image ok before (granuleReading i h buffer) (read-bytes before fit h buffer)
       ∙ rw (row-answer ms i w here (GranuleRead h) [] buffer, here)
 
   buffer-behind : (h : ℕ) (buffer : List ℕ) → answered E v′ (granuleReading i h buffer) .buffer
       ≡ lay buffer 0 (ifDone (judge (GranuleRead h) (rowFacts (openModels ms′) [] (length buffer) w′)) (granule w′ h))
   unfolding modelInto modelGranule
   buffer-behind h buffer =
-      same-buffer E faithful image ok after (granuleReading i h buffer) (read-taken after written h buffer)
+      same-buffer E faithful image ok after (granuleReading i h buffer) (read-bytes after written h buffer)
       ∙ rw (row-answer ms′ i w′ here′ (GranuleRead h) [] buffer, here′)
 
   shown-before : (h : ℕ) → E .look (v .image) (v .session) i h ≡ ifDone (judge (GranuleLook h) (rowFacts (openModels ms) [] 0 w)) (granule w h)
   unfolding shownBy modelShown modelGranule
   shown-before h =
-      same-shown E faithful image ok before (looking h) (look-taken before fit h) ∙ rw (row-answer ms i w here (GranuleLook h) [] [], here)
+      same-shown E faithful image ok before (looking h) (look-bytes before fit h) ∙ rw (row-answer ms i w here (GranuleLook h) [] [], here)
 
   shown-behind : (h : ℕ) → E .look (v′ .image) (v′ .session) i h ≡ ifDone (judge (GranuleLook h) (rowFacts (openModels ms′) [] 0 w′)) (granule w′ h)
   unfolding shownBy modelShown modelGranule
   shown-behind h =
-      same-shown E faithful image ok after (looking h) (look-taken after written h) ∙ rw (row-answer ms′ i w′ here′ (GranuleLook h) [] [], here′)
+      same-shown E faithful image ok after (looking h) (look-bytes after written h) ∙ rw (row-answer ms′ i w′ here′ (GranuleLook h) [] [], here′)
 
   -- the granules behind the write
   granule-new : granule w′ g ≡ padded 0 R given
@@ -235,7 +226,7 @@ module _ (E : Engine) (faithful : Faithful E) (image : List ℕ) (ok : mounts im
   unfolding granule
   granule-old h n = getD-set-other (w .granules) g h (padded 0 R given) [] n
 
-  read-done : (buffer : List ℕ) → length buffer ≡ R → judge (GranuleRead g) (rowFacts (openModels ms′) [] (length buffer) w′) ≡ Done
+  read-done : (buffer : List ℕ) → R ≤ length buffer → judge (GranuleRead g) (rowFacts (openModels ms′) [] (length buffer) w′) ≡ Done
   unfolding rowFacts
   read-done buffer size = reads _ refl used refl isRandom g room (omega arith)
 
@@ -248,7 +239,7 @@ module _ (E : Engine) (faithful : Faithful E) (image : List ℕ) (ok : mounts im
   granule-back = record {
     reads = λ buffer size. (
       answer-behind g buffer ∙ read-done buffer size,
-      buffer-behind g buffer ∙ rw (read-done buffer size, granule-new) (lay-whole buffer (padded 0 R given) (length-padded 0 R given short ∙ sym size)),
+      buffer-behind g buffer ∙ rw (read-done buffer size, granule-new) (lay-front R buffer (padded 0 R given) (length-padded 0 R given short) size),
     );
     shows = shown-behind g ∙ rw (look-done, granule-new);
     others = λ h n buffer. (

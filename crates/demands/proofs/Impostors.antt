@@ -1,14 +1,14 @@
--- Document 01's impostors, each refuted against demand 2 by one run of ten requests on one small image: what the tape says of it is computed once,
--- and each impostor says something else of one of them.
+-- Document 01's impostors, each refuted by one run on one small image, which is computed: most by ten requests against demand 2, where what the tape says
+-- is computed once and each says something else of one of them; one by reading back; and one that shows a caller nothing false by what it stores.
 use mathlib.Core.Path.{_≡_, refl, ap, _∙_}
 use mathlib.Core.Bool.{Bool, true, false}
 use mathlib.Core.List.{List, [], _∷_, _++_, map}
 use Prim.Native.Nat.{ℕ}
 use native.Mathlib.Omega.{arith}
-use lib.ListN.{length, replicate, getD, set}
+use lib.ListN.{length, take, replicate, getD, set}
 use Rattle.geometry.specs.Bytes.{part, lay, wordAt, word, padded}
 use Rattle.geometry.specs.Lists.{all, every, pairwise, firstWith, howMany}
-use Rattle.geometry.specs.Places.{perSector, capacity, placeOf}
+use Rattle.geometry.specs.Places.{origin, perSector, capacity, placeOf}
 use Rattle.geometry.specs.Sizes.{sectorsOf, lawfulLength}
 use Rattle.directory.specs.Entries.{entryFrom, entryBytes, entriesFrom, tableOf, entryAt, isMarked, isProtected}
 use Rattle.directory.specs.Rules.{kindKnown, freeIsZero, capital, digit, restOfName, isName, nameGood, namesDiffer, extentInside, extentsApart, flagsKnown, longest, lengthGood, countGood, randomBare, tableRules, tableGood}
@@ -20,10 +20,11 @@ use Rattle.steps.specs.Effects.{readEffects, blockedEffect, writeEffects, effec
 use Rattle.steps.specs.Look.{plainLook}
 use Rattle.steps.specs.Next.{fixedAt, recordHere, isLost, bytesGot, decoding, badIn, factsOf, fileDone, counted, entryDone, intoBuffer}
 use Rattle.steps.specs.Step.{After, plainScene, plainAnswer, plainAfter, plainStep}
-use Rattle.tapes.specs.Tape.{fixedRecord, fixedRecords, recordsIn, tapeOf, tapeFacts, padByte, newRecord, tapeDone, tapeNext, tapeRecord}
-use Rattle.tapes.specs.Model.{Asked, Report, shapeOf, modelOf, modelsOf, isOpenModel, modelFacts, modelNext, modelRecord, modelInto, openModels, modelAnswer, modelStep, ifDone, modelReport, modelReports}
-use Rattle.demands.specs.Engine.{Engine, answered, stepOf, reportOf, reports, mounted, taken}
-use Rattle.demands.specs.Demand2.{isByte, Faithful}
+use Rattle.tapes.specs.Tape.{Tape, fixedRecord, fixedRecords, recordsIn, tapeOf, tapeFacts, padByte, newRecord, tapeDone, tapeNext, tapeRecord}
+use Rattle.tapes.specs.Model.{Model, tape, modelAt, modelRun, nothingOpen, Asked, Report, shapeOf, modelOf, modelsOf, isOpenModel, modelFacts, modelNext, modelRecord, modelInto, openModels, modelAnswer, modelStep, ifDone, modelReport, modelReports}
+use Rattle.demands.specs.Engine.{Engine, answered, stepOf, reportOf, reports, run, mounted, inBytes}
+use Rattle.demands.specs.Demand2.{Faithful, ReadsBack, countOf, CountsStored}
+use Rattle.demands.specs.Demand3.{Agree}
 use Rattle.requests.specs.declared.Answer.the-variants.{Done, Refused}
 use Rattle.requests.specs.declared.Order.the-variants.{RewindOnline, RewindOffline}
 use Rattle.requests.specs.declared.Refusal.the-variants.{NotThere}
@@ -61,10 +62,6 @@ small-mounts : mounts small ≡ true
 unfolding directory small
 small-mounts = refl
 
-small-bytes : every isByte small ≡ true
-unfolding directory small
-small-bytes = refl
-
 abbrev ask : Request → List ℕ → ℕ → Asked
 ask q given n = record { entry = 0; request = q; given = given; buffer = replicate n 0 }
 
@@ -73,6 +70,32 @@ ten : List Asked
 ten =
     ask Open [] 0 ∷ ask Read [] 180 ∷ ask (Position RewindOnline) [] 0 ∷ ask Write (1 ∷ 2 ∷ []) 0 ∷ ask (Position RewindOnline) [] 0
     ∷ ask Read [] 180 ∷ ask (Position RewindOffline) [] 0 ∷ ask Open [] 0 ∷ ask Read [] 180 ∷ ask Read [] 180 ∷ []
+
+in-bytes : inBytes small ten ≡ true
+unfolding inBytes directory small ten
+in-bytes = refl
+
+-- the file opened, and its tape
+opening : List Asked
+opening = ask Open [] 0 ∷ []
+
+opened : Tape
+opened = record {
+  shape = record { kind = 2; recordLength = 180; sectors = 1; protected = false };
+  isOpen = true;
+  records = record { bytes = replicate 180 5; behind = origin } ∷ [];
+  position = 0;
+  marked = false;
+  beyond = false;
+}
+
+open-bytes : inBytes small opening ≡ true
+unfolding inBytes directory small opening
+open-bytes = refl
+
+is-opened : modelAt (modelRun (modelsOf small) opening) 0 ≡ tape opened
+unfolding modelRun directory judging tapes small opening opened
+is-opened = refl
 
 -- the numbers of some reports, and the first byte of each buffer
 numbers : List Report → List ℕ
@@ -94,24 +117,17 @@ module _ (E : Engine) (faithful : Faithful E) where
   abbrev rs : List Report
   rs = reports E (mounted E small) ten
 
-  ten-taken : taken E small ten ≡ true
-  unfolding taken every ten
-  ten-taken =
-      let n : E .takes [] ≡ true = faithful .takes [] refl in
-      let g : E .takes (1 ∷ 2 ∷ []) ≡ true = faithful .takes (1 ∷ 2 ∷ []) refl in
-      rw (faithful .takes small small-bytes, n, g)
-
   number-is : (k : ℕ) → getD (numbers rs) k 0 ≡ getD (0 ∷ 0 ∷ 0 ∷ 0 ∷ 0 ∷ 0 ∷ 0 ∷ 0 ∷ 0 ∷ 7 ∷ []) k 0
-  number-is k = ap (λ (ns : List ℕ). getD ns k 0) (ap numbers (faithful .serves small small-mounts ten ten-taken) ∙ tape-numbers)
+  number-is k = ap (λ (ns : List ℕ). getD ns k 0) (ap numbers (faithful .serves small small-mounts ten in-bytes) ∙ tape-numbers)
 
   byte-is : (k : ℕ) → getD (bytes rs) k 0 ≡ getD (0 ∷ 5 ∷ 0 ∷ 0 ∷ 0 ∷ 1 ∷ 0 ∷ 0 ∷ 1 ∷ 0 ∷ []) k 0
-  byte-is k = ap (λ (ns : List ℕ). getD ns k 0) (ap bytes (faithful .serves small small-mounts ten ten-taken) ∙ tape-bytes)
+  byte-is k = ap (λ (ns : List ℕ). getD ns k 0) (ap bytes (faithful .serves small small-mounts ten in-bytes) ∙ tape-bytes)
 
 -- ---- the impostors
 
 -- an engine that does something else than the plain one with each request
 abbrev instead : (List ℕ → Session → ℕ → Request → List ℕ → List ℕ → After Session) → Engine
-instead f = record { Session = Session; seen = unheld; takes = λ b. true; mount = plainMount; request = f; position = spotOf; look = plainLook }
+instead f = record { Session = Session; seen = unheld; mount = plainMount; request = f; position = spotOf; look = plainLook }
 
 -- "one refusing every request"
 abbrev pub refuser : Engine
@@ -129,15 +145,19 @@ pub parrot-fails : Faithful parrot → ⊥
 unfolding reports reportOf answered stepOf ten bytes
 parrot-fails f = let z : _≡_ {A = ℕ} 7 5 = byte-is parrot f 1 in omega arith
 
--- "one moving no bytes at all (reading back stops it)"
+-- "one moving no bytes at all (reading back stops it)": its answers and positions are true
 abbrev pub idler : Engine
 idler = instead (λ image s i q given buffer.
     let r : After Session = plainStep image s i q given buffer in
-    record { answer = r .answer; image = image; session = r .session; buffer = r .buffer })
+    record { answer = r .answer; image = image; session = r .session; buffer = buffer })
 
-pub idler-fails : Faithful idler → ⊥
-unfolding reports reportOf answered stepOf mounted ten bytes small directory judging plainly
-idler-fails f = let z : _≡_ {A = ℕ} 5 1 = byte-is idler f 5 in omega arith
+-- a record is written at the start, and read again: the buffer is as it was
+pub idler-fails : ReadsBack idler → ⊥
+unfolding run answered stepOf mounted opening opened small directory judging plainly
+idler-fails f =
+    let z : _≡_ {A = ℕ} 0 1 =
+    ap (λ (b : List ℕ). getD b 0 0) (f .back small small-mounts opening 0 opened open-bytes is-opened (1 ∷ 2 ∷ []) (replicate 180 0) refl (omega arith) refl .1) in
+    omega arith
 
 -- "one that serves the first request truly and only says 0 afterwards": a plain session, and whether a request was served
 pub record Tired : Type 0 where
@@ -154,7 +174,6 @@ abbrev pub quitter : Engine
 quitter = record {
   Session = Tired;
   seen = λ s. unheld (s .session);
-  takes = λ b. true;
   mount = λ image. record { answer = plainMount image .answer; session = record { session = plainMount image .session; served = false } };
   request = λ image s i q given buffer. tiredly (s .served) image (s .session) i q given buffer;
   position = λ s. spotOf (s .session);
@@ -179,3 +198,30 @@ teller = instead (λ image s i q given buffer.
 pub teller-fails : Faithful teller → ⊥
 unfolding reports reportOf answered stepOf mounted ten numbers small directory judging plainly
 teller-fails f = let z : _≡_ {A = ℕ} 0 7 = number-is teller f 9 in omega arith
+
+-- one that is true in all that a caller sees, and stamps another count in the image: 2 at every request, in bytes 16 and 17 of entry 0
+abbrev pub forger : Engine
+forger = instead (λ image s i q given buffer.
+    let r : After Session = plainStep image s i q given buffer in
+    record { answer = r .answer; image = lay (r .image) 16 (0 ∷ 2 ∷ []); session = r .session; buffer = r .buffer })
+
+-- the run does not tell it from the tape
+forger-numbers : numbers (reports forger (mounted forger small) ten) ≡ 0 ∷ 0 ∷ 0 ∷ 0 ∷ 0 ∷ 0 ∷ 0 ∷ 0 ∷ 0 ∷ 7 ∷ []
+unfolding reports reportOf answered stepOf mounted ten numbers small directory judging plainly
+forger-numbers = refl
+
+forger-bytes : bytes (reports forger (mounted forger small) ten) ≡ 0 ∷ 5 ∷ 0 ∷ 0 ∷ 0 ∷ 1 ∷ 0 ∷ 0 ∷ 1 ∷ 0 ∷ []
+unfolding reports reportOf answered stepOf mounted ten bytes small directory judging plainly
+forger-bytes = refl
+
+-- what a closing stores does
+pub forger-fails : CountsStored forger → ⊥
+unfolding run answered stepOf mounted opening opened countOf small directory judging plainly
+forger-fails f = let z : _≡_ {A = ℕ} 2 1 = f .stored small small-mounts opening 0 open-bytes (tape opened) is-opened refl .0 in omega arith
+
+-- and so does a fresh mounting, even of two that forge alike
+pub forgers-fail : Agree forger forger → ⊥
+unfolding run answered stepOf mounted modelRun inBytes ten nothingOpen countOf small directory judging tapes plainly
+forgers-fail f =
+    let z : _≡_ {A = ℕ} 2 1 = ap (λ (ms : List Model). countOf (modelAt ms 0)) (f .agreeing small small-mounts (take 7 ten) refl .whenIdle refl .2) in
+    omega arith

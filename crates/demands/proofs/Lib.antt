@@ -1,8 +1,14 @@
 pub mod Orderly
+pub mod Bytes
+pub mod Sound
 pub mod Illegal
 pub mod Settled
+pub mod Desk
+pub mod States
 pub mod Buffering
+pub mod Holding
 pub mod Passing
+pub mod Running
 pub mod Plain
 pub mod Untouched
 pub mod Agree

@@ -1,5 +1,6 @@
--- Demand 1 of both engines. What an answer makes of image, session and buffer is read off the step's three cases; the bytes that go into the
--- caller's buffer are one record or granule, which has at most R bytes. A plain session holds nothing, so it answers as the buffered one does.
+-- Demand 1 of both engines. The order of the tests is computed for each request. What an answer makes of image, session and buffer is read off the step's
+-- three cases; the bytes that go into the caller's buffer are one record or granule, which has at most R bytes. A look is judged by none of the bytes
+-- lent. A plain session holds nothing, so it answers as the buffered one does.
 use mathlib.Core.Path.{_≡_, refl, sym, ap, _∙_}
 use mathlib.Core.Bool.{Bool, true, false}
 use mathlib.Core.List.{List, [], _∷_, map}
@@ -9,6 +10,7 @@ use lib.Dec.{ltb}
 use lib.Seq.{getD-drop}
 use lib.ListN.{length, length-drop, drop, getD, set, List·getD-map}
 use Rattle.geometry.specs.Bytes.{part, lay}
+use Rattle.geometry.specs.Lists.{every}
 use Rattle.geometry.specs.Places.{placeOf, byteOf}
 use Rattle.geometry.specs.Sizes.{sector, compressed}
 use Rattle.geometry.proofs.Bytes.{same-bytes, length-part-min, length-lay, getD-lay-behind}
@@ -16,17 +18,21 @@ use Rattle.coding.specs.Decode.{Decoded, good, bad, decode}
 use Rattle.coding.proofs.Known.{decode-good}
 use Rattle.directory.specs.Entries.{entryAt, isKind}
 use Rattle.packing.specs.Reading.{got, lost, gotFrom, startOf, readAt, readBehind, extentEnd}
+use Rattle.requests.specs.Judge.{tests, whether, orElse, firstOf, judge, placeInLine, inOrder}
+use Rattle.requests.proofs.InOrder.{tests-in-order}
 use Rattle.sessions.specs.Session.{idle, fresh, bare, unheld, fileOf, slotOf, holdsOne, extentWith}
 use Rattle.sessions.proofs.Unheld.{bare-unheld, unheld-legal}
-use Rattle.steps.specs.Next.{Scene, fixedAt, recordHere, bytesGot, fileMet, intoBuffer}
+use Rattle.steps.specs.Look.{shown, plainLookAnswer, plainLook, bufferedLookAnswer, bufferedLook}
+use Rattle.steps.specs.Next.{Scene, factsOf, fixedAt, recordHere, bytesGot, fileMet, intoBuffer}
 use Rattle.steps.specs.Step.{After, plainScene, plainAnswer, plainAfter, plainStep, heldOf, bufferedScene, bufferedAnswer, kept, bufferedAfter, bufferedStep}
 use Rattle.demands.specs.Engine.{Engine, plainEngine, bufferedEngine}
-use Rattle.demands.specs.Demand1.{sessionMet, mayChange, Proper, Orderly}
+use Rattle.demands.specs.Demand1.{inLine, sessionMet, mayChange, Proper, Shows, Orderly}
 use Rattle.geometry.specs.declared.Place.{Place}
 use Rattle.requests.specs.declared.Answer.{Answer}
 use Rattle.requests.specs.declared.Answer.the-variants.{Done, Met, Refused}
 use Rattle.requests.specs.declared.Edge.{Edge}
 use Rattle.requests.specs.declared.Edge.the-variants.{EndOfFile, BeginningOfTape}
+use Rattle.requests.specs.declared.Order.the-variants.{WriteMark, RewindOnline, RewindOffline, RecordForward, RecordBack, FileForward, FileBack}
 use Rattle.requests.specs.declared.Refusal.{Refusal}
 use Rattle.requests.specs.declared.Request.{Request}
 use Rattle.requests.specs.declared.Request.the-variants.{Open, Read, Write, GranuleRead, GranuleWrite, GranuleLook, Position}
@@ -34,6 +40,27 @@ use Rattle.sessions.specs.declared.BufferedFile.{BufferedFile}
 use Rattle.sessions.specs.declared.BufferedSession.{BufferedSession}
 use Rattle.sessions.specs.declared.OpenFile.{OpenFile}
 use Rattle.sessions.specs.declared.Session.{Session}
+
+-- ---- the order line
+
+in-line : (q : Request) → every inLine (tests q) ≡ true
+unfolding every inLine tests placeInLine
+in-line Open = refl
+in-line Read = refl
+in-line Write = refl
+in-line (GranuleRead g) = refl
+in-line (GranuleWrite g) = refl
+in-line (GranuleLook g) = refl
+in-line (Position WriteMark) = refl
+in-line (Position RewindOnline) = refl
+in-line (Position RewindOffline) = refl
+in-line (Position RecordForward) = refl
+in-line (Position RecordBack) = refl
+in-line (Position FileForward) = refl
+in-line (Position FileBack) = refl
+
+along-the-line : (q : Request) → (inOrder (tests q) ≡ true) × (every inLine (tests q) ≡ true)
+along-the-line q = (tests-in-order q, in-line q)
 
 -- ---- what goes into the buffer has at most R bytes
 
@@ -121,6 +148,23 @@ module _ (E : Engine) (image : List ℕ) (s : E .Session) (i : ℕ) (q : Request
     bufferSize = rw (k .refused y .2);
   }
 
+-- ---- what a look shows
+
+-- its answer does not turn on the bytes given, nor on the buffer
+look-answer : (image : List ℕ) (s : BufferedSession) (i g : ℕ) (given : List ℕ) (n : ℕ) → bufferedAnswer image s i (GranuleLook g) given n ≡ bufferedLookAnswer image s i g
+unfolding bufferedLookAnswer bufferedAnswer bufferedScene factsOf judge tests firstOf orElse whether
+look-answer image s i g given n = refl
+
+module _ (E : Engine) (image : List ℕ) (s : E .Session) (i g : ℕ) (same : E .look image s i g ≡ bufferedLook image (E .seen s) i g) (given buffer : List ℕ)
+    (p : Proper E image s i (GranuleLook g) given buffer (E .request image s i (GranuleLook g) given buffer)) where
+  shows-by : (a : Answer) → E .request image s i (GranuleLook g) given buffer .answer ≡ a → E .look image s i g ≡ shown a (entryAt (E .seen s .table) i) g image
+  unfolding bufferedLook
+  shows-by a e = same ∙ ap (λ (a : Answer). shown a (entryAt (E .seen s .table) i) g image) (sym (look-answer image (E .seen s) i g given (length buffer)) ∙ sym (p .ordered) ∙ e)
+
+  shows : Shows E image s i g (entryAt (E .seen s .table) i) (E .request image s i (GranuleLook g) given buffer .answer)
+  unfolding shown
+  shows = record { inPlace = λ e. shows-by Done e; empty = λ x e. shows-by (Refused x) e }
+
 -- ---- the buffered engine
 
 buffered-acts : (image : List ℕ) (s : BufferedSession) (i : ℕ) (q : Request) (given buffer : List ℕ)
@@ -134,10 +178,16 @@ buffered-acts image s i q given buffer = record {
   refused = λ x. (refl, refl, refl);
 }
 
-pub buffered-orderly : Orderly bufferedEngine
+buffered-proper : (image : List ℕ) (s : BufferedSession) (i : ℕ) (q : Request) (given buffer : List ℕ) → Proper bufferedEngine image s i q given buffer (bufferedStep image s i q given buffer)
 unfolding bufferedStep
+buffered-proper image s i q given buffer =
+    proper bufferedEngine image s i q given buffer _ _ (buffered-acts image s i q given buffer) (bufferedAnswer image s i q given (length buffer)) refl
+
+pub buffered-orderly : Orderly bufferedEngine
 buffered-orderly = record {
-  every-request = λ image s i q given buffer. proper bufferedEngine image s i q given buffer _ _ (buffered-acts image s i q given buffer) (bufferedAnswer image s i q given (length buffer)) refl;
+  line = along-the-line;
+  every-request = buffered-proper;
+  every-look = λ image s i g given buffer. shows bufferedEngine image s i g refl given buffer (buffered-proper image s i (GranuleLook g) given buffer);
 }
 
 -- ---- the plain engine: a plain session holds nothing
@@ -173,12 +223,16 @@ unfolding kept fileMet
 kept-fresh EndOfFile f g = refl
 kept-fresh BeginningOfTape f g = refl
 
+pub same-scene : (image : List ℕ) (s : Session) (i : ℕ) (given : List ℕ) → bufferedScene image (unheld s) i given ≡ plainScene image s i given
+unfolding plainScene bufferedScene extentWith holdsOne
+same-scene image s i given =
+    let h = fresh-held s i in
+    rw (bare-unheld s, h .1, unheld-table s)
+
 same-answer : (image : List ℕ) (s : Session) (i : ℕ) (q : Request) (given : List ℕ) (n : ℕ)
     → plainAnswer image s i q given n ≡ bufferedAnswer image (unheld s) i q given n
-unfolding plainAnswer bufferedAnswer plainScene bufferedScene extentWith holdsOne
-same-answer image s i q given n =
-    let h = fresh-held s i in
-    rw (unheld-legal image s, bare-unheld s, h .1, unheld-table s)
+unfolding plainAnswer bufferedAnswer
+same-answer image s i q given n = rw (unheld-legal image s, bare-unheld s, same-scene image s i given)
 
 met-unheld : (x : Edge) (s : Session) (i : ℕ)
     → unheld (record { table = s .table; files = set (s .files) (slotOf (s .files) i) (fileMet x (fileOf (s .files) i)) }) ≡ sessionMet x (unheld s) i
@@ -198,8 +252,18 @@ plain-acts image s i q given buffer = record {
   refused = λ x. (refl, refl, refl);
 }
 
-pub plain-orderly : Orderly plainEngine
+plain-proper : (image : List ℕ) (s : Session) (i : ℕ) (q : Request) (given buffer : List ℕ) → Proper plainEngine image s i q given buffer (plainStep image s i q given buffer)
 unfolding plainStep
+plain-proper image s i q given buffer =
+    proper plainEngine image s i q given buffer _ _ (plain-acts image s i q given buffer) (plainAnswer image s i q given (length buffer)) (same-answer image s i q given (length buffer))
+
+same-look : (image : List ℕ) (s : Session) (i g : ℕ) → plainLook image s i g ≡ bufferedLook image (unheld s) i g
+unfolding plainLook bufferedLook plainLookAnswer bufferedLookAnswer
+same-look image s i g = rw (same-answer image s i (GranuleLook g) [] 0, unheld-table s)
+
+pub plain-orderly : Orderly plainEngine
 plain-orderly = record {
-  every-request = λ image s i q given buffer. proper plainEngine image s i q given buffer _ _ (plain-acts image s i q given buffer) (plainAnswer image s i q given (length buffer)) (same-answer image s i q given (length buffer));
+  line = along-the-line;
+  every-request = plain-proper;
+  every-look = λ image s i g given buffer. shows plainEngine image s i g (same-look image s i g) given buffer (plain-proper image s i (GranuleLook g) given buffer);
 }

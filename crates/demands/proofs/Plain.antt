@@ -1,28 +1,23 @@
--- The plain engine serves the tapes and rows of the mounted image, request by request; every session that it hands out is legal; and where nothing
--- is open, mounting its image afresh gives the same tapes and rows.
+-- The plain engine serves the tapes and rows of the mounted image, request by request; and where nothing is open, mounting its image afresh gives the
+-- same tapes and rows.
 use mathlib.Core.Path.{_≡_, refl, sym, ap, _∙_}
 use mathlib.Core.Bool.{true}
 use mathlib.Core.List.{List, [], _∷_, map}
 use Prim.Native.Nat.{ℕ, _≤_}
-use lib.ListN.{length, length-map}
+use lib.ListN.{length}
 use Rattle.geometry.specs.Lists.{numbersFrom}
-use Rattle.geometry.specs.Sizes.{entries, mostOpen}
+use Rattle.geometry.specs.Sizes.{entries}
 use Rattle.directory.specs.Entries.{entryAt}
 use Rattle.requests.specs.Numbers.{numberOf}
-use Rattle.sessions.specs.Session.{fresh, unheld, spotOf, typed}
-use Rattle.sessions.proofs.Unheld.{unheld-legal}
+use Rattle.sessions.specs.Session.{unheld, spotOf}
 use Rattle.mounting.specs.Mounting.{mounts, plainMount}
 use Rattle.tapes.specs.Tape.{Tape}
 use Rattle.tapes.specs.Model.{tape, Model, Asked, Report, modelAt, modelsOf, modelSpot, modelShown, modelAnswer, modelStep, modelReport, modelReports, modelRun, ifDone, nothingOpen}
-use Rattle.mounting.proofs.Mounted.{mounted-legal}
-use Rattle.serving.proofs.Keeping.{legal-step}
 use Rattle.serving.proofs.Lifting.{Stands}
 use Rattle.serving.proofs.Mounted.{mounted-session, mounted-stands, mounted-view, afresh-view, afresh-mounts}
 use Rattle.serving.proofs.Step.{asked, tape-counts, answer-step, buffer-step, look-step, view-step, stands-step}
 use Rattle.serving.proofs.View.{view-at, showsAt, view, spot-view}
-use Rattle.settling.proofs.Kept.{table-length, files-length}
 use Rattle.demands.specs.Engine.{plainEngine, Standing, spotsOf, shownBy, answered, stepOf, reportOf, reports, run, mounted}
-use Rattle.demands.specs.Demand1.{Passing}
 use Rattle.demands.specs.Demand2.{Faithful}
 use Rattle.requests.specs.declared.Answer.{Answer}
 use Rattle.requests.specs.declared.Answer.the-variants.{Done, Met, Refused}
@@ -151,24 +146,8 @@ module _ (image : List ℕ) (ok : mounts image ≡ true) where
 pub plain-faithful : Faithful plainEngine
 unfolding plainMount
 plain-faithful = record {
-  takes = λ b h. refl;
   mounting = λ image. refl;
   refusedMounting = λ image e. ap unheld (rw (e, plainMount));
   serves = λ image ok asked fit.
       run-reports asked (mounted plainEngine image) (mount-stands image ok) ∙ ap (λ (ms : List Model). modelReports ms asked) (mount-view image ok);
 }
-
--- ---- legality
-
-pub plain-passing : Passing plainEngine
-plain-passing = record {
-  mounting = λ image ok. unheld-legal image (plainMount image .session) ∙ mounted-legal image ok;
-  requests = λ image s i q given buffer x y t ok.
-      unheld-legal _ _ ∙ legal-step image s (sym (unheld-legal image s) ∙ ok) (typed-table s t) (typed-files s t) i q given buffer;
-}
-  where
-    typed-table : (s : Session) → typed (unheld s) ≡ true → length (s .table) ≡ entries
-    typed-table s t = unfold unheld in table-length (unheld s) t
-
-    typed-files : (s : Session) → typed (unheld s) ≡ true → length (s .files) ≡ mostOpen
-    typed-files s t = unfold unheld in sym (length-map (s .files) fresh) ∙ files-length (unheld s) t

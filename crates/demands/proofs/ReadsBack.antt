@@ -4,10 +4,9 @@ use mathlib.Core.Bool.{Bool, true, false, _||_}
 use mathlib.Core.List.{List, [], _∷_, _++_}
 use Prim.Native.Nat.{ℕ, zero, suc, _+_, _≤_, _<_}
 use native.Mathlib.Omega.{arith}
-use native.Mathlib.Decide.{decLt}
 use lib.Dec.{eqb, leb}
-use lib.ListN.{length, take, replicate, length-append, List·getD-eq-default}
-use lib.Seq.{length-take-le, getD-at, getD-set-same}
+use lib.ListN.{length, take, drop, replicate, length-append}
+use lib.Seq.{length-take-le, getD-at}
 use borrow.Author.Tests.{lt-leb, le-ltb}
 use Rattle.geometry.specs.Bytes.{padded}
 use Rattle.geometry.specs.Lists.{every}
@@ -18,13 +17,13 @@ use Rattle.requests.specs.Judge.{Test, noRoom, isFull, judge, tests, firstOf, o
 use Rattle.requests.proofs.Done.{Writes, done-allows}
 use Rattle.mounting.specs.Mounting.{mounts}
 use Rattle.tapes.specs.Tape.{Tape, padByte, tapeFacts, tapeDone, tapeNext, tapeRecord, newRecord}
-use Rattle.tapes.specs.Model.{Model, nothing, tape, Asked, modelAt, modelsOf, modelFacts, modelNext, modelRecord, modelInto, modelAnswer, modelStep, modelRun, openModels, ifDone}
+use Rattle.tapes.specs.Model.{Model, tape, Asked, modelAt, modelsOf, modelFacts, modelNext, modelRecord, modelInto, modelAnswer, modelStep, modelRun, openModels, ifDone}
 use Rattle.packing.specs.Reading.{Recorded}
 use Rattle.serving.proofs.Step.{asked}
-use Rattle.demands.specs.Engine.{Engine, answered, run, mounted, taken}
+use Rattle.demands.specs.Engine.{Engine, answered, run, mounted, areBytes, giveBytes, inBytes}
 use Rattle.demands.specs.Demand2.{Faithful, ReadsBack, RoomAlone, checksBefore3, writing, skipping, asking}
-use Rattle.demands.proofs.Answers.{run-append, taken-more, taken-one, takes-none, same-answer, same-buffer}
-use Rattle.demands.proofs.Granules.{lay-whole, granule-back}
+use Rattle.demands.proofs.Answers.{run-append, step-at, bytes-more, bytes-one, no-bytes, same-answer, same-buffer}
+use Rattle.demands.proofs.Granules.{lay-front, granule-back}
 use Rattle.demands.proofs.Plain.{then-counts}
 use Rattle.requests.specs.declared.Answer.{Answer}
 use Rattle.requests.specs.declared.Answer.the-variants.{Done, Met, Refused}
@@ -37,23 +36,14 @@ use Rattle.requests.specs.declared.Request.the-variants.{Read, Write, Position}
 -- ---- one request on a tape
 
 module _ (ms : List Model) (i : ℕ) (t : Tape) (e : modelAt ms i ≡ tape t) where
-  there : i < length ms
-  there = go (decLt i (length ms))
-    where
-      go : Dec (i < length ms) → i < length ms
-      go (yes h) = h
-      go (no h) =
-          let z : nothing ≡ tape t = sym (List·getD-eq-default ms nothing {n = i} (omega arith)) ∙ e in
-          absurd (let o : _≡_ {A = ℕ} 0 1 = cc in omega arith)
-
   module _ (q : Request) (given buffer : List ℕ) where
-    pub tape-answer : modelAnswer ms (asked i q given buffer) ≡ judge q (tapeFacts (openModels ms) given (length buffer) t)
+    tape-answer : modelAnswer ms (asked i q given buffer) ≡ judge q (tapeFacts (openModels ms) given (length buffer) t)
     unfolding modelAnswer modelFacts
     tape-answer = rw e
 
-    pub tape-step : judge q (tapeFacts (openModels ms) given (length buffer) t) ≡ Done → modelAt (modelStep ms (asked i q given buffer)) i ≡ tape (tapeDone q given t)
-    unfolding modelStep modelNext tapeNext
-    tape-step d = getD-set-same ms i _ nothing there ∙ rw (tape-answer, d, e)
+    tape-step : judge q (tapeFacts (openModels ms) given (length buffer) t) ≡ Done → modelAt (modelStep ms (asked i q given buffer)) i ≡ tape (tapeDone q given t)
+    unfolding modelNext tapeNext
+    tape-step d = step-at ms (asked i q given buffer) Done (tape-answer ∙ d) ∙ rw e
 
 -- ---- the requests that read a record back are done
 
@@ -118,7 +108,7 @@ module _ (i : ℕ) (t : Tape) (given : List ℕ) (standing : t .position ≤ len
         tape-step (modelStep ms (writing i given)) i (tapeDone Write given t) w (Position RewindOnline) [] [] (rewinds _ refl used refl sequential) in
         goes-far (t .position) _ 0 r (omega arith) ∙ ap (λ (m : ℕ). tape (at m)) z
 
-    module _ (buffer : List ℕ) (size : length buffer ≡ t .shape .recordLength) where
+    module _ (buffer : List ℕ) (size : t .shape .recordLength ≤ length buffer) where
       back-answer : modelAnswer then (asking i [] buffer) ≡ Done
       unfolding tapeFacts
       back-answer =
@@ -131,14 +121,14 @@ module _ (i : ℕ) (t : Tape) (given : List ℕ) (standing : t .position ≤ len
           rw then-at
           (ap (λ (r : Recorded). r .bytes) (getD-at (take (t .position) (t .records)) (newRecord given t) [] _ (t .position) (length-take-le (t .position) (t .records) standing)))
 
-module _ (E : Engine) (faithful : Faithful E) (image : List ℕ) (ok : mounts image ≡ true) (before : List Asked) (i : ℕ) (t : Tape) (fit : taken E image before ≡ true)
-    (here : modelAt (modelRun (modelsOf image) before) i ≡ tape t) (given : List ℕ) (takes : E .takes given ≡ true) where
+module _ (E : Engine) (faithful : Faithful E) (image : List ℕ) (ok : mounts image ≡ true) (before : List Asked) (i : ℕ) (t : Tape) (fit : inBytes image before ≡ true)
+    (here : modelAt (modelRun (modelsOf image) before) i ≡ tape t) (given : List ℕ) (bytes : areBytes given ≡ true) where
   abbrev ms : List Model
   ms = modelRun (modelsOf image) before
 
-  module _ (buffer : List ℕ) (size : length buffer ≡ t .shape .recordLength) (done : answered E (run E (mounted E image) before) (writing i given) .answer ≡ Done) where
+  module _ (buffer : List ℕ) (size : t .shape .recordLength ≤ length buffer) (done : answered E (run E (mounted E image) before) (writing i given) .answer ≡ Done) where
     wrote : modelAnswer ms (writing i given) ≡ Done
-    wrote = sym (same-answer E faithful image ok before (writing i given) (taken-one E image before (writing i given) fit takes)) ∙ done
+    wrote = sym (same-answer E faithful image ok before (writing i given) (bytes-one image before (writing i given) fit bytes)) ∙ done
 
     allowed : Writes (tapeFacts (openModels ms) given 0 t)
     allowed = done-allows Write _ (sym (tape-answer ms i t here Write given []) ∙ wrote)
@@ -161,34 +151,34 @@ module _ (E : Engine) (faithful : Faithful E) (image : List ℕ) (ok : mounts im
     abbrev all : List Asked
     all = before ++ (writing i given ∷ skipping i (t .position))
 
-    skips-taken : every (λ a. E .takes (a .given)) (writing i given ∷ skipping i (t .position)) ≡ true
+    skips-bytes : giveBytes (writing i given ∷ skipping i (t .position)) ≡ true
     unfolding every
-    skips-taken =
-        let n : E .takes [] ≡ true = takes-none E faithful in
-        and-both (E .takes given) _ takes (and-both (E .takes []) _ n (every-replicate (λ (a : Asked). E .takes (a .given)) (t .position) _ n))
+    skips-bytes =
+        and-both (areBytes given) _ bytes (and-both (areBytes []) _ no-bytes (every-replicate (λ (a : Asked). areBytes (a .given)) (t .position) _ no-bytes))
 
-    all-taken : taken E image (all ++ (asking i [] buffer ∷ [])) ≡ true
-    all-taken = taken-one E image all (asking i [] buffer) (taken-more E image before _ fit skips-taken) (takes-none E faithful)
+    all-bytes : inBytes image (all ++ (asking i [] buffer ∷ [])) ≡ true
+    all-bytes = bytes-one image all (asking i [] buffer) (bytes-more image before _ fit skips-bytes) (no-bytes)
 
     answers : answered E (run E (mounted E image) all) (asking i [] buffer) .answer ≡ Done
     answers =
-        same-answer E faithful image ok all (asking i [] buffer) all-taken
+        same-answer E faithful image ok all (asking i [] buffer) all-bytes
         ∙ rw (run-append (modelsOf image) before (writing i given ∷ skipping i (t .position))) (back-answer i t given standing used sequential ms here wrote buffer size)
 
-    gives : answered E (run E (mounted E image) all) (asking i [] buffer) .buffer ≡ padded (padByte (t .shape .kind)) (t .shape .recordLength) given
+    gives : answered E (run E (mounted E image) all) (asking i [] buffer) .buffer
+        ≡ padded (padByte (t .shape .kind)) (t .shape .recordLength) given ++ drop (t .shape .recordLength) buffer
     unfolding ifDone
     gives =
-        same-buffer E faithful image ok all (asking i [] buffer) all-taken
+        same-buffer E faithful image ok all (asking i [] buffer) all-bytes
         ∙ rw (
           run-append (modelsOf image) before (writing i given ∷ skipping i (t .position)),
           back-answer i t given standing used sequential ms here wrote buffer size,
           back-record i t given standing used sequential ms here wrote buffer size,
-        ) (lay-whole buffer _ (length-padded _ (t .shape .recordLength) given short ∙ sym size))
+        ) (lay-front (t .shape .recordLength) buffer _ (length-padded _ (t .shape .recordLength) given short) size)
 
 pub reads-back : (E : Engine) → Faithful E → ReadsBack E
 reads-back E faithful = record {
-  back = λ image ok before i t fit here given buffer takes size done.
-      (answers E faithful image ok before i t fit here given takes buffer size done, gives E faithful image ok before i t fit here given takes buffer size done);
+  back = λ image ok before i t fit here given buffer bytes size done.
+      (answers E faithful image ok before i t fit here given bytes buffer size done, gives E faithful image ok before i t fit here given bytes buffer size done);
   granule = granule-back E faithful;
 }
 
@@ -211,7 +201,7 @@ passed (u ∷ ts) f later r e = go (u .holds f) e (passed ts f later (and-right 
     go false h more = more h
 
 module _ (E : Engine) (faithful : Faithful E) (image : List ℕ) (ok : mounts image ≡ true) (before : List Asked) (i : ℕ) (t : Tape) (given : List ℕ) (f : Facts)
-    (fit : taken E image before ≡ true) (takes : E .takes given ≡ true) (here : modelAt (modelRun (modelsOf image) before) i ≡ tape t) (is : f ≡ tapeFacts (openModels (modelRun (modelsOf image) before)) given 0 t)
+    (fit : inBytes image before ≡ true) (bytes : areBytes given ≡ true) (here : modelAt (modelRun (modelsOf image) before) i ≡ tape t) (is : f ≡ tapeFacts (openModels (modelRun (modelsOf image) before)) given 0 t)
     (lawful : firstOf checksBefore3 f ≡ Done) where
   last-test : judge Write f ≡ whether (leb mostRecords (t .position) || isFull f) (Refused NoRoom) Done
   unfolding judge tests firstOf orElse isRefusal every tapeFacts
@@ -220,12 +210,12 @@ module _ (E : Engine) (faithful : Faithful E) (image : List ℕ) (ok : mounts im
       ∙ ap (λ (p : ℕ). whether (leb mostRecords p || isFull f) (Refused NoRoom) Done) (ap (λ (g : Facts). g .position) is)
 
   decides : answered E (run E (mounted E image) before) (writing i given) .answer ≡ whether (leb mostRecords (t .position) || isFull f) (Refused NoRoom) Done
-  decides = same-answer E faithful image ok before (writing i given) (taken-one E image before (writing i given) fit takes) ∙ tape-answer (modelRun (modelsOf image) before) i t here Write given [] ∙ ap (judge Write) (sym is) ∙ last-test
+  decides = same-answer E faithful image ok before (writing i given) (bytes-one image before (writing i given) fit bytes) ∙ tape-answer (modelRun (modelsOf image) before) i t here Write given [] ∙ ap (judge Write) (sym is) ∙ last-test
 
 pub room-alone : (E : Engine) → Faithful E → RoomAlone E
 unfolding whether
 room-alone E faithful = record {
-  refusing = λ image ok before i t given f fit takes here is lawful.
-      let d = decides E faithful image ok before i t given f fit takes here is lawful in
+  refusing = λ image ok before i t given f fit bytes here is lawful.
+      let d = decides E faithful image ok before i t given f fit bytes here is lawful in
       ((λ full. d ∙ rw full), (λ free. d ∙ rw free));
 }

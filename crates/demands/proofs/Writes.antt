@@ -11,7 +11,7 @@ use native.Mathlib.Nat.{div-zero, zero-div, mod-lt, div-add-mod', div-eq-of-lt-l
 use lib.ListN.{length}
 use lib.Seq.{getD-set-same}
 use lib.Dec.{eqb}
-use borrow.Author.Tests.{eqb-true, eq-eqb, ne-eqb}
+use borrow.Author.Tests.{eqb-true, eqb-false, eq-eqb, ne-eqb}
 use Rattle.geometry.specs.Bytes.{lay}
 use Rattle.geometry.specs.Lists.{every}
 use Rattle.geometry.specs.Places.{perSector, placeOf, sectorsFor}
@@ -19,25 +19,33 @@ use Rattle.geometry.specs.Sizes.{blocked}
 use Rattle.geometry.proofs.Bytes.{lay-nil}
 use Rattle.geometry.proofs.Places.{place-blocked}
 use Rattle.geometry.proofs.Tests.{either, chosen, and-left, and-right, and-both}
-use Rattle.directory.specs.Entries.{entryAt, freeEntry, isKind}
+use Rattle.directory.specs.Entries.{entryAt, freeEntry, isFree, isKind}
+use Rattle.directory.proofs.Free.{every-append}
 use Rattle.directory.proofs.Good.{used-inside}
+use Rattle.requests.specs.Judge.{judge}
 use Rattle.requests.specs.Numbers.{numberOf}
-use Rattle.requests.proofs.Live.{done-live}
-use Rattle.sessions.specs.Session.{bare, fileOf, hasBuffer}
+use Rattle.requests.proofs.Done.{done-allows}
+use Rattle.requests.proofs.Live.{done-real}
+use Rattle.requests.proofs.Numbers.{done-is}
+use Rattle.sessions.specs.Session.{bare, unheld, fileOf, openFiles, hasBuffer, bufferedLegal}
 use Rattle.steps.specs.Effects.{Effect, hold, change, store, stamp, putBack, writeEffects, blockedEffect, effects, Bench, puttingBack, loaded, taking, working, plainDo, plainAll, bufferedDo, bufferedAll}
-use Rattle.steps.specs.Next.{Scene, counted, fileDone, entryDone}
+use Rattle.steps.specs.Next.{Scene, factsOf, counted, fileDone, entryDone}
 use Rattle.steps.specs.Step.{After, heldOf, plainScene, plainAnswer, plainAfter, plainStep, bufferedScene, bufferedAnswer, bufferedAfter, bufferedStep}
+use Rattle.steps.specs.Verdict.{fileNext}
+use Rattle.steps.proofs.Answered.{plain-is, buffered-answered, buffered-is}
 use Rattle.steps.proofs.Buffer.{back-cases}
-use Rattle.steps.proofs.Answered.{plain-is, buffered-is}
+use Rattle.steps.proofs.Standing.{withBuffer, kept-used, held-file}
+use Rattle.serving.proofs.Keeping.{done}
 use Rattle.settling.proofs.Bench.{takes-held}
-use Rattle.steps.proofs.Standing.{withBuffer, held-file}
 use Rattle.settling.proofs.Next.{entry-shape, shape-at}
 use Rattle.tapes.specs.Model.{Asked}
-use Rattle.demands.specs.Engine.{Engine, plainEngine, bufferedEngine, Standing, answered, stepOf, reportOf, reports, run}
-use Rattle.demands.specs.Demand2.{writing}
-use Rattle.demands.specs.Writes.{plainWrites, backWrites, takeWrites, bufferedWrites, effectsOf, plainSum, bufferedSum, benchOf, plainCount, bufferedCount, inRun, allDone, records, closing, Counted, BlockedAt, Saving}
-use Rattle.requests.proofs.Numbers.{done-is}
-use Rattle.demands.proofs.Buffering.{allowed, left-is}
+use Rattle.demands.specs.Engine.{Engine, plainEngine, bufferedEngine, Standing, answered, stepOf, reportOf, reports, run, areBytes, giveBytes, sound}
+use Rattle.demands.specs.Demand2.{writing, closing}
+use Rattle.demands.specs.Writes.{plainWrites, backWrites, takeWrites, bufferedWrites, effectsOf, plainSum, bufferedSum, sceneAt, benchAt, plainCount, bufferedCount, inRun, allDone, records, Counted, BlockedAt, Writing, Saving}
+use Rattle.demands.proofs.Orderly.{same-scene}
+use Rattle.demands.proofs.Passing.{buffered-passing}
+use Rattle.demands.proofs.Sound.{sound-typed}
+use Rattle.demands.proofs.States.{held-open}
 use Rattle.directory.specs.declared.Entry.{Entry}
 use Rattle.requests.specs.declared.Answer.{Answer}
 use Rattle.requests.specs.declared.Answer.the-variants.{Done, Met, Refused}
@@ -114,12 +122,18 @@ module _ (c : Scene) where
   buffered-after-none (Met x) image s q b buffer h = refl
   buffered-after-none (Refused x) image s q b buffer h = refl
 
-pub counted-none : Counted
-unfolding plainCount bufferedCount answered plainStep bufferedStep
-counted-none = record {
-  plain = λ w a h.
-      plain-after-none (plainScene (w .image) (w .session) (a .entry) (a .given)) (plainAnswer (w .image) (w .session) (a .entry) (a .request) (a .given) (length (a .buffer))) (w .image) (w .session) (a .request) (a .buffer) h;
-  buffered = λ w a h.
+pub plain-counted : Counted plainEngine (plainCount plainEngine)
+unfolding plainCount answered plainStep
+plain-counted = record {
+  none = λ w a h.
+      plain-after-none (plainScene (w .image) (w .session) (a .entry) (a .given)) (plainAnswer (w .image) (w .session) (a .entry) (a .request) (a .given) (length (a .buffer))) (w .image) (w .session) (a .request) (a .buffer)
+      (rw (same-scene (w .image) (w .session) (a .entry) (a .given)) at h);
+}
+
+pub buffered-counted : Counted bufferedEngine (bufferedCount bufferedEngine)
+unfolding bufferedCount answered bufferedStep
+buffered-counted = record {
+  none = λ w a h.
       buffered-after-none (bufferedScene (w .image) (w .session) (a .entry) (a .given)) (bufferedAnswer (w .image) (w .session) (a .entry) (a .request) (a .given) (length (a .buffer))) (w .image) (w .session) (a .request) (heldOf (w .session) (a .entry)) (a .buffer) h;
 }
 
@@ -156,23 +170,23 @@ blocked-effects : (c : Scene) → isKind blocked (c .entry) ≡ true → effects
 unfolding effects writeEffects
 blocked-effects c b = rw (b, writeEffects)
 
-module _ (w : Standing Session) (i : ℕ) (b : isKind blocked (entryAt (w .session .table) i) ≡ true) (given : List ℕ) (d : answered plainEngine w (writing i given) .answer ≡ Done) where
-  abbrev plain-scene : Scene
-  plain-scene = plainScene (w .image) (w .session) i given
+module _ (w : Standing Session) (i : ℕ) (b : isKind blocked (entryAt (unheld (w .session) .table) i) ≡ true) (given : List ℕ) (d : answered plainEngine w (writing i given) .answer ≡ Done) where
+  plain-one : plainCount plainEngine w (writing i given) ≡ 1
+  unfolding plainCount effectsOf plainSum plainWrites blockedEffect bufferedScene
+  plain-one =
+      ap (λ (a : Answer). plainSum (effectsOf a Write (sceneAt plainEngine w (writing i given)))) d
+      ∙ ap plainSum (blocked-effects (sceneAt plainEngine w (writing i given)) b)
 
-  plain-one : plainCount w (writing i given) ≡ 1
-  unfolding plainCount effectsOf plainSum plainWrites blockedEffect plainScene
-  plain-one = ap (λ (a : Answer). plainSum (effectsOf a Write plain-scene)) d ∙ ap plainSum (blocked-effects plain-scene b)
-
-  still-blocked : isKind blocked (entryAt (stepOf plainEngine w (writing i given) .session .table) i) ≡ true
-  unfolding stepOf answered plainAfter plainScene
+  still-blocked : isKind blocked (entryAt (unheld (stepOf plainEngine w (writing i given) .session) .table) i) ≡ true
+  unfolding stepOf answered plainAfter plainScene unheld
   still-blocked =
+      let scene : Scene = plainScene (w .image) (w .session) i given in
       ap (λ (x : After Session). isKind blocked (entryAt (x .session .table) i)) (plain-is (w .image) (w .session) i Write given [] Done d)
-      ∙ ap (λ (k : ℕ). eqb k blocked) (shape-at (w .session .table) i (entryDone Write plain-scene) (entry-shape Write plain-scene) i .kind)
+      ∙ ap (λ (k : ℕ). eqb k blocked) (shape-at (w .session .table) i (entryDone Write scene) (entry-shape Write scene) i .kind)
       ∙ b
 
-plain-run : (i : ℕ) (givens : List (List ℕ)) (w : Standing Session) → isKind blocked (entryAt (w .session .table) i) ≡ true → allDone plainEngine w (records i givens) ≡ true
-    → inRun plainEngine plainCount w (records i givens) ≡ length givens
+plain-run : (i : ℕ) (givens : List (List ℕ)) (w : Standing Session) → isKind blocked (entryAt (unheld (w .session) .table) i) ≡ true → allDone plainEngine w (records i givens) ≡ true
+    → inRun plainEngine (plainCount plainEngine) w (records i givens) ≡ length givens
 unfolding inRun
 plain-run i [] w b h = refl
 plain-run i (given ∷ givens) w b h =
@@ -182,14 +196,25 @@ plain-run i (given ∷ givens) w b h =
 
 -- ---- the buffered engine
 
--- behind a write of record m: its sector is held and changed
-record Behind (s : BufferedSession) (i q m : ℕ) : Type 0 where
-  blockedAt : BlockedAt (bare s) i (m + 1) q
-  holds : heldOf s i .holds ≡ true
-  held : heldOf s i .held ≡ m / q
-  changed : heldOf s i .changed ≡ true
+abbrev count : Standing BufferedSession → Asked → ℕ
+count = bufferedCount bufferedEngine
 
-module _ (image : List ℕ) (s : BufferedSession) (i p q : ℕ) (at : BlockedAt (bare s) i p q) (given buffer : List ℕ) (d : bufferedStep image s i Write given buffer .answer ≡ Done) where
+-- behind a write of record m: its sector is held and changed
+record Behind (w : Standing BufferedSession) (i q m : ℕ) : Type 0 where
+  isSound : sound (w .image) (w .session) ≡ true
+  blockedAt : BlockedAt (w .session) i (m + 1) q
+  holds : heldOf (w .session) i .holds ≡ true
+  held : heldOf (w .session) i .held ≡ m / q
+  changed : heldOf (w .session) i .changed ≡ true
+
+module _ (w : Standing BufferedSession) (fine : sound (w .image) (w .session) ≡ true) (i p q : ℕ) (at : BlockedAt (w .session) i p q) (given : List ℕ) (gives : areBytes given ≡ true)
+    (d : answered bufferedEngine w (writing i given) .answer ≡ Done) where
+  abbrev image : List ℕ
+  image = w .image
+
+  abbrev s : BufferedSession
+  s = w .session
+
   abbrev scene : Scene
   scene = bufferedScene image s i given
 
@@ -197,41 +222,56 @@ module _ (image : List ℕ) (s : BufferedSession) (i p q : ℕ) (at : BlockedAt 
   found = record { image = image; file = heldOf s i }
 
   abbrev next : BufferedSession
-  next = bufferedStep image s i Write given buffer .session
-
-  is-blocked : isKind blocked (entryAt (s .table) i) ≡ true
-  unfolding bare
-  is-blocked = at .kind
+  next = bufferedStep image s i Write given [] .session
 
   -- the record's sector
   place-is : placeOf blocked (entryAt (s .table) i .length) (fileOf (bare s .files) i .position) .sector ≡ p / q
-  unfolding bare
   place-is = rw (place-blocked blocked (entryAt (s .table) i .length) (fileOf (bare s .files) i .position) refl, at .position, at .many)
 
-  one-count : bufferedSum scene (effects Write scene) found ≡ takeWrites (p / q) found
-  unfolding bufferedSum bufferedWrites blockedEffect bufferedScene
-  one-count =
-      ap (λ (xs : List Effect). bufferedSum scene xs found) (blocked-effects scene is-blocked)
+  write-count : count w (writing i given) ≡ takeWrites (p / q) found
+  unfolding bufferedCount effectsOf bufferedSum bufferedWrites blockedEffect bufferedScene
+  write-count =
+      ap (λ (a : Answer). bufferedSum scene (effectsOf a Write scene) found) d
+      ∙ ap (λ (xs : List Effect). bufferedSum scene xs found) (blocked-effects scene (at .kind))
       ∙ omega arith
       ∙ ap (λ (k : ℕ). takeWrites k found) place-is
 
+  done-step : bufferedStep image s i Write given [] .answer ≡ Done
+  unfolding answered
+  done-step = d
+
+  judged : judge Write (factsOf (bufferedLegal image s) (openFiles (bare s .files)) 0 Write scene) ≡ Done
+  unfolding bufferedAnswer
+  judged = sym (buffered-answered image s i Write given []) ∙ done-step
+
+  ok : bufferedLegal image s ≡ true
+  unfolding factsOf
+  ok = done-real Write _ (done-allows Write _ judged) .legal
+
+  used : isFree (entryAt (s .table) i) ≡ false
+  unfolding factsOf bufferedScene
+  used = done-real Write _ (done-allows Write _ judged) .used
+
   held-then : heldOf next i ≡ withBuffer (fileDone Write scene) (bufferedDo scene (blockedEffect scene) found .file)
-  unfolding fileDone bufferedAll bufferedScene
+  unfolding bufferedAfter bufferedScene fileNext fileDone bufferedAll
   held-then =
-      left-is image s i given buffer Write (done-live Write _ (allowed image s i given buffer Write d)) refl refl d
-      ∙ ap (λ (xs : List Effect). withBuffer (fileDone Write scene) (bufferedAll scene xs found .file)) (blocked-effects scene is-blocked)
+      ap (λ (x : After BufferedSession). heldOf (x .session) i) (buffered-is image s i Write given [] Done done-step)
+      ∙ held-open image s (sound-typed image s fine) ok i given 0 used Write Done (done (done-allows Write _ (rw ok at judged))) _ (bufferedAll scene (effects Write scene) found .file) refl
+      ∙ kept-used (fileDone Write scene) (bufferedAll scene (effects Write scene) found .file) refl
+      ∙ ap (λ (xs : List Effect). withBuffer (fileDone Write scene) (bufferedAll scene xs found .file)) (blocked-effects scene (at .kind))
 
   entry-then : entryAt (next .table) i ≡ entryDone Write scene
   unfolding bufferedAfter bufferedScene
   entry-then =
-      ap (λ (x : After BufferedSession). entryAt (x .session .table) i) (buffered-is image s i Write given buffer Done d)
-      ∙ getD-set-same (s .table) i (entryDone Write scene) freeEntry (used-inside (s .table) i (omega (arith, eqb-true (entryAt (s .table) i .kind) blocked is-blocked)))
+      ap (λ (x : After BufferedSession). entryAt (x .session .table) i) (buffered-is image s i Write given [] Done done-step)
+      ∙ getD-set-same (s .table) i (entryDone Write scene) freeEntry (used-inside (s .table) i (eqb-false (entryAt (s .table) i .kind) 0 used))
 
-  behind : Behind next i q p
-  unfolding bare bufferedDo working blockedEffect entryDone counted fileDone bufferedScene
+  behind : Behind (stepOf bufferedEngine w (writing i given)) i q p
+  unfolding stepOf answered bufferedDo working blockedEffect entryDone counted fileDone bufferedScene
   behind = record {
+    isSound = buffered-passing .requests w (record { isSound = fine; isLegal = ok }) (writing i given) gives .isSound;
     blockedAt = record {
-      kind = ap (isKind blocked) entry-then ∙ is-blocked;
+      kind = ap (isKind blocked) entry-then ∙ at .kind;
       position = ap (λ (f : OpenFile). f .position) (sym (held-file next i) ∙ ap (λ (b : BufferedFile). b .file) held-then) ∙ ap (λ (n : ℕ). n + 1) (at .position);
       many = ap (λ (e : Entry). perSector (e .length)) entry-then ∙ at .many;
     };
@@ -239,16 +279,6 @@ module _ (image : List ℕ) (s : BufferedSession) (i p q : ℕ) (at : BlockedAt 
     held = ap (λ (b : BufferedFile). b .held) held-then ∙ takes-held (entryAt (s .table) i) _ found .1 ∙ place-is;
     changed = ap (λ (b : BufferedFile). b .changed) held-then;
   }
-
--- one write: what it writes, and how it leaves the file
-one-write : (w : Standing BufferedSession) (i p q : ℕ) → BlockedAt (bare (w .session)) i p q → (given : List ℕ) → answered bufferedEngine w (writing i given) .answer ≡ Done
-    → (bufferedCount w (writing i given) ≡ takeWrites (p / q) (benchOf w i)) × Behind (stepOf bufferedEngine w (writing i given) .session) i q p
-unfolding bufferedCount effectsOf answered stepOf
-one-write w i p q at given d = (
-  ap (λ (a : Answer). bufferedSum (bufferedScene (w .image) (w .session) i given) (effectsOf a Write (bufferedScene (w .image) (w .session) i given)) (benchOf w i)) d
-      ∙ one-count (w .image) (w .session) i p q at given [] d,
-  behind (w .image) (w .session) i p q at given [] d,
-)
 
 -- the next record lies in the same sector or in the next
 next-sector : (m q : ℕ) → ((m + 1) / q ≡ m / q) ⊎ ((m + 1) / q ≡ m / q + 1)
@@ -269,33 +299,34 @@ unfolding takeWrites
 take-next w k j h c e (inl s) = rw (h, eq-eqb (w .file .held) j (e ∙ sym s), takeWrites) (omega arith)
 take-next w k j h c e (inr s) = rw (h, ne-eqb (w .file .held) j (omega arith), takeWrites) (omega (arith, back-changed w h c))
 
-run-behind : (i q : ℕ) (givens : List (List ℕ)) (w : Standing BufferedSession) (m : ℕ) → Behind (w .session) i q m → allDone bufferedEngine w (records i givens) ≡ true
-    → (inRun bufferedEngine bufferedCount w (records i givens) + m / q ≡ (m + length givens) / q) × Behind (run bufferedEngine w (records i givens) .session) i q (m + length givens)
-unfolding inRun run
-run-behind i q [] w m b h =
+run-behind : (i q : ℕ) (givens : List (List ℕ)) → giveBytes (records i givens) ≡ true → (w : Standing BufferedSession) (m : ℕ) → Behind w i q m → allDone bufferedEngine w (records i givens) ≡ true
+    → (inRun bufferedEngine count w (records i givens) + m / q ≡ (m + length givens) / q) × Behind (run bufferedEngine w (records i givens)) i q (m + length givens)
+unfolding inRun run every
+run-behind i q [] g w m b h =
     let n : m ≡ m + length {A = List ℕ} [] = omega arith in
-    (omega (arith, ap (λ (k : ℕ). k / q) n), subst (Behind (w .session) i q) n b)
-run-behind i q (given ∷ givens) w m b h =
+    (omega (arith, ap (λ (k : ℕ). k / q) n), subst (Behind w i q) n b)
+run-behind i q (given ∷ givens) g w m b h =
     let v : Standing BufferedSession = stepOf bufferedEngine w (writing i given) in
     let z : (answered bufferedEngine w (writing i given) .answer ≡ Done) × (allDone bufferedEngine v (records i givens) ≡ true) = all-first bufferedEngine w (writing i given) (records i givens) h in
-    let o = one-write w i (m + 1) q (b .blockedAt) given (z .0) in
-    let r = run-behind i q givens v (m + 1) (o .1) (z .1) in
+    let y = and-left (areBytes given) _ g in
+    let o = write-count w (b .isSound) i (m + 1) q (b .blockedAt) given y (z .0) in
+    let r = run-behind i q givens (and-right (areBytes given) _ g) v (m + 1) (behind w (b .isSound) i (m + 1) q (b .blockedAt) given y (z .0)) (z .1) in
     let n : m + 1 + length givens ≡ m + length (given ∷ givens) = omega arith in
-    let t : takeWrites ((m + 1) / q) (benchOf w i) + m / q ≡ (m + 1) / q = take-next (benchOf w i) (m / q) ((m + 1) / q) (b .holds) (b .changed) (b .held) (next-sector m q) in
-    (omega (arith, o .0, r .0, t) ∙ ap (λ (k : ℕ). k / q) n, subst (Behind (run bufferedEngine v (records i givens) .session) i q) n (r .1))
+    let t : takeWrites ((m + 1) / q) (benchAt bufferedEngine w i) + m / q ≡ (m + 1) / q = take-next (benchAt bufferedEngine w i) (m / q) ((m + 1) / q) (b .holds) (b .changed) (b .held) (next-sector m q) in
+    (omega (arith, o, r .0, t) ∙ ap (λ (k : ℕ). k / q) n, subst (Behind (run bufferedEngine v (records i givens)) i q) n (r .1))
 
 -- the first write finds what was held before
-buffered-run : (w : Standing BufferedSession) (i p q : ℕ) → BlockedAt (bare (w .session)) i p q → (given : List ℕ) (givens : List (List ℕ))
-    → allDone bufferedEngine w (records i (given ∷ givens)) ≡ true
-    → (inRun bufferedEngine bufferedCount w (records i (given ∷ givens)) ≡ takeWrites (p / q) (benchOf w i) + ((p + length givens) / q - p / q))
-    × Behind (run bufferedEngine w (records i (given ∷ givens)) .session) i q (p + length givens)
-unfolding inRun run
-buffered-run w i p q at given givens h =
+buffered-run : (w : Standing BufferedSession) (i p q : ℕ) (given : List ℕ) (givens : List (List ℕ)) → Writing bufferedEngine w i p q (records i (given ∷ givens))
+    → (inRun bufferedEngine count w (records i (given ∷ givens)) ≡ takeWrites (p / q) (benchAt bufferedEngine w i) + ((p + length givens) / q - p / q))
+    × Behind (run bufferedEngine w (records i (given ∷ givens))) i q (p + length givens)
+unfolding inRun run every
+buffered-run w i p q given givens b =
     let v : Standing BufferedSession = stepOf bufferedEngine w (writing i given) in
-    let z : (answered bufferedEngine w (writing i given) .answer ≡ Done) × (allDone bufferedEngine v (records i givens) ≡ true) = all-first bufferedEngine w (writing i given) (records i givens) h in
-    let o = one-write w i p q at given (z .0) in
-    let r = run-behind i q givens v p (o .1) (z .1) in
-    (omega (arith, o .0, r .0), r .1)
+    let z : (answered bufferedEngine w (writing i given) .answer ≡ Done) × (allDone bufferedEngine v (records i givens) ≡ true) = all-first bufferedEngine w (writing i given) (records i givens) (b .done) in
+    let y = and-left (areBytes given) _ (b .bytes) in
+    let o = write-count w (b .isSound) i p q (b .standing) given y (z .0) in
+    let r = run-behind i q givens (and-right (areBytes given) _ (b .bytes)) v p (behind w (b .isSound) i p q (b .standing) given y (z .0)) (z .1) in
+    (omega (arith, o, r .0), r .1)
 
 -- ---- in one sector, and a whole file
 
@@ -317,41 +348,42 @@ take-unchanged k w u = either (w .file .holds && eqb (w .file .held) k)
 same-sector : (p n q : ℕ) → p % q ≡ 0 → n < q → (p + n) / q ≡ p / q
 same-sector p n q e l = div-eq-of-lt-le q (omega (arith, div-add-mod' p q)) (omega (arith, div-add-mod' p q))
 
-in-sector : (w : Standing BufferedSession) (i p q : ℕ) → BlockedAt (bare (w .session)) i p q → p % q ≡ 0 → (givens : List (List ℕ)) → length givens ≤ q
-    → allDone bufferedEngine w (records i givens) ≡ true
-    → (inRun bufferedEngine bufferedCount w (records i givens) ≤ 1)
-    × (heldOf (w .session) i .changed ≡ false → inRun bufferedEngine bufferedCount w (records i givens) ≡ 0)
+in-sector : (w : Standing BufferedSession) (i p q : ℕ) (givens : List (List ℕ)) → Writing bufferedEngine w i p q (records i givens) → p % q ≡ 0 → length givens ≤ q
+    → (inRun bufferedEngine count w (records i givens) ≤ 1)
+    × (heldOf (w .session) i .changed ≡ false → inRun bufferedEngine count w (records i givens) ≡ 0)
 unfolding inRun
-in-sector w i p q at e [] l h = (omega arith, λ c. refl)
-in-sector w i p q at e (given ∷ givens) l h =
-    let r = buffered-run w i p q at given givens h .0 in
+in-sector w i p q [] b e l = (omega arith, λ c. refl)
+in-sector w i p q (given ∷ givens) b e l =
+    let r = buffered-run w i p q given givens b .0 in
     let s : (p + length givens) / q ≡ p / q = same-sector p (length givens) q e (omega arith) in
-    (omega (arith, r, s, take-most (p / q) (benchOf w i)), λ c. omega (arith, r, s, take-unchanged (p / q) (benchOf w i) c))
+    (omega (arith, r, s, take-most (p / q) (benchAt bufferedEngine w i)), λ c. omega (arith, r, s, take-unchanged (p / q) (benchAt bufferedEngine w i) c))
 
-close-count : (w : Standing BufferedSession) (i q m : ℕ) → Behind (w .session) i q m → answered bufferedEngine w (closing i) .answer ≡ Done → bufferedCount w (closing i) ≡ 2
-unfolding bufferedCount effectsOf effects bufferedSum bufferedWrites plainWrites bufferedScene bare
+close-count : (w : Standing BufferedSession) (i q m : ℕ) → Behind w i q m → answered bufferedEngine w (closing i) .answer ≡ Done → count w (closing i) ≡ 2
+unfolding bufferedCount effectsOf effects bufferedSum bufferedWrites plainWrites bufferedScene
 close-count w i q m b d =
-    let c : Scene = bufferedScene (w .image) (w .session) i [] in
+    let c : Scene = sceneAt bufferedEngine w (closing i) in
     let z : isKind blocked (entryAt (w .session .table) i) ≡ true = b .blockedAt .kind in
     let k : hasBuffer (entryAt (w .session .table) i) ≡ true = rw z in
-    ap (λ (a : Answer). bufferedSum c (effectsOf a (Position RewindOffline) c) (benchOf w i)) d ∙ omega (arith, chosen (hasBuffer (entryAt (w .session .table) i)) (backWrites (benchOf w i)) 0 k, back-changed (benchOf w i) (b .holds) (b .changed))
+    ap (λ (a : Answer). bufferedSum c (effectsOf a (Position RewindOffline) c) (benchAt bufferedEngine w i)) d
+    ∙ omega (arith, chosen (hasBuffer (entryAt (w .session .table) i)) (backWrites (benchAt bufferedEngine w i)) 0 k, back-changed (benchAt bufferedEngine w i) (b .holds) (b .changed))
 
-whole-file : (w : Standing BufferedSession) (i q : ℕ) → BlockedAt (bare (w .session)) i 0 q → heldOf (w .session) i .changed ≡ false
-    → (given : List ℕ) (givens : List (List ℕ)) → allDone bufferedEngine w (records i (given ∷ givens) ++ (closing i ∷ [])) ≡ true
-    → inRun bufferedEngine bufferedCount w (records i (given ∷ givens) ++ (closing i ∷ [])) ≡ (length givens / q + 1) + 1
-whole-file w i q at c given givens h =
+whole-file : (w : Standing BufferedSession) (i q : ℕ) (given : List ℕ) (givens : List (List ℕ)) → heldOf (w .session) i .changed ≡ false
+    → Writing bufferedEngine w i 0 q (records i (given ∷ givens) ++ (closing i ∷ []))
+    → inRun bufferedEngine count w (records i (given ∷ givens) ++ (closing i ∷ [])) ≡ (length givens / q + 1) + 1
+whole-file w i q given givens c b =
     let all : List Asked = records i (given ∷ givens) in
-    let z : (allDone bufferedEngine w all ≡ true) × (answered bufferedEngine (run bufferedEngine w all) (closing i) .answer ≡ Done) = then-done bufferedEngine bufferedCount (closing i) all w h in
-    let r = buffered-run w i 0 q at given givens (z .0) in
-    let t : takeWrites (0 / q) (benchOf w i) ≡ 0 = take-unchanged (0 / q) (benchOf w i) c in
-    let k : bufferedCount (run bufferedEngine w all) (closing i) ≡ 2 = close-count (run bufferedEngine w all) i q _ (r .1) (z .1) in
+    let z : (allDone bufferedEngine w all ≡ true) × (answered bufferedEngine (run bufferedEngine w all) (closing i) .answer ≡ Done) = then-done bufferedEngine count (closing i) all w (b .done) in
+    let g : giveBytes all ≡ true = and-left (giveBytes all) _ (sym (every-append (λ a. areBytes (a .given)) all (closing i ∷ [])) ∙ b .bytes) in
+    let r = buffered-run w i 0 q given givens (record { isSound = b .isSound; standing = b .standing; bytes = g; done = z .0 }) in
+    let t : takeWrites (0 / q) (benchAt bufferedEngine w i) ≡ 0 = take-unchanged (0 / q) (benchAt bufferedEngine w i) c in
+    let k : count (run bufferedEngine w all) (closing i) ≡ 2 = close-count (run bufferedEngine w all) i q _ (r .1) (z .1) in
     let x : (0 + length givens) / q ≡ length givens / q = ap (λ (n : ℕ). n / q) (omega arith) in
-    omega (arith, then-sum bufferedEngine bufferedCount (closing i) all w, r .0, t, k, x, zero-div q)
+    omega (arith, then-sum bufferedEngine count (closing i) all w, r .0, t, k, x, zero-div q)
 
-pub saving : Saving
+pub saving : Saving plainEngine bufferedEngine
 saving = record {
-  plain = λ w i p q at givens h. plain-run i givens w (at .kind) h;
-  buffered = λ w i p q at given givens h. buffered-run w i p q at given givens h .0;
+  plain = λ w i p q givens b. plain-run i givens w (b .standing .kind) (b .done);
+  buffered = λ w i p q given givens b. buffered-run w i p q given givens b .0;
   inSector = in-sector;
   whole = whole-file;
 }

@@ -1,22 +1,43 @@
 -- Demand 1: "Any image, session, request and buffer gets an answer; anything unfit gets document 01's number, in its order, and leaves
 -- image, session and buffer as they were." As statements over an engine.
 use mathlib.Core.Path.{_≡_}
-use mathlib.Core.Bool.{true}
-use mathlib.Core.List.{List}
-use Prim.Native.Nat.{ℕ}
-use lib.ListN.{length, drop, set}
-use Rattle.geometry.specs.Sizes.{lawfulLength}
+use mathlib.Core.Bool.{Bool, true, false, not}
+use mathlib.Core.List.{List, [], _∷_}
+use Prim.Native.Nat.{ℕ, _+_, _*_}
+use lib.Dec.{eqb, leb}
+use lib.ListN.{length, drop, getD, set}
+use Rattle.geometry.specs.Bytes.{part}
+use Rattle.geometry.specs.Lists.{every}
+use Rattle.geometry.specs.Places.{placeOf, byteOf}
+use Rattle.geometry.specs.Sizes.{sector, random, lawfulLength}
 use Rattle.directory.specs.Entries.{entryAt}
-use Rattle.sessions.specs.Session.{bare, fileOf, slotOf, bufferedLegal, typed}
+use Rattle.requests.specs.Judge.{Test, tests, placeInLine, inOrder}
+use Rattle.requests.specs.Numbers.{numberOf}
+use Rattle.sessions.specs.Session.{bare, fileOf, slotOf, bufferedLegal}
 use Rattle.steps.specs.Next.{fileMet}
 use Rattle.steps.specs.Step.{After, kept, heldOf, bufferedAnswer}
-use Rattle.demands.specs.Engine.{Engine}
+use Rattle.tapes.specs.Model.{Asked}
+use Rattle.demands.specs.Engine.{Engine, Standing, answered, stepOf, reports, run, mounted, areBytes, giveBytes, sound}
+use Rattle.directory.specs.declared.Entry.{Entry}
 use Rattle.requests.specs.declared.Edge.{Edge}
 use Rattle.requests.specs.declared.Refusal.{Refusal}
 use Rattle.requests.specs.declared.Request.{Request}
 use Rattle.requests.specs.declared.Request.the-variants.{Open, Read, Write, GranuleRead, GranuleWrite, GranuleLook, Position}
-use Rattle.requests.specs.declared.Answer.the-variants.{Met, Refused}
+use Rattle.requests.specs.declared.Answer.{Answer}
+use Rattle.requests.specs.declared.Answer.the-variants.{Done, Met, Refused}
 use Rattle.sessions.specs.declared.BufferedSession.{BufferedSession}
+
+-- ---- the order
+
+-- "Order: 12, 8, 9, 10, 7 for kind, 4, 7 for beyond, 5, 6, then 11, 3, 1, 2 or 7 for the end."
+abbrev pub orderLine : List ℕ
+orderLine = 12 ∷ 8 ∷ 9 ∷ 10 ∷ 7 ∷ 4 ∷ 7 ∷ 5 ∷ 6 ∷ 11 ∷ 3 ∷ 1 ∷ 2 ∷ 7 ∷ []
+
+-- a test stands where the line has its answer's number
+unfoldable pub inLine : Test → Bool
+inLine t = eqb (getD orderLine (placeInLine (t .stage)) 0) (numberOf (t .gives))
+
+-- ---- one request
 
 -- answers 1 and 2 leave the "position as above", and nothing else changed
 unfoldable pub sessionMet : Edge → BufferedSession → ℕ → BufferedSession
@@ -47,13 +68,45 @@ pub record Proper (E : Engine) (image : List ℕ) (s : E .Session) (i : ℕ) (q 
   pub bufferRest : (n : ℕ) → n ≡ mayChange q (entryAt (E .seen s .table) i .length) → drop n (r .buffer) ≡ drop n buffer
   pub bufferSize : length (r .buffer) ≡ length buffer
 
+-- what a look shows where `a` is its number's answer: "A granule may also be shown in place in the image, not copied"; it "shows an empty part when refused"
+pub record Shows (E : Engine) (image : List ℕ) (s : E .Session) (i g : ℕ) (e : Entry) (a : Answer) : Type 0 where
+  pub inPlace : a ≡ Done → E .look image s i g ≡ part image (sector * e .first + byteOf (placeOf random (e .length) g)) (e .length)
+  pub empty : (x : Refusal) → a ≡ Refused x → E .look image s i g ≡ []
+
 pub record Orderly (E : Engine) : Type 0 where
+  -- the tests of every request stand along the order line, each at its answer's number
+  pub line : (q : Request) → (inOrder (tests q) ≡ true) × (every inLine (tests q) ≡ true)
   pub every-request : (image : List ℕ) (s : E .Session) (i : ℕ) (q : Request) (given buffer : List ℕ)
       → Proper E image s i q given buffer (E .request image s i q given buffer)
+  -- a look: "its number is asked for separately"
+  pub every-look : (image : List ℕ) (s : E .Session) (i g : ℕ) (given buffer : List ℕ)
+      → Shows E image s i g (entryAt (E .seen s .table) i) (E .request image s i (GranuleLook g) given buffer .answer)
+
+-- ---- legality
+
+-- an image, and a session that is legal for it
+pub record Passes (E : Engine) (w : Standing (E .Session)) : Type 0 where
+  pub isSound : sound (w .image) (E .seen (w .session)) ≡ true
+  pub isLegal : bufferedLegal (w .image) (E .seen (w .session)) ≡ true
 
 -- "Every other session handed out passes, save one handed back with 12": a mounted one, and the one behind every request on a session that passed
 pub record Passing (E : Engine) : Type 0 where
-  pub mounting : (image : List ℕ) → lawfulLength image ≡ true → bufferedLegal image (E .seen (E .mount image .session)) ≡ true
-  pub requests : (image : List ℕ) (s : E .Session) (i : ℕ) (q : Request) (given buffer : List ℕ) → E .takes image ≡ true → E .takes given ≡ true → typed (E .seen s) ≡ true
-      → bufferedLegal image (E .seen s) ≡ true
-      → bufferedLegal (E .request image s i q given buffer .image) (E .seen (E .request image s i q given buffer .session)) ≡ true
+  pub mounting : (image : List ℕ) → areBytes image ≡ true → lawfulLength image ≡ true → Passes E (mounted E image)
+  pub requests : (w : Standing (E .Session)) → Passes E w → (a : Asked) → areBytes (a .given) ≡ true → Passes E (stepOf E w a)
+
+-- ---- a run
+
+-- the requests of a run that are answered 0, 1 or 2
+unfoldable pub served : (E : Engine) → Standing (E .Session) → List Asked → List Asked
+served E w [] = []
+served E w (a ∷ rest) = elim (leb (numberOf (answered E w a .answer)) 2) [ true ↦ a ∷ served E (stepOf E w a) rest | false ↦ served E (stepOf E w a) rest ]
+
+-- any requests from any session that passes
+pub record Running (E : Engine) : Type 0 where
+  -- never leave what passes
+  pub passes : (w : Standing (E .Session)) → Passes E w → (asked : List Asked) → giveBytes asked ≡ true → Passes E (run E w asked)
+  -- and so never get 12
+  pub legally : (w : Standing (E .Session)) → Passes E w → (asked : List Asked) → giveBytes asked ≡ true
+      → every (λ r. not (eqb (r .number) 12)) (reports E w asked) ≡ true
+  -- and those that are refused leave no trace: the run ends where it does without them
+  pub refusals : (w : Standing (E .Session)) (asked : List Asked) → run E w asked ≡ run E w (served E w asked)

@@ -1,13 +1,12 @@
 -- Demand 2: "Each sequential file answers as a tape of records, each random file as a row of granules. What is written reads back. A lawful
 -- write is refused exactly when there is no room or 65,535 records stand before it." As statements over an engine.
 use mathlib.Core.Path.{_≡_}
-use mathlib.Core.Bool.{Bool, true, false, _||_}
+use mathlib.Core.Bool.{true, false, _||_}
 use mathlib.Core.List.{List, [], _∷_, _++_}
-use Prim.Native.Nat.{ℕ, _+_}
-use lib.ListN.{length, replicate}
-use lib.Dec.{leb, ltb}
+use Prim.Native.Nat.{ℕ, _+_, _≤_}
+use lib.ListN.{length, drop, replicate}
+use lib.Dec.{leb}
 use Rattle.geometry.specs.Bytes.{padded}
-use Rattle.geometry.specs.Lists.{every}
 use Rattle.geometry.specs.Sizes.{entries, mostRecords}
 use Rattle.directory.specs.Entries.{freeEntry, entryAt, tableOf}
 use Rattle.requests.specs.Judge.{Test, notLegal, noEntry, notOpen, notSequential, isProtected, isBeyond, oddCount, badSize, longCode, firstOf, isFull}
@@ -15,26 +14,21 @@ use Rattle.sessions.specs.Session.{unheld}
 use Rattle.mounting.specs.Mounting.{mounts, startWith, plainMount}
 use Rattle.tapes.specs.Tape.{Tape, padByte, tapeFacts}
 use Rattle.tapes.specs.Row.{Row}
-use Rattle.tapes.specs.Model.{tape, row, Asked, modelsOf, modelAt, modelReports, modelRun, openModels}
-use Rattle.demands.specs.Engine.{Engine, Standing, reports, run, mounted, answered, taken}
+use Rattle.tapes.specs.Model.{Model, nothing, tape, row, Asked, modelsOf, modelAt, modelReports, modelRun, openModels}
+use Rattle.demands.specs.Engine.{Engine, Standing, reports, run, mounted, answered, areBytes, inBytes}
 use Rattle.requests.specs.declared.Facts.{Facts}
 use Rattle.requests.specs.declared.Order.the-variants.{RewindOnline, RewindOffline, RecordForward}
 use Rattle.requests.specs.declared.Request.the-variants.{Read, Write, GranuleRead, GranuleWrite, Position}
 use Rattle.requests.specs.declared.Refusal.the-variants.{NoRoom}
 use Rattle.requests.specs.declared.Answer.the-variants.{Done, Refused}
 
-abbrev pub isByte : ℕ → Bool
-isByte x = ltb x 256
-
 pub record Faithful (E : Engine) : Type 0 where
-  -- bytes are taken
-  pub takes : (b : List ℕ) → every isByte b ≡ true → E .takes b ≡ true
   -- "Mounting refuses (11) exactly when the length is wrong or the directory is not good"
   pub mounting : (image : List ℕ) → E .mount image .answer ≡ plainMount image .answer
   -- "A refused mounting hands out a table with no used entry and nothing open"
   pub refusedMounting : (image : List ℕ) → mounts image ≡ false → E .seen (E .mount image .session) ≡ unheld (startWith (replicate entries freeEntry))
   -- answers, moved bytes and positions are those of the tapes and rows that the mounted image shows
-  pub serves : (image : List ℕ) → mounts image ≡ true → (asked : List Asked) → taken E image asked ≡ true
+  pub serves : (image : List ℕ) → mounts image ≡ true → (asked : List Asked) → inBytes image asked ≡ true
       → reports E (mounted E image) asked ≡ modelReports (modelsOf image) asked
 
 -- ---- what a caller asks to read record p of entry i back: rewind, skip p records, read
@@ -58,10 +52,11 @@ granuleWriting i g given = record { entry = i; request = GranuleWrite g; given =
 abbrev pub granuleReading : ℕ → ℕ → List ℕ → Asked
 granuleReading i g buffer = record { entry = i; request = GranuleRead g; given = []; buffer = buffer }
 
--- from before a write of granule g to behind it: a read and a look of it give the bytes given, padded with zero; of any other granule they give the same
+-- from before a write of granule g to behind it: a read and a look of it give the bytes given, padded with zero, a read in the first R bytes of a buffer
+-- that has as many or more; of any other granule they give the same
 pub record GranuleBack (E : Engine) (before after : Standing (E .Session)) (i g R : ℕ) (given : List ℕ) : Type 0 where
-  pub reads : (buffer : List ℕ) → length buffer ≡ R
-      → (answered E after (granuleReading i g buffer) .answer ≡ Done) × (answered E after (granuleReading i g buffer) .buffer ≡ padded 0 R given)
+  pub reads : (buffer : List ℕ) → R ≤ length buffer
+      → (answered E after (granuleReading i g buffer) .answer ≡ Done) × (answered E after (granuleReading i g buffer) .buffer ≡ padded 0 R given ++ drop R buffer)
   pub shows : E .look (after .image) (after .session) i g ≡ padded 0 R given
   pub others : (h : ℕ) → ¬ (h ≡ g) → (buffer : List ℕ)
       → (answered E after (granuleReading i h buffer) .answer ≡ answered E before (granuleReading i h buffer) .answer)
@@ -69,19 +64,19 @@ pub record GranuleBack (E : Engine) (before after : Standing (E .Session)) (i g 
       × (E .look (after .image) (after .session) i h ≡ E .look (before .image) (before .session) i h)
 
 -- "What is written reads back", "padded with zero, in compressed files with blanks": a write answered 0 where the tape of entry i stands
--- at p, then a rewinding, p skips and a read
+-- at p, then a rewinding, p skips and a read, with a buffer of R bytes or more; "A read answered 0 changes the first R bytes of the buffer only"
 pub record ReadsBack (E : Engine) : Type 0 where
-  pub back : (image : List ℕ) → mounts image ≡ true → (asked : List Asked) (i : ℕ) (t : Tape) → taken E image asked ≡ true
+  pub back : (image : List ℕ) → mounts image ≡ true → (asked : List Asked) (i : ℕ) (t : Tape) → inBytes image asked ≡ true
       → modelAt (modelRun (modelsOf image) asked) i ≡ tape t
-      → (given buffer : List ℕ) → E .takes given ≡ true → length buffer ≡ t .shape .recordLength
+      → (given buffer : List ℕ) → areBytes given ≡ true → t .shape .recordLength ≤ length buffer
       → answered E (run E (mounted E image) asked) (writing i given) .answer ≡ Done
       → (answered E (run E (mounted E image) (asked ++ (writing i given ∷ skipping i (t .position)))) (asking i [] buffer) .answer ≡ Done)
       × (answered E (run E (mounted E image) (asked ++ (writing i given ∷ skipping i (t .position)))) (asking i [] buffer) .buffer
-      ≡ padded (padByte (t .shape .kind)) (t .shape .recordLength) given)
+      ≡ padded (padByte (t .shape .kind)) (t .shape .recordLength) given ++ drop (t .shape .recordLength) buffer)
   -- and of a granule, where the row of entry i stands
-  pub granule : (image : List ℕ) → mounts image ≡ true → (asked : List Asked) (i g : ℕ) (w : Row) → taken E image asked ≡ true
+  pub granule : (image : List ℕ) → mounts image ≡ true → (asked : List Asked) (i g : ℕ) (w : Row) → inBytes image asked ≡ true
       → modelAt (modelRun (modelsOf image) asked) i ≡ row w
-      → (given : List ℕ) → E .takes given ≡ true
+      → (given : List ℕ) → areBytes given ≡ true
       → answered E (run E (mounted E image) asked) (granuleWriting i g given) .answer ≡ Done
       → GranuleBack E (run E (mounted E image) asked) (run E (mounted E image) (asked ++ (granuleWriting i g given ∷ []))) i g (w .shape .recordLength) given
 
@@ -92,22 +87,33 @@ checksBefore3 = notLegal ∷ noEntry ∷ notOpen ∷ notSequential ∷ isProtect
 -- "A lawful write is refused exactly when there is no room or 65,535 records stand before it"
 pub record RoomAlone (E : Engine) : Type 0 where
   pub refusing : (image : List ℕ) → mounts image ≡ true → (asked : List Asked) (i : ℕ) (t : Tape) (given : List ℕ) (f : Facts)
-      → taken E image asked ≡ true → E .takes given ≡ true
+      → inBytes image asked ≡ true → areBytes given ≡ true
       → modelAt (modelRun (modelsOf image) asked) i ≡ tape t
       → f ≡ tapeFacts (openModels (modelRun (modelsOf image) asked)) given 0 t
       → firstOf checksBefore3 f ≡ Done
       → (((leb mostRecords (t .position) || isFull f) ≡ true → answered E (run E (mounted E image) asked) (writing i given) .answer ≡ Refused NoRoom)
       × ((leb mostRecords (t .position) || isFull f) ≡ false → answered E (run E (mounted E image) asked) (writing i given) .answer ≡ Done))
 
--- "flags: 1 marked, 2 write protected, 3 both"
-unfoldable pub flagsOf : Tape → ℕ
-flagsOf t = elim (t .marked) [ true ↦ 1 | false ↦ 0 ] + elim (t .shape .protected) [ true ↦ 2 | false ↦ 0 ]
+-- the count and the flags of a file: "flags: 1 marked, 2 write protected, 3 both"; "kind 4 has count 0 and is not marked"
+unfoldable pub countOf : Model → ℕ
+countOf nothing = 0
+countOf (tape t) = length (t .records)
+countOf (row w) = 0
 
--- "writing count and flags": the count that a closing stores is the tape's own length, and the flags are its mark and the file's protection
+unfoldable pub flagsOf : Model → ℕ
+flagsOf nothing = 0
+flagsOf (tape t) = elim (t .marked) [ true ↦ 1 | false ↦ 0 ] + elim (t .shape .protected) [ true ↦ 2 | false ↦ 0 ]
+flagsOf (row w) = elim (w .shape .protected) [ true ↦ 2 | false ↦ 0 ]
+
+-- the file is closed
+abbrev pub closing : ℕ → Asked
+closing i = record { entry = i; request = Position RewindOffline; given = []; buffer = [] }
+
+-- "close, writing count and flags to bytes 16–19 of the entry": the count that a closing stores is the tape's own length, and the flags are its mark and
+-- the file's protection
 pub record CountsStored (E : Engine) : Type 0 where
-  pub stored : (image : List ℕ) → mounts image ≡ true → (asked : List Asked) (i : ℕ) (t : Tape) → taken E image asked ≡ true
-      → modelAt (modelRun (modelsOf image) asked) i ≡ tape t
-      → (a : Asked) → a ≡ record { entry = i; request = Position RewindOffline; given = []; buffer = [] }
-      → answered E (run E (mounted E image) asked) a .answer ≡ Done
-      → (entryAt (tableOf (answered E (run E (mounted E image) asked) a .image)) i .count ≡ length (t .records))
-      × (entryAt (tableOf (answered E (run E (mounted E image) asked) a .image)) i .flags ≡ flagsOf t)
+  pub stored : (image : List ℕ) → mounts image ≡ true → (asked : List Asked) (i : ℕ) → inBytes image asked ≡ true
+      → (m : Model) → modelAt (modelRun (modelsOf image) asked) i ≡ m
+      → answered E (run E (mounted E image) asked) (closing i) .answer ≡ Done
+      → (entryAt (tableOf (answered E (run E (mounted E image) asked) (closing i) .image)) i .count ≡ countOf m)
+      × (entryAt (tableOf (answered E (run E (mounted E image) asked) (closing i) .image)) i .flags ≡ flagsOf m)

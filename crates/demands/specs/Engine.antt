@@ -1,11 +1,12 @@
 -- What an engine is, what a caller sees of it, and a run of requests from a mounted image. The demands are stated over these. Definitions only.
-use mathlib.Core.Bool.{Bool, true, _&&_}
+use mathlib.Core.Bool.{Bool, _&&_}
 use mathlib.Core.List.{List, [], _∷_, map}
 use Prim.Native.Nat.{ℕ}
+use lib.Dec.{ltb}
 use Rattle.geometry.specs.Lists.{every, numbersFrom}
 use Rattle.geometry.specs.Sizes.{entries}
 use Rattle.requests.specs.Numbers.{numberOf}
-use Rattle.sessions.specs.Session.{bare, unheld, spotOf}
+use Rattle.sessions.specs.Session.{bare, unheld, spotOf, typed}
 use Rattle.mounting.specs.Mounting.{Mounted, plainMount, bufferedMount}
 use Rattle.steps.specs.Step.{After, plainStep, bufferedStep}
 use Rattle.steps.specs.Look.{plainLook, bufferedLook}
@@ -17,12 +18,10 @@ use Rattle.sessions.specs.declared.BufferedSession.{BufferedSession}
 use Rattle.sessions.specs.declared.Spot.{Spot}
 
 -- an engine: what it mounts, what it answers, where its files stand, and what it shows of a granule. `seen` is its session as a reader
--- sees it: a plain one holds no sector. `takes` says which lists of numbers it takes for bytes: a session as a value can hold any, one that stands in
--- bytes only bytes
+-- sees it: a plain one holds no sector
 pub record Engine : Type 1 where
   pub Session : Type 0
   pub seen : Session → BufferedSession
-  pub takes : List ℕ → Bool
   pub mount : List ℕ → Mounted Session
   pub request : List ℕ → Session → ℕ → Request → List ℕ → List ℕ → After Session
   pub position : Session → ℕ → Spot
@@ -30,13 +29,12 @@ pub record Engine : Type 1 where
 
 -- ours: one with no buffer, and "one with a blocking buffer for each open file"
 abbrev pub plainEngine : Engine
-plainEngine = record { Session = plain.Session; seen = unheld; takes = λ b. true; mount = plainMount; request = plainStep; position = spotOf; look = plainLook }
+plainEngine = record { Session = plain.Session; seen = unheld; mount = plainMount; request = plainStep; position = spotOf; look = plainLook }
 
 abbrev pub bufferedEngine : Engine
 bufferedEngine = record {
   Session = BufferedSession;
   seen = λ s. s;
-  takes = λ b. true;
   mount = bufferedMount;
   request = bufferedStep;
   position = λ s. spotOf (bare s);
@@ -90,6 +88,23 @@ run E w (a ∷ rest) = run E (stepOf E w a) rest
 unfoldable pub mounted : (E : Engine) → List ℕ → Standing (E .Session)
 mounted E image = record { image = image; session = E .mount image .session }
 
--- the image that is mounted and the bytes that each request is given are such as the engine takes
-unfoldable pub taken : (E : Engine) → List ℕ → List Asked → Bool
-taken E image asked = E .takes image && every (λ a. E .takes (a .given)) asked
+-- ---- what is lent are bytes, and a session is as its type says
+
+-- a byte is a number below 256
+abbrev pub isByte : ℕ → Bool
+isByte x = ltb x 256
+
+abbrev pub areBytes : List ℕ → Bool
+areBytes b = every isByte b
+
+-- requests that are given bytes
+abbrev pub giveBytes : List Asked → Bool
+giveBytes asked = every (λ a. areBytes (a .given)) asked
+
+-- an image of bytes, and requests that are given bytes
+unfoldable pub inBytes : List ℕ → List Asked → Bool
+inBytes image asked = areBytes image && giveBytes asked
+
+-- what the types of src/ say of an image and a session: the image and the buffers are bytes; so many entries, states and bytes of a buffer there are
+unfoldable pub sound : List ℕ → BufferedSession → Bool
+sound image s = areBytes image && (typed s && every (λ b. areBytes (b .buffer)) (s .files))

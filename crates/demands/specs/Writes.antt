@@ -1,6 +1,5 @@
 -- How many sectors of the image each engine writes. "A blocking buffer of 360 bytes, put back before another sector takes it" is there to save
--- them: of a blocked file's records that lie in one sector the plain engine writes each, the buffered engine all at once. As a statement over
--- the two engines.
+-- them: of a blocked file's records that lie in one sector the plain engine writes each, the buffered engine all at once. As statements over engines.
 use mathlib.Core.Path.{_≡_}
 use mathlib.Core.Bool.{Bool, true, false, _&&_}
 use mathlib.Core.List.{List, [], _∷_, _++_, map}
@@ -14,18 +13,16 @@ use Rattle.directory.specs.Entries.{entryAt, isKind}
 use Rattle.sessions.specs.Session.{bare, fileOf, hasBuffer}
 use Rattle.steps.specs.Effects.{Effect, hold, change, store, stamp, putBack, effects, Bench, bufferedDo}
 use Rattle.steps.specs.Next.{Scene}
-use Rattle.steps.specs.Step.{heldOf, plainScene, bufferedScene}
+use Rattle.steps.specs.Step.{bufferedScene}
 use Rattle.tapes.specs.Model.{Asked}
-use Rattle.demands.specs.Engine.{Engine, plainEngine, bufferedEngine, Standing, answered, stepOf, reports}
-use Rattle.demands.specs.Demand2.{writing}
+use Rattle.demands.specs.Engine.{Engine, Standing, answered, stepOf, reports, giveBytes, sound}
+use Rattle.demands.specs.Demand2.{writing, closing}
+use Rattle.demands.specs.Buffer.{fileAt}
 use Rattle.directory.specs.declared.Entry.{Entry}
 use Rattle.requests.specs.declared.Answer.{Answer}
 use Rattle.requests.specs.declared.Answer.the-variants.{Done, Met, Refused}
-use Rattle.requests.specs.declared.Order.the-variants.{RewindOffline}
 use Rattle.requests.specs.declared.Request.{Request}
-use Rattle.requests.specs.declared.Request.the-variants.{Position}
 use Rattle.sessions.specs.declared.BufferedSession.{BufferedSession}
-use Rattle.sessions.specs.declared.Session.{Session}
 
 -- ---- the sectors that one effect writes
 
@@ -69,65 +66,68 @@ unfoldable pub bufferedSum : Scene → List Effect → Bench → ℕ
 bufferedSum c [] w = 0
 bufferedSum c (x ∷ xs) w = bufferedWrites (c .entry) x w + bufferedSum c xs (bufferedDo c x w)
 
--- what a request finds of its file: the image, and the buffer
-abbrev pub benchOf : Standing BufferedSession → ℕ → Bench
-benchOf w i = record { image = w .image; file = heldOf (w .session) i }
+module _ (E : Engine) where
+  -- what a request finds: its file; and the image, and the buffer
+  abbrev pub sceneAt : Standing (E .Session) → Asked → Scene
+  sceneAt w a = bufferedScene (w .image) (E .seen (w .session)) (a .entry) (a .given)
 
-unfoldable pub plainCount : Standing Session → Asked → ℕ
-plainCount w a = plainSum (effectsOf (answered plainEngine w a .answer) (a .request) (plainScene (w .image) (w .session) (a .entry) (a .given)))
+  abbrev pub benchAt : Standing (E .Session) → ℕ → Bench
+  benchAt w i = record { image = w .image; file = fileAt E w i }
 
-unfoldable pub bufferedCount : Standing BufferedSession → Asked → ℕ
-bufferedCount w a =
-    let c : Scene = bufferedScene (w .image) (w .session) (a .entry) (a .given) in
-    bufferedSum c (effectsOf (answered bufferedEngine w a .answer) (a .request) c) (benchOf w (a .entry))
+  -- an engine that writes straight, and one that writes by way of the buffer
+  unfoldable pub plainCount : Standing (E .Session) → Asked → ℕ
+  plainCount w a = plainSum (effectsOf (answered E w a .answer) (a .request) (sceneAt w a))
 
--- ---- a run
+  unfoldable pub bufferedCount : Standing (E .Session) → Asked → ℕ
+  bufferedCount w a = bufferedSum (sceneAt w a) (effectsOf (answered E w a .answer) (a .request) (sceneAt w a)) (benchAt w (a .entry))
 
--- the sum over a run of what `count` says of each request
-unfoldable pub inRun : (E : Engine) → (Standing (E .Session) → Asked → ℕ) → Standing (E .Session) → List Asked → ℕ
-inRun E count w [] = 0
-inRun E count w (a ∷ rest) = count w a + inRun E count (stepOf E w a) rest
+  -- ---- a run
 
--- every request of a run is answered 0
-unfoldable pub allDone : (E : Engine) → Standing (E .Session) → List Asked → Bool
-allDone E w asked = every (λ r. eqb (r .number) 0) (reports E w asked)
+  -- the sum over a run of what `count` says of each request
+  unfoldable pub inRun : (Standing (E .Session) → Asked → ℕ) → Standing (E .Session) → List Asked → ℕ
+  inRun count w [] = 0
+  inRun count w (a ∷ rest) = count w a + inRun count (stepOf E w a) rest
+
+  -- every request of a run is answered 0
+  unfoldable pub allDone : Standing (E .Session) → List Asked → Bool
+  allDone w asked = every (λ r. eqb (r .number) 0) (reports E w asked)
 
 -- records written to entry i one behind another
 abbrev pub records : ℕ → List (List ℕ) → List Asked
 records i givens = map (writing i) givens
 
--- and the file then closed
-abbrev pub closing : ℕ → Asked
-closing i = record { entry = i; request = Position RewindOffline; given = []; buffer = [] }
-
 -- ---- what is saved
 
 -- what is counted as none changes nothing
-pub record Counted : Type 0 where
-  pub plain : (w : Standing Session) (a : Asked) → plainCount w a ≡ 0 → answered plainEngine w a .image ≡ w .image
-  pub buffered : (w : Standing BufferedSession) (a : Asked) → bufferedCount w a ≡ 0 → answered bufferedEngine w a .image ≡ w .image
+pub record Counted (E : Engine) (count : Standing (E .Session) → Asked → ℕ) : Type 0 where
+  pub none : (w : Standing (E .Session)) (a : Asked) → count w a ≡ 0 → answered E w a .image ≡ w .image
 
 -- entry i is a blocked file with q records in a sector, and stands at position p
-pub record BlockedAt (s : Session) (i p q : ℕ) : Type 0 where
+pub record BlockedAt (s : BufferedSession) (i p q : ℕ) : Type 0 where
   pub kind : isKind blocked (entryAt (s .table) i) ≡ true
-  pub position : fileOf (s .files) i .position ≡ p
+  pub position : fileOf (bare s .files) i .position ≡ p
   pub many : perSector (entryAt (s .table) i .length) ≡ q
 
--- the records given are written there one behind another, each answered 0
-pub record Saving : Type 0 where
-  -- the plain engine writes a sector for each record
-  pub plain : (w : Standing Session) (i p q : ℕ) → BlockedAt (w .session) i p q → (givens : List (List ℕ)) → allDone plainEngine w (records i givens) ≡ true
-      → inRun plainEngine plainCount w (records i givens) ≡ length givens
-  -- the buffered engine the changed one that it held before, if that is another, and one each time that the next record lies in another sector
-  pub buffered : (w : Standing BufferedSession) (i p q : ℕ) → BlockedAt (bare (w .session)) i p q
-      → (given : List ℕ) (givens : List (List ℕ)) → allDone bufferedEngine w (records i (given ∷ givens)) ≡ true
-      → inRun bufferedEngine bufferedCount w (records i (given ∷ givens)) ≡ takeWrites (p / q) (benchOf w i) + ((p + length givens) / q - p / q)
+-- and these are asked there, each answered 0
+pub record Writing (E : Engine) (w : Standing (E .Session)) (i p q : ℕ) (asked : List Asked) : Type 0 where
+  pub isSound : sound (w .image) (E .seen (w .session)) ≡ true
+  pub standing : BlockedAt (E .seen (w .session)) i p q
+  pub bytes : giveBytes asked ≡ true
+  pub done : allDone E w asked ≡ true
+
+-- E writes straight, F by way of the buffer
+pub record Saving (E F : Engine) : Type 0 where
+  -- the first writes a sector for each record
+  pub plain : (w : Standing (E .Session)) (i p q : ℕ) (givens : List (List ℕ)) → Writing E w i p q (records i givens)
+      → inRun E (plainCount E) w (records i givens) ≡ length givens
+  -- the second the changed one that it held before, if that is another, and one each time that the next record lies in another sector
+  pub buffered : (w : Standing (F .Session)) (i p q : ℕ) (given : List ℕ) (givens : List (List ℕ)) → Writing F w i p q (records i (given ∷ givens))
+      → inRun F (bufferedCount F) w (records i (given ∷ givens)) ≡ takeWrites (p / q) (benchAt F w i) + ((p + length givens) / q - p / q)
   -- so up to q records from a sector's first on write at most one sector, and none if nothing changed was held before
-  pub inSector : (w : Standing BufferedSession) (i p q : ℕ) → BlockedAt (bare (w .session)) i p q → p % q ≡ 0
-      → (givens : List (List ℕ)) → length givens ≤ q → allDone bufferedEngine w (records i givens) ≡ true
-      → (inRun bufferedEngine bufferedCount w (records i givens) ≤ 1)
-      × (heldOf (w .session) i .changed ≡ false → inRun bufferedEngine bufferedCount w (records i givens) ≡ 0)
+  pub inSector : (w : Standing (F .Session)) (i p q : ℕ) (givens : List (List ℕ)) → Writing F w i p q (records i givens) → p % q ≡ 0 → length givens ≤ q
+      → (inRun F (bufferedCount F) w (records i givens) ≤ 1)
+      × (fileAt F w i .changed ≡ false → inRun F (bufferedCount F) w (records i givens) ≡ 0)
   -- and a whole file, written from the beginning on with nothing changed held, and closed: each of its sectors once, and the directory
-  pub whole : (w : Standing BufferedSession) (i q : ℕ) → BlockedAt (bare (w .session)) i 0 q → heldOf (w .session) i .changed ≡ false
-      → (given : List ℕ) (givens : List (List ℕ)) → allDone bufferedEngine w (records i (given ∷ givens) ++ (closing i ∷ [])) ≡ true
-      → inRun bufferedEngine bufferedCount w (records i (given ∷ givens) ++ (closing i ∷ [])) ≡ (length givens / q + 1) + 1
+  pub whole : (w : Standing (F .Session)) (i q : ℕ) (given : List ℕ) (givens : List (List ℕ)) → fileAt F w i .changed ≡ false
+      → Writing F w i 0 q (records i (given ∷ givens) ++ (closing i ∷ []))
+      → inRun F (bufferedCount F) w (records i (given ∷ givens) ++ (closing i ∷ [])) ≡ (length givens / q + 1) + 1

@@ -1,6 +1,6 @@
 -- Document 01, "An entry is also found by name in a lent list of entries". Definitions only.
 use mathlib.Core.Bool.{Bool, true, false, _&&_, not}
-use mathlib.Core.List.{List}
+use mathlib.Core.List.{List, [], _∷_}
 use Prim.Native.Nat.{ℕ}
 use lib.ListN.{length}
 use lib.Dec.{eqb, ltb}
@@ -14,12 +14,17 @@ use Rattle.directory.specs.declared.Found.the-variants.{Number, Nothing}
 unfoldable pub matches : List ℕ → Entry → Bool
 matches name e = eqb (length name) 8 && (not (isFree e) && same (e .name) name)
 
+-- what a search tells, by document 01's numbers: 0 and the entry's, or 8, "no such entry"
+abbrev pub told : Found → ℕ × List ℕ
+told (Number i) = (0, i ∷ [])
+told Nothing = (8, [])
+
 -- "the lowest match, or 8"
-unfoldable pub find : List Entry → List ℕ → Found
+unfoldable pub find : List Entry → List ℕ → ℕ × List ℕ
 find table name =
     let i : ℕ = firstWith (matches name) table in
-    elim (ltb i (length table)) [ true ↦ Number i | false ↦ Nothing ]
+    elim (ltb i (length table)) [ true ↦ (0, i ∷ []) | false ↦ (8, []) ]
 
 -- the same over the directory's bytes
-unfoldable pub search : List ℕ → List ℕ → Found
+unfoldable pub search : List ℕ → List ℕ → ℕ × List ℕ
 search image name = find (tableOf image) name

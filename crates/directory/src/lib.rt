@@ -16,7 +16,7 @@ ghost use Rattle.geometry.specs.Lists as Lists;
 ghost use Rattle.directory.specs.Entries.{entryFrom, entryBytes, oneWord, freeEntry, tableOf, entryAt, isMarked, isProtected};
 ghost use Rattle.directory.specs.Rules.{capital, digit, isName, extentFits, longest, lengthFits, countGood, randomBare, tableGood};
 ghost use Rattle.directory.specs.Grouped.{entryGood, usedGood, twoGood};
-ghost use Rattle.directory.specs.Search.{matches};
+ghost use Rattle.directory.specs.Search.{matches, told};
 ghost use Rattle.directory.specs.Search as Search;
 ghost use Rattle.directory.specs.Stamp.{stampBytes, stamped};
 
@@ -426,7 +426,7 @@ pub fn is_named(e: Entry, name: &[u8]) -> bool
 
 // The number of the lowest entry of an image's directory that has that name.
 pub fn search(image: &[u8], name: &[u8]) -> Found
-    ensures { λ r. ⌜ r ≡ Search.search (now (image .entry)) (now (name .entry)) ⌝ }
+    ensures { λ r. ⌜ told r ≡ Search.search (now (image .entry)) (now (name .entry)) ⌝ }
 {
     let mut i = 0;
     while i < Geometry::ENTRIES {

@@ -3,11 +3,11 @@ use directory::Entry;
 use directory::Found;
 use directory::is_named;
 ghost use mathlib.Core.Path.{_≡_};
-ghost use Rattle.directory.specs.Search.{find};
+ghost use Rattle.directory.specs.Search.{told, find};
 
 // The number of the lowest entry of a list that has that name.
 pub fn lookup(entries: &[Entry], name: &[u8]) -> Found
-    ensures { λ r. ⌜ r ≡ find (now (entries .entry)) (now (name .entry)) ⌝ }
+    ensures { λ r. ⌜ told r ≡ find (now (entries .entry)) (now (name .entry)) ⌝ }
 {
     let mut i = 0;
     while i < entries.len() {
@@ -21,7 +21,7 @@ pub fn lookup(entries: &[Entry], name: &[u8]) -> Found
 
 // The same in a table held by value, for callers that lend nothing.
 pub fn lookup_in(table: [Entry; 18], name: &[u8]) -> Found
-    ensures { λ r. ⌜ r ≡ find table (now (name .entry)) ⌝ }
+    ensures { λ r. ⌜ told r ≡ find table (now (name .entry)) ⌝ }
 {
     lookup(&table, name)
 }

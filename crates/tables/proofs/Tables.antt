@@ -17,7 +17,7 @@ use Rattle.geometry.proofs.Tests.{or-either, and-both, every-getD, every-from, 
 use Rattle.directory.specs.Entries.{freeEntry, isFree}
 use Rattle.directory.specs.Rules.{namesDiffer, extentsApart, tableGood}
 use Rattle.directory.specs.Grouped.{entryGood, twoGood}
-use Rattle.directory.specs.Search.{matches, find}
+use Rattle.directory.specs.Search.{matches, told, find}
 use Rattle.directory.proofs.Grouped.{grouped}
 use Rattle.directory.proofs.Find.{found-none}
 use Rattle.directory.specs.declared.Entry.{Entry}
@@ -179,10 +179,10 @@ unfolding matches
 match-none name e h = rw (ne-eqb (length name) 8 h)
 
 -- nothing is found by a name of another length, nor in no table
-pub unnamed-none : (t : List Entry) (name : List ℕ) → ¬ (length name ≡ 8) → find t name ≡ Nothing
+pub unnamed-none : (t : List Entry) (name : List ℕ) → ¬ (length name ≡ 8) → find t name ≡ told Nothing
 unnamed-none t name h = found-none t name freeEntry (λ j l. match-none name (getD t j freeEntry) h)
 
-pub empty-none : (t : List Entry) (name : List ℕ) → t ≡ [] → find t name ≡ Nothing
+pub empty-none : (t : List Entry) (name : List ℕ) → t ≡ [] → find t name ≡ told Nothing
 empty-none t name e = found-none t name freeEntry (λ j l. absurd (omega (arith, ap length e)))
 
 -- ---- extents

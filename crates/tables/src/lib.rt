@@ -20,7 +20,7 @@ ghost use Rattle.geometry.specs.Lists.{every, pairwise};
 ghost use Rattle.directory.specs.Entries.{entryBytes, entryAt};
 ghost use Rattle.directory.specs.Rules.{namesDiffer, extentsApart, tableGood};
 ghost use Rattle.directory.specs.Grouped.{entryGood};
-ghost use Rattle.directory.specs.Search.{find};
+ghost use Rattle.directory.specs.Search.{told, find};
 ghost use Rattle.tables.specs.Numbers.{longAt, numberIn};
 ghost use Rattle.tables.specs.Rows.{rowOf};
 ghost use Rattle.tables.specs.Tables.{Wide, hasRows, countAt, entryIn, entryOf, countOf, entriesIn, tableIn, layEntry, layCounts, copied};
@@ -333,7 +333,7 @@ pub fn entry_in(b: &[u8], width: usize, rows: usize, i: usize) -> Entry
 
 // The number of the lowest entry of the table that has that name.
 pub fn search_in(b: &[u8], width: usize, rows: usize, name: &[u8]) -> Found
-    ensures { λ r. ⌜ r ≡ find (tableIn width rows (now (b .entry))) (now (name .entry)) ⌝ }
+    ensures { λ r. ⌜ told r ≡ find (tableIn width rows (now (b .entry))) (now (name .entry)) ⌝ }
 {
     if name.len() != 8 {
         return Found::Nothing;

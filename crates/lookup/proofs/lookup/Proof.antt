@@ -50,7 +50,7 @@ use denote.Exit.{yes}
 use denote.Triple.Clauses.{ensured, lasts}
 use borrow.Author.Tests.{lt-ltb, le-ltb}
 use borrow.Author.Count.{below-more}
-use Rattle.directory.specs.Search.{matches, find}
+use Rattle.directory.specs.Search.{matches, told, find}
 use Rattle.directory.specs.declared.Entry.{Entry}
 use Rattle.directory.specs.declared.Found.{Found}
 use Rattle.directory.specs.declared.Found.the-variants.{Number, Nothing}
@@ -155,7 +155,7 @@ module _ {M : Type 1} (𝓤 : URA M) (H : Heap 𝓤) (A : Atoms 𝓤) (W : Given
   abbrev made : Found → Val
   made r = EL.val S.the-type S′.the-laws r
 
-  exits : (r : Found) → r ≡ find ys (nm .now) → Is S.the-row r (made r ∷ []) → ent 𝓤 (⋆ 𝓤 H A (‵ (flft κ q) ∷ ‵ (flft κ₂ q₂) ∷ ‵ Own₁ ∷ ‵ Own₂ ∷ [])) (Post (made r))
+  exits : (r : Found) → told r ≡ find ys (nm .now) → Is S.the-row r (made r ∷ []) → ent 𝓤 (⋆ 𝓤 H A (‵ (flft κ q) ∷ ‵ (flft κ₂ q₂) ∷ ‵ Own₁ ∷ ‵ Own₂ ∷ [])) (Post (made r))
   exits r e is =
       qed W (‵ (flft κ q) ∷ ‵ (flft κ₂ q₂) ∷ ‵ Own₁ ∷ ‵ Own₂ ∷ []) ∵
       suffices ! _ (ends-at 𝓤 H A lookup.ended stayed (lookup.clauses 𝓤 H A mem run) W (((κ, (κ₂, tt)), (q, (q₂, tt)), tt, (es, (nm, tt)), at), tt) (made r) r (tt, (tt, tt)) (tt, (tt, tt))) $ says ! e $
@@ -223,7 +223,7 @@ module _ {M : Type 1} (𝓤 : URA M) (H : Heap 𝓤) (A : Atoms 𝓤) (W : Given
     Again p = Below 𝓤 H A Fewer (λ p′. Had (p′ .i)) p
 
     -- every local is freed, and the function ends
-    ends : (r : Found) → r ≡ find ys (nm .now) → Is S.the-row r (made r ∷ [])
+    ends : (r : Found) → told r ≡ find ys (nm .now) → Is S.the-row r (made r ∷ [])
         → Sq W (‵ Shared ∷ ‵ (flft κ q) ∷ ‵ Own₁ ∷ ‵ (flft κ₂ q₂) ∷ ‵ Own₂
         ∷ ‵ (froom T′.mir l₈ 0) ∷ ‵ (fdies T′.mir l₈) ∷ ‵ (froom tyPtr l₇ 0) ∷ ‵ (fdies tyPtr l₇) ∷ ‵ (froom tyBool l₆ 0) ∷ ‵ (fdies tyBool l₆) ∷ ‵ (froom tyBool l₅ 0) ∷ ‵ (fdies tyBool l₅)
         ∷ ‵ (froom word l₄ 0) ∷ ‵ (fdies word l₄) ∷ ‵ (froom word l₃ 0) ∷ ‵ (fdies word l₃) ∷ ‵ (froom slice₂ l₂ 0) ∷ ‵ (fdies slice₂ l₂)

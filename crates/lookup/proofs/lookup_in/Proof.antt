@@ -45,7 +45,7 @@ use denote.Triple.Table.{entered, cited}
 use denote.Triple.Walked.{says, Stays, stay-none, stay-none-slice, walkOf, goes-none, goes-none-slice, Walks, ends-at, walked, walk-meets}
 use denote.Exit.{yes}
 use denote.Triple.Clauses.{ensured, lasts}
-use Rattle.directory.specs.Search.{find}
+use Rattle.directory.specs.Search.{told, find}
 use Rattle.directory.specs.declared.Entry.{Entry}
 use Rattle.directory.specs.declared.Found.{Found}
 use Rattle.directory.proofs.Entry as T
@@ -103,7 +103,7 @@ module _ {M : Type 1} (𝓤 : URA M) (H : Heap 𝓤) (A : Atoms 𝓤) (W : Given
   room : Room R (length xs)
   room = subst (Room R) (sym len) (lit< tt, lit< tt)
 
-  exits : (r : Found) (v : Val) → r ≡ find xs (nm .now) → ent 𝓤 (⋆ 𝓤 H A (‵ (S.the-row .own r (v ∷ [])) ∷ (‵ (flft κ q) ⊛ ‵ ftrue) ∷ ‵ Own₂ ∷ [])) (Post v)
+  exits : (r : Found) (v : Val) → told r ≡ find xs (nm .now) → ent 𝓤 (⋆ 𝓤 H A (‵ (S.the-row .own r (v ∷ [])) ∷ (‵ (flft κ q) ⊛ ‵ ftrue) ∷ ‵ Own₂ ∷ [])) (Post v)
   exits r v e =
       qed W (‵ (S.the-row .own r (v ∷ [])) ∷ (‵ (flft κ q) ⊛ ‵ ftrue) ∷ ‵ Own₂ ∷ []) ∵
       suffices ! _ (ends-at 𝓤 H A lookup-in.ended stayed (lookup-in.clauses 𝓤 H A mem run) W (((κ, tt), (q, tt), tt, (xs, (nm, tt)), at), tt) v r (tt, (tt, tt)) (tt, (tt, tt))) $ says ! e $
@@ -132,8 +132,8 @@ module _ {M : Type 1} (𝓤 : URA M) (H : Heap 𝓤) (A : Atoms 𝓤) (W : Given
         use2 W (raw (Lookup 𝓤 H A mem run .pre to)) (qed W ((‵ (flft (α ∷ []) fullShare) ⊛ (‵ (flft κ q) ⊛ ‵ ftrue)) ∷ ‵ (owns (ShrSlice (named 0) (α ∷ []) R ∷ ShrSlice (named 1) κ u8 ∷ []) (es, (nm, tt)) (v₁ ∷ [], (v₂ ∷ [], tt))) ∷ []) ∵ join ! $ frame ! $ done !) $
         frame ! $ done !
 
-    said : (r : Found) → ent 𝓤 (ensured 𝓤 H A lookup.ended (lookup.clauses 𝓤 H A mem run) (α ∷ [], (κ, tt)) (es, (nm, tt)) tt r) (fact 𝓤 (r ≡ find xs (nm .now)))
-    said r = exE 𝓤 _ (λ ws. snd∗ 𝓤 (sem 𝓤 H A (lasts lookup.ended (α ∷ [], (κ, tt)) (es, (nm, tt)) ws)) (fact 𝓤 (r ≡ find xs (nm .now))))
+    said : (r : Found) → ent 𝓤 (ensured 𝓤 H A lookup.ended (lookup.clauses 𝓤 H A mem run) (α ∷ [], (κ, tt)) (es, (nm, tt)) tt r) (fact 𝓤 (told r ≡ find xs (nm .now)))
+    said r = exE 𝓤 _ (λ ws. snd∗ 𝓤 (sem 𝓤 H A (lasts lookup.ended (α ∷ [], (κ, tt)) (es, (nm, tt)) ws)) (fact 𝓤 (told r ≡ find xs (nm .now))))
 
   -- ---- the local array in memory is a row of entries, and back
   abbrev Row : ℕ → Fml
@@ -175,7 +175,7 @@ module _ {M : Type 1} (𝓤 : URA M) (H : Heap 𝓤) (A : Atoms 𝓤) (W : Given
         move ! (2 ∷ 15 ∷ []) $ join ! $ move ! (0 ∷ 1 ∷ 3 ∷ []) $ use3 W (raw (Lookup 𝓤 H A mem run .pre (to α l₃ γ)) ⊛ ‵ Own₂) (goes α l₃ γ) $ split ! $
         calls-at ! fm (Lookup 𝓤 H A mem run) known (to α l₃ γ) (and-then ! (load ! (from ! (stop !)) (look ! 3 refl)) (and-then ! (load ! (from ! (stop !)) (look ! 8 refl)) (no-more !))) (λ v.
         use1 W (later (some (λ (r : Found). ((‵ (flft (α ∷ []) fullShare) ⊛ (‵ (flft κ q) ⊛ ‵ ftrue)) ⊛ ‵ (S.the-row .own r (v ∷ []))) ⊛ raw (ensured 𝓤 H A lookup.ended (lookup.clauses 𝓤 H A mem run) (α ∷ [], (κ, tt)) (es α l₃ γ, (nm, tt)) tt r)))) (id⊢ 𝓤 _) $ await ! tt $ pick ! (λ r.
-        split ! $ move ! (1 ∷ []) $ use1 W (raw (fact 𝓤 (r ≡ find xs (nm .now)))) (said α l₃ γ r) $ heard ! (r ≡ find xs (nm .now)) (λ e. split ! $ split ! $
+        split ! $ move ! (1 ∷ []) $ use1 W (raw (fact 𝓤 (told r ≡ find xs (nm .now)))) (said α l₃ γ r) $ heard ! (told r ≡ find xs (nm .now)) (λ e. split ! $ split ! $
         -- [the token of α; the token; the result; name; lent; _5; …]: the lifetime ends, and the local is back
         lft-end ! tt $ move ! (0 ∷ 4 ∷ []) $ lent-back ! tt $ use1 W (‵ (froom array l₃ 0)) (back l₃) $ move ! (2 ∷ []) $
         peeks ! S.the-row (Is S.the-row) (shows 𝓤 H A S.the-row) r (v ∷ []) (λ isr.

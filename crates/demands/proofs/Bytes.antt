@@ -1,5 +1,5 @@
 -- What a request lays in an image of bytes is bytes, where the bytes given are.
-use mathlib.Core.Path.{_≡_, refl}
+use mathlib.Core.Path.{_≡_, refl, _∙_}
 use mathlib.Core.Bool.{Bool, true, false, _&&_}
 use mathlib.Core.List.{List, [], _∷_, _++_, map}
 use Prim.Native.Nat.{ℕ, zero, suc, _+_, _-_, _%_, _/_, _≤_, _<_}
@@ -18,6 +18,7 @@ use Rattle.coding.specs.Encode.{keeps, inGap, runLength, runCode, runsCode, enc
 use Rattle.coding.proofs.Runs.{run-le}
 use Rattle.directory.specs.Entries.{isKind}
 use Rattle.directory.specs.Stamp.{stampBytes}
+use Rattle.directory.proofs.Free.{every-append}
 use Rattle.packing.specs.Placing.{filled, changes, fitsHere}
 use Rattle.packing.specs.Reading.{nextSector, goesOn}
 use Rattle.steps.specs.Effects.{Effect, hold, change, store, stamp, putBack, readEffects, storeEffect, blockedEffect, writeEffects, effects, plainDo, plainAll}
@@ -25,17 +26,19 @@ use Rattle.steps.specs.Next.{Scene}
 use Rattle.requests.specs.declared.Order.the-variants.{WriteMark, RewindOnline, RewindOffline, RecordForward, RecordBack, FileForward, FileBack}
 use Rattle.requests.specs.declared.Request.{Request}
 use Rattle.requests.specs.declared.Request.the-variants.{Open, Read, Write, GranuleRead, GranuleWrite, GranuleLook, Position}
-use Rattle.storing.specs.Numbers.{isByte}
-use Rattle.storing.proofs.Bytes.{every-append}
 use Rattle.steps.proofs.Frame.{choice}
+use Rattle.demands.specs.Engine.{isByte, areBytes}
 
 abbrev pub Bytes : List ℕ → Type 0
-Bytes xs = every isByte xs ≡ true
+Bytes xs = areBytes xs ≡ true
 
 byte-is : (x : ℕ) → x < 256 → isByte x ≡ true
 byte-is x h = lt-ltb x 256 h
 
 -- ---- parts of bytes, and bytes laid
+
+both-bytes : (xs ys : List ℕ) → Bytes xs → Bytes ys → Bytes (xs ++ ys)
+both-bytes xs ys h k = every-append isByte xs ys ∙ and-both (areBytes xs) (areBytes ys) h k
 
 every-take : (n : ℕ) (xs : List ℕ) → Bytes xs → Bytes (take n xs)
 unfolding every
@@ -56,13 +59,13 @@ part-bytes xs at n h = every-take n (drop at xs) (every-drop at xs h)
 pub lay-bytes : (img : List ℕ) (at : ℕ) (xs : List ℕ) → Bytes img → Bytes xs → Bytes (lay img at xs)
 lay-bytes img at xs h k = fits-or img at xs
     (λ l. rw (lay-fits img at xs l)
-    (every-append isByte (take at img) (xs ++ drop (at + length xs) img) (every-take at img h)
-    (every-append isByte xs (drop (at + length xs) img) k (every-drop (at + length xs) img h))))
+    (both-bytes (take at img) (xs ++ drop (at + length xs) img) (every-take at img h)
+    (both-bytes xs (drop (at + length xs) img) k (every-drop (at + length xs) img h))))
     (λ l e. rw e h)
 
 padded-bytes : (b n : ℕ) (xs : List ℕ) → b < 256 → Bytes xs → Bytes (padded b n xs)
 unfolding padded
-padded-bytes b n xs l h = every-append isByte xs (replicate (n - length xs) b) h (every-replicate isByte (n - length xs) b (byte-is b l))
+padded-bytes b n xs l h = both-bytes xs (replicate (n - length xs) b) h (every-replicate isByte (n - length xs) b (byte-is b l))
 
 word-bytes : (n : ℕ) → n < 65536 → Bytes (word n)
 unfolding word every
@@ -70,7 +73,7 @@ word-bytes n h = and-both (isByte (n / 256)) _ (byte-is (n / 256) (omega arith))
 
 stamp-bytes : (count flags : ℕ) → flags < 65536 → Bytes (stampBytes count flags)
 unfolding stampBytes
-stamp-bytes count flags h = every-append isByte (word (count % 65536)) (word flags) (word-bytes (count % 65536) (omega arith)) (word-bytes flags h)
+stamp-bytes count flags h = both-bytes (word (count % 65536)) (word flags) (word-bytes (count % 65536) (omega arith)) (word-bytes flags h)
 
 -- ---- the code of a record
 
@@ -89,7 +92,7 @@ runs-bytes (c ∷ s) zero q h =
     let n = runLength 127 gap q (c ∷ s) in
     let le = run-le 127 gap q (c ∷ s) in
     let l : length (take n (c ∷ s)) ≡ n = length-take-le n (c ∷ s) (le .1) in
-    every-append isByte (runCode gap (take n (c ∷ s))) (runsCode (n - 1) c s) (run-bytes gap (take n (c ∷ s)) (omega arith) (every-take n (c ∷ s) h))
+    both-bytes (runCode gap (take n (c ∷ s))) (runsCode (n - 1) c s) (run-bytes gap (take n (c ∷ s)) (omega arith) (every-take n (c ∷ s) h))
     (runs-bytes s (n - 1) c (and-right (isByte c) (every isByte s) h))
 
 code-bytes : (R : ℕ) (given : List ℕ) → Bytes given → Bytes (codeOf R given)
