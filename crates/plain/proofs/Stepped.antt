@@ -1,7 +1,7 @@
 -- A verdict with its effects done straight in the image is the plain step: a plain session is a buffered one that holds nothing, so the scene is the same, and each
 -- answer is its own case of the step.
 use mathlib.Core.Path.{_≡_, refl, sym, ap, _∙_}
-use mathlib.Core.Bool.{Bool, false}
+use mathlib.Core.Bool.{false}
 use mathlib.Core.List.{List}
 use Prim.Native.Nat.{ℕ}
 use lib.ListN.{length, set}
@@ -93,53 +93,57 @@ module _ (image : List ℕ) (t : Session) (i : ℕ) (q : Request) (given buffer 
   unfolding plainStep plainAnswer plainAfter bufferNext
   refused-after x d = rw d
 
-  -- as it is judged of a buffered session that holds nothing
-  abbrev s : BufferedSession
-  s = unheld t
+  -- as it is judged of the buffered session that holds nothing
+  module _ (s : BufferedSession) (s-is : s ≡ unheld t) where
+    abbrev c : Scene
+    c = bufferedScene image s i given
 
-  abbrev c : Scene
-  c = bufferedScene image s i given
+    abbrev a : Answer
+    a = judge q (factsOf (bufferedLegal image s) (openFiles (bare s .files)) (length buffer) q c)
 
-  abbrev ok : Bool
-  ok = bufferedLegal image s
+    abbrev j : Verdict
+    j = judgement (bufferedLegal image s) (openFiles (bare s .files)) (length buffer) q c
 
-  abbrev files : ℕ
-  files = openFiles (bare s .files)
+    same-bare : bare s ≡ t
+    same-bare = ap bare s-is ∙ bare-unheld t
 
-  same-answer : judge q (factsOf ok files (length buffer) q c) ≡ ownAnswer
-  same-answer = rw (unheld-legal image t, bare-unheld t, scene-unheld image t i given)
+    same-scene : c ≡ own
+    same-scene = ap (λ (s : BufferedSession). bufferedScene image s i given) s-is ∙ scene-unheld image t i given
 
-  module _ (v : Verdict) (v-is : v ≡ judgement ok files (length buffer) q c) (moved : List ℕ) (moved-is : moved ≡ bufferNext (judge q (factsOf ok files (length buffer) q c)) q c buffer) where
-    same-verdict : v ≡ ownVerdict
-    same-verdict = rw (same-answer, scene-unheld image t i given) at v-is
+    same-answer : a ≡ ownAnswer
+    same-answer = rw (same-scene, same-bare, s-is) (rw (unheld-legal image t))
 
-    same-moved : moved ≡ bufferNext ownAnswer q own buffer
-    same-moved = rw (same-answer, scene-unheld image t i given) at moved-is
+    module _ (v : Verdict) (v-is : v ≡ j) (moved : List ℕ) (moved-is : moved ≡ bufferNext a q c buffer) where
+      same-verdict : v ≡ ownVerdict
+      same-verdict = rw (same-answer, same-scene) at v-is
 
-    told : (x : Answer) → v .answer ≡ x → ownAnswer ≡ x
-    told x h = sym (ap (λ (v : Verdict). v .answer) same-verdict) ∙ h
+      same-moved : moved ≡ bufferNext ownAnswer q own buffer
+      same-moved = rw (same-answer, same-scene) at moved-is
 
-    abbrev after : List ℕ → BufferedSession → After BufferedSession
-    after new z = record { answer = v .answer; image = new; session = z; buffer = moved }
+      told : (x : Answer) → v .answer ≡ x → ownAnswer ≡ x
+      told x h = sym (ap (λ (v : Verdict). v .answer) same-verdict) ∙ h
 
-    abbrev laid : BufferedSession
-    laid = record { table = set (s .table) i (v .entry); files = set (s .files) (slotOf (bare s .files) i) (fresh (v .file)) }
+      abbrev after : List ℕ → BufferedSession → After BufferedSession
+      after new z = record { answer = v .answer; image = new; session = z; buffer = moved }
 
-    is-next : laid ≡ unheld (next ownVerdict)
-    is-next = set-unheld t i (slotOf (bare s .files) i) (v .entry) (v .file) ∙ rw (bare-unheld t, same-verdict)
+      abbrev laid : BufferedSession
+      laid = record { table = set (s .table) i (v .entry); files = set (s .files) (slotOf (bare s .files) i) (fresh (v .file)) }
 
-    ended : (new : List ℕ) (z : Session) (w : After Session) → record { answer = ownAnswer; image = new; session = z; buffer = bufferNext ownAnswer q own buffer } ≡ w
-        → after new (unheld z) ≡ unheldAfter w
-    ended new z w h = rw (same-moved, ap (λ (v : Verdict). v .answer) same-verdict) (ap unheldAfter h)
+      is-next : laid ≡ unheld (next ownVerdict)
+      is-next = rw (same-bare, same-verdict, s-is) (set-unheld t i (slotOf (t .files) i) (ownVerdict .entry) (ownVerdict .file))
 
-    pub done-told : v .answer ≡ Done → (new : List ℕ) → new ≡ plainAll c (effects q c) image → after new laid ≡ unheldAfter (plainStep image t i q given buffer)
-    done-told d new new-is =
-        ap (after new) is-next
-        ∙ ap (λ (x : List ℕ). after x (unheld (next ownVerdict))) (new-is ∙ ap (λ (c : Scene). plainAll c (effects q c) image) (scene-unheld image t i given))
-        ∙ ended (plainAll own (effects q own) image) (next ownVerdict) _ (done-after (told Done d))
+      ended : (new : List ℕ) (z : Session) (w : After Session) → record { answer = ownAnswer; image = new; session = z; buffer = bufferNext ownAnswer q own buffer } ≡ w
+          → after new (unheld z) ≡ unheldAfter w
+      ended new z w h = rw (same-moved, ap (λ (v : Verdict). v .answer) same-verdict) (ap unheldAfter h)
 
-    pub met-told : (x : Edge) → v .answer ≡ Met x → after image laid ≡ unheldAfter (plainStep image t i q given buffer)
-    met-told x d = ap (after image) is-next ∙ ended image (next ownVerdict) _ (met-after x (told (Met x) d))
+      pub done-told : v .answer ≡ Done → (new : List ℕ) → new ≡ plainAll c (effects q c) image → after new laid ≡ unheldAfter (plainStep image t i q given buffer)
+      done-told d new new-is =
+          ap (after new) is-next
+          ∙ ap (λ (x : List ℕ). after x (unheld (next ownVerdict))) (new-is ∙ ap (λ (c : Scene). plainAll c (effects q c) image) same-scene)
+          ∙ ended (plainAll own (effects q own) image) (next ownVerdict) _ (done-after (told Done d))
 
-    pub refused-told : (x : Refusal) → v .answer ≡ Refused x → after image s ≡ unheldAfter (plainStep image t i q given buffer)
-    refused-told x d = ended image t _ (refused-after x (told (Refused x) d))
+      pub met-told : (x : Edge) → v .answer ≡ Met x → after image laid ≡ unheldAfter (plainStep image t i q given buffer)
+      met-told x d = ap (after image) is-next ∙ ended image (next ownVerdict) _ (met-after x (told (Met x) d))
+
+      pub refused-told : (x : Refusal) → v .answer ≡ Refused x → after image s ≡ unheldAfter (plainStep image t i q given buffer)
+      refused-told x d = ap (after image) s-is ∙ ended image t _ (refused-after x (told (Refused x) d))
