@@ -24,8 +24,6 @@ use Rattle.straight.specs.Straight.{Encoded}
 use Rattle.held.specs.Held.{bench, stateWith, lent, scene, heldAll, readWith, writeWith}
 use Rattle.held.proofs.Agree.{held-same, held-all}
 use Rattle.buffered.specs.Buffered.{effectsWith}
-use Rattle.sessions.specs.Session.{extentWith}
-use Rattle.sessions.specs.declared.BufferedFile.{BufferedFile}
 use Rattle.requests.proofs.Request as request
 use Rattle.requests.specs.declared.Order.{Order}
 use Rattle.requests.specs.declared.Order.the-variants.{WriteMark, RewindOnline, RewindOffline, RecordForward, RecordBack, FileForward, FileBack}
@@ -34,14 +32,6 @@ use Rattle.requests.specs.declared.Request.the-variants.{Open, Read, Write, Gra
 use Rattle.directory.specs.declared.Entry.{Entry}
 use Rattle.sessions.specs.declared.Holding.{Holding}
 use Rattle.sessions.specs.declared.OpenFile.{OpenFile}
-
--- the scene of a request, from its parts
-abbrev pub sceneWith : List ℕ → ℕ → Entry → BufferedFile → List ℕ → Scene
-sceneWith image i e b given = record { number = i; entry = e; file = b .file; bytes = extentWith e b image; given = given }
-
--- k is the sector that a record read of a compressed file lies in
-abbrev pub Found : List ℕ → Request → Entry → BufferedFile → ℕ → Type 0
-Found image q e b k = q ≡ Read → isKind compressed e ≡ true → k ≡ startOf (extentWith e b image) (b .file .here) .sector
 
 goes-elsewhere : (bytes : List ℕ) (p : Place) → not (eqb (p .sector) (startOf bytes p .sector)) ≡ goesOn bytes p
 unfolding startOf
@@ -84,11 +74,15 @@ effects-with (Position RecordBack) c code k h z = refl
 effects-with (Position FileForward) c code k h z = refl
 effects-with (Position FileBack) c code k h z = refl
 
+-- what a request goes by: its entry, an extent in the image, effects that suit it, and that sector and the code
+abbrev pub Goes : List ℕ → Request → Scene → List ℕ → ℕ → Type 0
+Goes image q c code k =
+    (c .number < entries) × (sector * (c .entry .first + c .entry .sectors) ≤ length image) × AllSuit (c .entry) (effects q c)
+    × (q ≡ Read → isKind compressed (c .entry) ≡ true → k ≡ startOf (c .bytes) (c .file .here) .sector) × Encoded q (c .entry) (c .given) code
+
 -- what is done with a lent buffer is what is done with the state whose buffer it is
 module _ (c : Scene) (q : Request) (code : List ℕ) (k : ℕ) (image : List ℕ) (h : Holding) (buffer : List ℕ) where
-  pub acts : (c .number < entries) × (sector * (c .entry .first + c .entry .sectors) ≤ length image) × AllSuit (c .entry) (effects q c)
-      × (q ≡ Read → isKind compressed (c .entry) ≡ true → k ≡ startOf (c .bytes) (c .file .here) .sector) × Encoded q (c .entry) (c .given) code
-      → length buffer ≡ sector → {new room : List ℕ} {g : Holding}
+  pub acts : Goes image q c code k → length buffer ≡ sector → {new room : List ℕ} {g : Holding}
       → lent new g room ≡ heldAll (scene (c .number) (c .entry)) (effectsWith q (c .entry) (c .file) (c .given) code k) (lent image h buffer)
       → bench new (stateWith (c .file) g room) ≡ bufferedAll c (effects q c) (bench image (stateWith (c .file) h buffer))
   acts p l z =

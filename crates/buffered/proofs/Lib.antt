@@ -1,4 +1,2 @@
 pub mod Acts
 pub mod Stepped
-pub mod Laid
-pub mod Served

@@ -1,92 +1,149 @@
--- A request is what its verdict says: nothing is held, so the scene that is judged is the engine's own; and each answer is its own case of the step.
-use mathlib.Core.Path.{_≡_, refl}
-use mathlib.Core.Bool.{true}
-use mathlib.Core.List.{List, []}
-use Prim.Native.Nat.{ℕ, _<_}
+-- A verdict with its effects done straight in the image is the plain step: a plain session is a buffered one that holds nothing, so the scene is the same, and each
+-- answer is its own case of the step.
+use mathlib.Core.Path.{_≡_, refl, sym, ap, _∙_}
+use mathlib.Core.Bool.{false}
+use mathlib.Core.List.{List}
+use Prim.Native.Nat.{ℕ}
 use lib.ListN.{length, set}
-use lib.Seq.{sets, set-getD}
-use Rattle.geometry.specs.Bytes.{part}
-use Rattle.geometry.specs.Sizes.{entries}
-use Rattle.directory.specs.Entries.{entryAt, freeEntry}
+use lib.Seq.{set-getD}
+use Rattle.geometry.proofs.Tests.{either, chosen, not-chosen}
+use Rattle.directory.specs.Entries.{freeEntry}
 use Rattle.requests.specs.Judge.{judge}
-use Rattle.sessions.specs.Session.{extent, fileOf, slotOf, openFiles, legal}
+use Rattle.sessions.specs.Session.{idle, fresh, bare, unheld, fileOf, slotOf, openFiles, extent, holdsOne, extentWith, legal, bufferedLegal}
+use Rattle.sessions.proofs.Unheld.{bare-unheld, unheld-at, unheld-legal}
 use Rattle.steps.specs.Effects.{effects, plainAll}
-use Rattle.steps.specs.Next.{Scene, factsOf, codeLength}
-use Rattle.steps.specs.Step.{plainScene, plainAnswer, plainAfter, plainStep}
-use Rattle.steps.specs.Verdict.{seenScene, entryNext, fileNext, bufferNext, answerOf, verdictOf}
-use Rattle.steps.proofs.Seen.{nothing-over}
-use Rattle.straight.specs.Straight.{codeGiven, Encoded}
-use Rattle.straight.proofs.Judged.{judgement, judged, buffer-judged}
-use Rattle.straight.proofs.Goes.{right, there, encoded}
+use Rattle.steps.specs.Next.{Scene, factsOf}
+use Rattle.steps.specs.Step.{After, heldOf, plainScene, plainAnswer, plainAfter, plainStep, bufferedScene}
+use Rattle.steps.specs.Verdict.{entryNext, fileNext, bufferNext}
+use Rattle.steps.proofs.Standing.{map-set}
+use Rattle.straight.proofs.Judged.{judgement}
 use Rattle.directory.specs.declared.Entry.{Entry}
 use Rattle.requests.specs.declared.Request.{Request}
 use Rattle.requests.specs.declared.Answer.{Answer}
 use Rattle.requests.specs.declared.Answer.the-variants.{Done, Met, Refused}
 use Rattle.requests.specs.declared.Edge.{Edge}
 use Rattle.requests.specs.declared.Refusal.{Refusal}
+use Rattle.sessions.specs.declared.BufferedFile.{BufferedFile}
+use Rattle.sessions.specs.declared.BufferedSession.{BufferedSession}
+use Rattle.sessions.specs.declared.OpenFile.{OpenFile}
 use Rattle.sessions.specs.declared.Session.{Session}
 use Rattle.steps.specs.declared.Verdict.{Verdict}
 
--- ---- what is seen
+-- ---- a plain session as a buffered one
 
-module _ (image : List ℕ) (s : Session) (i : ℕ) (given : List ℕ) where
-  abbrev e : Entry
-  e = entryAt (s .table) i
+-- what is behind a plain step
+abbrev pub unheldAfter : After Session → After BufferedSession
+unheldAfter w = record { answer = w .answer; image = w .image; session = unheld (w .session); buffer = w .buffer }
 
-  seen : seenScene image s 0 [] i given ≡ plainScene image s i given
-  unfolding seenScene plainScene
-  seen = rw (nothing-over e (fileOf (s .files) i) (extent e image) 0)
+module _ (t : Session) where
+  same-table : unheld t .table ≡ t .table
+  unfolding unheld
+  same-table = refl
+
+  -- with another entry and another state
+  set-unheld : (i k : ℕ) (e : Entry) (f : OpenFile)
+      → record { table = set (unheld t .table) i e; files = set (unheld t .files) k (fresh f) } ≡ unheld (record { table = set (t .table) i e; files = set (t .files) k f })
+  unfolding unheld
+  set-unheld i k e f = ap (λ (fs : List BufferedFile). record { table = set (t .table) i e; files = fs }) (sym (map-set fresh (t .files) k f))
+
+  nothing-held : (i : ℕ) → heldOf (unheld t) i .holds ≡ false
+  unfolding heldOf
+  nothing-held i =
+      let k : ℕ = slotOf (bare (unheld t) .files) i in
+      either (fileOf (bare (unheld t) .files) i .used)
+      (λ u. ap (λ (b : BufferedFile). b .holds) (chosen (fileOf (bare (unheld t) .files) i .used) _ (fresh idle) u ∙ unheld-at t k))
+      (λ u. ap (λ (b : BufferedFile). b .holds) (not-chosen (fileOf (bare (unheld t) .files) i .used) _ (fresh idle) u))
+
+extent-unheld : (e : Entry) (b : BufferedFile) (image : List ℕ) → b .holds ≡ false → extentWith e b image ≡ extent e image
+unfolding extentWith holdsOne
+extent-unheld e b image h = rw h
+
+scene-unheld : (image : List ℕ) (t : Session) (i : ℕ) (given : List ℕ) → bufferedScene image (unheld t) i given ≡ plainScene image t i given
+unfolding bufferedScene plainScene
+scene-unheld image t i given = rw (extent-unheld _ (heldOf (unheld t) i) image (nothing-held t i), bare-unheld t, same-table t)
 
 -- ---- each answer
 
-module _ (image : List ℕ) (s : Session) (i : ℕ) (q : Request) (given buffer : List ℕ) where
-  abbrev c : Scene
-  c = plainScene image s i given
+module _ (image : List ℕ) (t : Session) (i : ℕ) (q : Request) (given buffer : List ℕ) where
+  abbrev own : Scene
+  own = plainScene image t i given
 
-  abbrev a : Answer
-  a = judge q (factsOf (legal image s) (openFiles (s .files)) (length buffer) q c)
+  abbrev ownAnswer : Answer
+  ownAnswer = judge q (factsOf (legal image t) (openFiles (t .files)) (length buffer) q own)
 
-  abbrev j : Verdict
-  j = judgement (legal image s) (openFiles (s .files)) (length buffer) q c
-
-  abbrev n : ℕ
-  n = length (codeGiven (entryAt (s .table) i) given)
-
-  right-code : legal image s ≡ true → n ≡ codeLength (entryAt (s .table) i) given
-  right-code = right image s (legal image s) (λ h. h) i [] given
-
-  pub verdict-now : verdictOf (legal image s) (openFiles (s .files)) (length buffer) n q (seenScene image s 0 [] i given) ≡ j
-  unfolding seenScene plainScene
-  verdict-now = judged (openFiles (s .files)) (length buffer) q (legal image s) n (seenScene image s 0 [] i given) c refl refl (λ h. seen image s i given) right-code
-
-  pub buffer-now : bufferNext (answerOf (legal image s) (openFiles (s .files)) (length buffer) n q (seenScene image s 0 [] i given)) q (seenScene image s 0 [] i given) buffer
-      ≡ bufferNext a q c buffer
-  unfolding seenScene plainScene
-  buffer-now = buffer-judged (openFiles (s .files)) (length buffer) q (legal image s) n (seenScene image s 0 [] i given) c (λ h. seen image s i given) right-code buffer
+  abbrev ownVerdict : Verdict
+  ownVerdict = judgement (legal image t) (openFiles (t .files)) (length buffer) q own
 
   -- the session with the verdict's entry and state
   abbrev next : Verdict → Session
-  next v = record { table = set (s .table) i (v .entry); files = set (s .files) (slotOf (s .files) i) (v .file) }
+  next v = record { table = set (t .table) i (v .entry); files = set (t .files) (slotOf (t .files) i) (v .file) }
 
-  pub done-after : a ≡ Done
-      → record { answer = j .answer; image = plainAll c (effects q c) image; session = next j; buffer = bufferNext a q c buffer } ≡ plainStep image s i q given buffer
+  done-after : ownAnswer ≡ Done
+      → record { answer = ownAnswer; image = plainAll own (effects q own) image; session = next ownVerdict; buffer = bufferNext ownAnswer q own buffer } ≡ plainStep image t i q given buffer
   unfolding plainStep plainAnswer plainAfter entryNext fileNext bufferNext plainScene
   done-after d = rw d
 
-  pub met-after : (x : Edge) → a ≡ Met x → record { answer = j .answer; image = image; session = next j; buffer = bufferNext a q c buffer } ≡ plainStep image s i q given buffer
+  met-after : (x : Edge) → ownAnswer ≡ Met x
+      → record { answer = ownAnswer; image = image; session = next ownVerdict; buffer = bufferNext ownAnswer q own buffer } ≡ plainStep image t i q given buffer
   unfolding plainStep plainAnswer plainAfter entryNext fileNext bufferNext plainScene
-  met-after x d = rw d (rw (set-getD (s .table) i freeEntry))
+  met-after x d = rw d (rw (set-getD (t .table) i freeEntry))
 
-  pub refused-after : (x : Refusal) → a ≡ Refused x → record { answer = j .answer; image = image; session = s; buffer = bufferNext a q c buffer } ≡ plainStep image s i q given buffer
+  refused-after : (x : Refusal) → ownAnswer ≡ Refused x
+      → record { answer = ownAnswer; image = image; session = t; buffer = bufferNext ownAnswer q own buffer } ≡ plainStep image t i q given buffer
   unfolding plainStep plainAnswer plainAfter bufferNext
   refused-after x d = rw d
 
-  -- ---- what a request answered 0 goes by
+  -- as it is judged of the buffered session that holds nothing
+  module _ (s : BufferedSession) (s-is : s ≡ unheld t) where
+    abbrev c : Scene
+    c = bufferedScene image s i given
 
-  pub goes-there : length (s .table) ≡ entries → a ≡ Done → i < entries
-  unfolding plainScene
-  goes-there h d = there image s (legal image s) (λ h. h) i (extent (entryAt (s .table) i) image) given (openFiles (s .files)) (length buffer) q d h
+    abbrev a : Answer
+    a = judge q (factsOf (bufferedLegal image s) (openFiles (bare s .files)) (length buffer) q c)
 
-  pub goes-encoded : (room : List ℕ) → length room ≡ 135 → a ≡ Done → Encoded q (entryAt (s .table) i) given (part (sets room 0 (codeGiven (entryAt (s .table) i) given)) 0 n)
-  unfolding plainScene
-  goes-encoded room h d = encoded image s (legal image s) (λ h. h) i (extent (entryAt (s .table) i) image) given (openFiles (s .files)) (length buffer) q d room h
+    abbrev j : Verdict
+    j = judgement (bufferedLegal image s) (openFiles (bare s .files)) (length buffer) q c
+
+    same-bare : bare s ≡ t
+    same-bare = ap bare s-is ∙ bare-unheld t
+
+    same-scene : c ≡ own
+    same-scene = ap (λ (s : BufferedSession). bufferedScene image s i given) s-is ∙ scene-unheld image t i given
+
+    same-answer : a ≡ ownAnswer
+    same-answer = rw (same-scene, same-bare, s-is) (rw (unheld-legal image t))
+
+    module _ (v : Verdict) (v-is : v ≡ j) (moved : List ℕ) (moved-is : moved ≡ bufferNext a q c buffer) where
+      same-verdict : v ≡ ownVerdict
+      same-verdict = rw (same-answer, same-scene) at v-is
+
+      same-moved : moved ≡ bufferNext ownAnswer q own buffer
+      same-moved = rw (same-answer, same-scene) at moved-is
+
+      told : (x : Answer) → v .answer ≡ x → ownAnswer ≡ x
+      told x h = sym (ap (λ (v : Verdict). v .answer) same-verdict) ∙ h
+
+      abbrev after : List ℕ → BufferedSession → After BufferedSession
+      after new z = record { answer = v .answer; image = new; session = z; buffer = moved }
+
+      abbrev laid : BufferedSession
+      laid = record { table = set (s .table) i (v .entry); files = set (s .files) (slotOf (bare s .files) i) (fresh (v .file)) }
+
+      is-next : laid ≡ unheld (next ownVerdict)
+      is-next = rw (same-bare, same-verdict, s-is) (set-unheld t i (slotOf (t .files) i) (ownVerdict .entry) (ownVerdict .file))
+
+      ended : (new : List ℕ) (z : Session) (w : After Session) → record { answer = ownAnswer; image = new; session = z; buffer = bufferNext ownAnswer q own buffer } ≡ w
+          → after new (unheld z) ≡ unheldAfter w
+      ended new z w h = rw (same-moved, ap (λ (v : Verdict). v .answer) same-verdict) (ap unheldAfter h)
+
+      pub done-told : v .answer ≡ Done → (new : List ℕ) → new ≡ plainAll c (effects q c) image → after new laid ≡ unheldAfter (plainStep image t i q given buffer)
+      done-told d new new-is =
+          ap (after new) is-next
+          ∙ ap (λ (x : List ℕ). after x (unheld (next ownVerdict))) (new-is ∙ ap (λ (c : Scene). plainAll c (effects q c) image) same-scene)
+          ∙ ended (plainAll own (effects q own) image) (next ownVerdict) _ (done-after (told Done d))
+
+      pub met-told : (x : Edge) → v .answer ≡ Met x → after image laid ≡ unheldAfter (plainStep image t i q given buffer)
+      met-told x d = ap (after image) is-next ∙ ended image (next ownVerdict) _ (met-after x (told (Met x) d))
+
+      pub refused-told : (x : Refusal) → v .answer ≡ Refused x → after image s ≡ unheldAfter (plainStep image t i q given buffer)
+      refused-told x d = ap (after image) s-is ∙ ended image t _ (refused-after x (told (Refused x) d))

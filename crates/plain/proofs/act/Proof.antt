@@ -1,6 +1,6 @@
 -- `plain::act` meets its contract: one way for each request that moves bytes, one for the others.
-use Rattle.plain.specs.Plain.{sceneIn}
-use Rattle.plain.proofs.Acts.{written, granule-stored, closed, ordered, idles}
+use Rattle.plain.specs.Plain.{actedWith}
+use Rattle.plain.proofs.Acts.{granule-stored, ordered, idles}
 use borrow.Author.Needs.{needs}
 use Rattle.plain.proofs.act.Statement.{statement}
 use Rattle.plain.proofs.act.Tie as tie
@@ -9,7 +9,7 @@ enum-told : tie.Need-enum-told
 enum-told c = search needs
 
 write-requires : tie.Need-write-requires
-write-requires c κs = c .before .before .before .before .before .before .pre .1 (c .before .enum-told .given .1)
+write-requires c κs = search needs
 
 enum-known-q : tie.Need-enum-known-q
 enum-known-q c = search needs
@@ -30,9 +30,8 @@ same-length : tie.Need-same-length
 same-length c = search needs
 
 returns : tie.Need-returns
-returns c =
-    let a = c .before .before .before .before .before .before .before .before .before .args in
-    rw (c .before .before .before .before .enum-told .given .1, c .before .before .write .ensures) (written (sceneIn (a .image .now) (a .i) (a .e) (a .f) (a .given .now)) (a .image .now))
+unfolding actedWith
+returns c = rw (c .before .before .before .before .enum-told .given .1) (c .before .before .write .ensures)
 
 same-length-2 : tie.Need-same-length-2
 same-length-2 c = search needs
@@ -40,25 +39,25 @@ same-length-2 c = search needs
 returns-2 : tie.Need-returns-2
 returns-2 c =
     let a = c .before .before .before .before .before .before .before .before .before .before .args in
-    rw (c .before .before .before .before .before .q .given .1, c .before .before .store .ensures) (granule-stored (sceneIn (a .image .now) (a .i) (a .e) (a .f) (a .given .now)) (a .image .now) _)
+    rw (c .before .before .before .before .before .q .given .1, c .before .before .store .ensures) (granule-stored (a .i) (a .e) (a .f) (a .given .now) (a .code .now) (a .image .now) _)
 
 same-length-3 : tie.Need-same-length-3
 same-length-3 c = search needs
 
 returns-3 : tie.Need-returns-3
+unfolding actedWith
 returns-3 c =
-    let a = c .before .before .before .before .before .before .before .before .before .before .before .before .args in
-    rw (c .before .before .before .before .before .before .before .q2 .given .1, c .before .before .before .before .enum-told2 .given .1, c .before .before .stamp .ensures) (closed (sceneIn (a .image .now) (a .i) (a .e) (a .f) (a .given .now)) (a .image .now) (c .before .before .before .before .before .before .before .before .before .before .before .before .pre .0))
+    rw (c .before .before .before .before .before .before .before .q2 .given .1, c .before .before .before .before .enum-told2 .given .1) (c .before .before .stamp .ensures)
 
 returns-4 : tie.Need-returns-4
 returns-4 c =
     let a = c .before .before .before .before .before .before .before .args in
-    rw (c .before .before .q2 .given .1) (ordered (sceneIn (a .image .now) (a .i) (a .e) (a .f) (a .given .now)) (a .image .now) _ (c .match2 .keys2))
+    rw (c .before .before .q2 .given .1) (ordered (a .i) (a .e) (a .f) (a .given .now) (a .code .now) (a .image .now) _ (c .match2 .keys2))
 
 returns-5 : tie.Need-returns-5
 returns-5 c =
     let a = c .before .before .before .before .args in
-    idles (sceneIn (a .image .now) (a .i) (a .e) (a .f) (a .given .now)) (a .image .now) (a .q) (c .match .keys4)
+    idles (a .i) (a .e) (a .f) (a .given .now) (a .code .now) (a .image .now) (a .q) (c .match .keys4)
 
 pub act-spec : {M : Type 1} → statement M
 act-spec =

@@ -1,0 +1,5 @@
+pub mod Judged
+pub mod Sessions
+pub mod Laid
+pub mod Parts
+pub mod Served

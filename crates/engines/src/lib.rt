@@ -1,0 +1,157 @@
+// A request on a session in lent bytes, in both engines: the number of the bytes says which. One judgement serves both, and each moves bytes in its own way.
+use finding::Seen;
+use geometry::Geometry;
+use geometry::part;
+use judging::verdict_in;
+use requests::Answer;
+use requests::Request;
+use sessions::Holding;
+use sessions::idle;
+use steps::Verdict;
+use storing::Form;
+use storing::has_buffers;
+use storing::put_fresh;
+use storing::put_state;
+use tables::Width;
+use tables::put_counts;
+ghost use mathlib.Core.Path.{_≡_};
+ghost use Prim.Native.Nat.{_<_};
+ghost use lib.ListN.{length};
+ghost use Rattle.geometry.specs.Sizes.{mostOpen};
+ghost use Rattle.storing.specs.Stored.{hasBuffers};
+ghost use Rattle.judging.specs.Lent.{afterIn};
+ghost use Rattle.engines.specs.Engines.{requested};
+ghost use Rattle.engines.specs.Parts.{readied, Acted, Moved, layNext};
+
+// ---- what a request answered 0 does
+
+// Makes state k fresh, if it is not in use.
+fn make_ready(session: &mut [u8], k: usize, used: bool)
+    requires { ⌜ length (now session) ≡ 1980 ⌝ }
+    ensures { λ _. ⌜ now (session .exit) ≡ readied (now (session .entry)) k used ⌝ }
+{
+    if !used {
+        put_fresh(session, k, idle());
+    }
+}
+
+// In a session with buffers, on the buffer of the file's state, which is made fresh first if it is not in use; k is the sector of the file's next place.
+fn act_held(
+    image: &mut [u8],
+    session: &mut [u8],
+    i: usize,
+    seen: Seen,
+    q: Request,
+    given: &[u8],
+    code: &[u8],
+    k: u32,
+) -> Holding
+    requires { ⌜ (seen .slot < mostOpen) × (length (now session) ≡ 1980) ⌝ }
+    ensures { λ r. ⌜ Acted seen i q (now (given .entry)) (now (code .entry)) k (now (image .entry)) (now (session .entry)) (now (image .exit)) (now (session .exit)) r ⌝ }
+{
+    let e = seen.entry;
+    let f = seen.file;
+    let h = seen.hold;
+    let n = seen.slot;
+    make_ready(session, n, f.used);
+    let at = Form::FILES + Form::HELD * n + Form::BUFFER;
+    let end = at + Geometry::SECTOR;
+    buffered::act(image, i, e, f, q, given, code, k, h, &mut session[at..end])
+}
+
+// In either engine.
+fn act(
+    image: &mut [u8],
+    session: &mut [u8],
+    i: usize,
+    seen: Seen,
+    q: Request,
+    given: &[u8],
+    code: &[u8],
+    k: u32,
+) -> Holding
+    requires { ⌜ seen .slot < mostOpen ⌝ }
+    ensures { λ r. ⌜ Moved (hasBuffers (now (session .entry))) seen i q (now (given .entry)) (now (code .entry)) k (now (image .entry)) (now (session .entry)) (now (image .exit)) (now (session .exit)) r ⌝ }
+{
+    if has_buffers(session) {
+        return act_held(image, session, i, seen, q, given, code, k);
+    }
+    let e = seen.entry;
+    let f = seen.file;
+    plain::act(image, i, e, f, q, given, code);
+    seen.hold
+}
+
+// ---- a request
+
+// Lays the count and flags of a verdict's entry over those of entry i, and its state over state k, with what it holds.
+fn put_next(session: &mut [u8], i: usize, k: usize, v: Verdict, h: Holding)
+    ensures { λ _. ⌜ now (session .exit) ≡ layNext (hasBuffers (now (session .entry))) (now (session .entry)) i k v h ⌝ }
+{
+    let e = v.entry;
+    let f = v.file;
+    put_counts(session, Width::TWO, Geometry::ENTRIES, i, e.count, e.flags);
+    if f.used {
+        put_state(session, k, f, h);
+    } else {
+        put_fresh(session, k, f);
+    }
+}
+
+// A request, with room for a code.
+fn request_in(
+    image: &mut [u8],
+    session: &mut [u8],
+    i: usize,
+    q: Request,
+    given: &[u8],
+    code: &mut [u8; 135],
+    buffer: &mut [u8],
+) -> Answer
+    ensures { λ r. ⌜ afterIn r (now (image .exit)) (now (session .exit)) (now (buffer .exit))
+        ≡ requested (now (image .entry)) (now (session .entry)) i q (now (given .entry)) (now (buffer .entry)) ⌝ }
+{
+    let r = verdict_in(image, session, i, q, given, code, buffer);
+    let seen = r.seen;
+    let w = r.verdict;
+    let a = w.answer;
+    match a {
+        Answer::Done => {
+            let next = w.file;
+            let here = next.here;
+            let held = act(
+                image,
+                session,
+                i,
+                seen,
+                q,
+                given,
+                part(code, 0, r.size),
+                here.sector,
+            );
+            put_next(session, i, seen.slot, w, held);
+            a
+        }
+        Answer::Met(_) => {
+            put_next(session, i, seen.slot, w, seen.hold);
+            a
+        }
+        Answer::Refused(_) => a,
+    }
+}
+
+// One request on entry i of the session that the lent bytes are: a write takes its bytes from what is given, a read lays them in the buffer.
+pub fn request(
+    image: &mut [u8],
+    session: &mut [u8],
+    i: usize,
+    q: Request,
+    given: &[u8],
+    buffer: &mut [u8],
+) -> Answer
+    ensures { λ r. ⌜ afterIn r (now (image .exit)) (now (session .exit)) (now (buffer .exit))
+        ≡ requested (now (image .entry)) (now (session .entry)) i q (now (given .entry)) (now (buffer .entry)) ⌝ }
+{
+    let mut code = [0u8; 135];
+    request_in(image, session, i, q, given, &mut code, buffer)
+}
