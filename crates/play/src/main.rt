@@ -3,7 +3,7 @@
 use geometry::same;
 use libc::STDERR_FILENO;
 use libc::STDOUT_FILENO;
-use playing::Engine;
+use storing::Form;
 
 // The numbers of its arguments.
 const ENGINE: usize = 1;
@@ -91,10 +91,10 @@ fn in_order() -> bool {
 }
 
 // Plays the script on an image. Whether it came to the script's end.
-fn play_script(engine: Engine, image: &mut [u8]) -> bool {
+fn play_script(image: &mut [u8], session: &mut [u8]) -> bool {
     let script = open_read(SCRIPT);
     let bytes = open_read(BYTES);
-    let ok = play_io::play(engine, script, bytes, MOST, image);
+    let ok = play_io::play(script, bytes, MOST, image, session);
     libc::close(script);
     libc::close(bytes);
     ok
@@ -106,18 +106,18 @@ fn ready() -> bool {
 }
 
 // Plays the script on an image, and writes the image.
-fn play_image(engine: Engine, image: &mut [u8]) {
+fn play_image(image: &mut [u8], session: &mut [u8]) {
     if !ready() {
         return;
     }
-    if !play_script(engine, image) {
+    if !play_script(image, session) {
         return;
     }
     save(OUT, image);
 }
 
 // Reads the image, and plays the script on it.
-fn play(engine: Engine, room: &mut [u8]) {
+fn play(room: &mut [u8], session: &mut [u8]) {
     let fd = open_read(IMAGE);
     let n = io::read_full(fd, room);
     let got = more(fd);
@@ -127,8 +127,20 @@ fn play(engine: Engine, room: &mut [u8]) {
     } else if got > 0 {
         io::write_all(STDOUT_FILENO, b"ERROR image longer than 1474560 bytes\n");
     } else {
-        play_image(engine, &mut room[..n]);
+        play_image(&mut room[..n], session);
     }
+}
+
+// Plays with the plain engine: lends a session without buffers.
+fn play_plain(room: &mut [u8]) {
+    let mut session = [0u8; Form::SESSION];
+    play(room, &mut session);
+}
+
+// Plays with the buffered engine: lends a session with buffers.
+fn play_buffered(room: &mut [u8]) {
+    let mut session = [0u8; Form::BUFFERED];
+    play(room, &mut session);
 }
 
 // Plays with the engine that is named.
@@ -136,9 +148,9 @@ fn play_by_name(room: &mut [u8]) {
     let mut word = io::buffer();
     let n = os::arg(ENGINE, &mut word);
     if same(&word[..n], b"plain") {
-        play(Engine::Plain, room);
+        play_plain(room);
     } else if same(&word[..n], b"buffered") {
-        play(Engine::Buffered, room);
+        play_buffered(room);
     } else {
         complain(b"no such engine: ", ENGINE);
     }

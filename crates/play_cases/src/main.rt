@@ -7,7 +7,7 @@ use geometry::word_at;
 use libc::SEEK_CUR;
 use libc::SEEK_SET;
 use libc::STDOUT_FILENO;
-use playing::Engine;
+use storing::Form;
 ghost use Prim.Native.Nat.{_<_};
 
 // The file of the cases, opened three times: for the images, the rows, and the bytes given.
@@ -101,40 +101,47 @@ fn patch(fd: i32, n: usize, image: &mut [u8]) {
     }
 }
 
+// Makes an image of the last whole one, in a room. The patches stand at a place of the file.
+fn make_image(fd: i32, at: i64, h: Header, whole: &[u8], room: &mut [u8]) {
+    lay(room, 0, whole);
+    libc::lseek(fd, at, SEEK_SET);
+    patch(fd, patches(h), room);
+}
+
 // ---- playing
 
 // Plays a script on an image, and prints the image's sums.
-fn play_image(engine: Engine, f: Files, rows: u16, image: &mut [u8]) {
-    play_io::play(engine, f.script, f.bytes, rows as u32, image);
+fn play_image(f: Files, rows: u16, image: &mut [u8], session: &mut [u8]) {
+    play_io::play(f.script, f.bytes, rows as u32, image, session);
     play_io::print_image(image);
 }
 
 // The same on the image that the first n bytes of a room are.
-fn play_first(engine: Engine, f: Files, rows: u16, n: usize, room: &mut [u8]) {
+fn play_first(f: Files, rows: u16, n: usize, room: &mut [u8], session: &mut [u8]) {
     if n <= room.len() {
-        play_image(engine, f, rows, &mut room[..n]);
+        play_image(f, rows, &mut room[..n], session);
     }
 }
 
-// Plays a case with one engine. The last whole image is given, and the patches stand at a place of the file.
-fn play_with(engine: Engine, f: Files, at: i64, h: Header, whole: &[u8], room: &mut [u8]) {
-    lay(room, 0, whole);
-    libc::lseek(f.cases, at, SEEK_SET);
-    patch(f.cases, patches(h), room);
+// Plays a case with the engine whose session is lent. The last whole image is given, and the patches stand at a place of the file.
+fn play_with(f: Files, at: i64, h: Header, whole: &[u8], room: &mut [u8], session: &mut [u8]) {
+    make_image(f.cases, at, h, whole, room);
     let start = libc::lseek(f.cases, 0, SEEK_CUR);
     libc::lseek(f.script, start, SEEK_SET);
     libc::lseek(f.bytes, start, SEEK_SET);
     skip_rows(f.bytes, h.rows);
-    play_first(engine, f, h.rows, whole.len(), room);
+    play_first(f, h.rows, whole.len(), room, session);
 }
 
 // Plays a case with both.
 fn play_both(f: Files, h: Header, whole: &[u8], room: &mut [u8]) {
+    let mut plain = [0u8; Form::SESSION];
+    let mut buffered = [0u8; Form::BUFFERED];
     let at = libc::lseek(f.cases, 0, SEEK_CUR);
     io::write_all(STDOUT_FILENO, b"PLAIN\n");
-    play_with(Engine::Plain, f, at, h, whole, room);
+    play_with(f, at, h, whole, room, &mut plain);
     io::write_all(STDOUT_FILENO, b"BUFFERED\n");
-    play_with(Engine::Buffered, f, at, h, whole, room);
+    play_with(f, at, h, whole, room, &mut buffered);
     skip_rows(f.cases, h.rows);
     skip(f.cases, h.high, h.low);
 }

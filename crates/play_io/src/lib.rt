@@ -2,7 +2,7 @@
 // and what is printed, no contract can say.
 use geometry::part;
 use libc::STDOUT_FILENO;
-use playing::Engine;
+use lleuadrys::lleuadrys_mount;
 use playing::Fault;
 use playing::Found;
 use playing::Row;
@@ -11,9 +11,6 @@ ghost use lib.ListN.{length};
 
 // The bytes of a row.
 const ROW: usize = 16;
-
-// The bytes of the longer of the two engines' sessions.
-const SESSION: usize = 1980;
 
 // What stands next in a script.
 enum Ahead {
@@ -99,20 +96,12 @@ pub fn print_image(image: &[u8]) {
 // ---- playing
 
 // Plays row k, and prints its line.
-fn play_row(
-    engine: Engine,
-    k: u32,
-    image: &mut [u8],
-    session: &mut [u8],
-    row: Row,
-    given: &[u8],
-    buffer: &mut [u8],
-)
+fn play_row(k: u32, image: &mut [u8], session: &mut [u8], row: Row, given: &[u8], buffer: &mut [u8])
     requires { ⌜ 65536 ≤ length (now buffer) ⌝ }
 {
     let n = row.length as usize;
     let bytes = part(given, 0, row.uses as usize);
-    let p = playing::play_row(engine, image, session, row, bytes, &mut buffer[..n]);
+    let p = playing::play_row(image, session, row, bytes, &mut buffer[..n]);
     let mut out = [0u8; 96];
     let m = playing::write_row(&mut out, k, p);
     io::write_all(STDOUT_FILENO, part(&out, 0, m));
@@ -143,53 +132,16 @@ fn test_rows(script: i32, bytes: i32, most: u32, given: &mut [u8]) -> bool
     true
 }
 
-// Mounts an image, plays the first rows of a script, as many as most, and prints a line for each. Whether they were in order. Behind a
-// refused mounting the session's bytes are zero: no entry is used, and nothing is open.
-pub fn play(engine: Engine, script: i32, bytes: i32, most: u32, image: &mut [u8]) -> bool {
-    let mut room = [0u8; SESSION];
-    play_in(engine, script, bytes, most, image, &mut room)
-}
-
-// The same with a session at the start of a room.
-fn play_in(
-    engine: Engine,
-    script: i32,
-    bytes: i32,
-    most: u32,
-    image: &mut [u8],
-    room: &mut [u8],
-) -> bool
-    requires { ⌜ 1980 ≤ length (now room) ⌝ }
-{
-    let n = playing::session_size(engine);
-    play_session(engine, script, bytes, most, image, &mut room[..n])
-}
-
-fn play_session(
-    engine: Engine,
-    script: i32,
-    bytes: i32,
-    most: u32,
-    image: &mut [u8],
-    session: &mut [u8],
-) -> bool {
+// Mounts an image, plays the first rows of a script, as many as most, and prints a line for each. Whether they were in order. The number of the
+// session's bytes says which engine plays.
+pub fn play(script: i32, bytes: i32, most: u32, image: &mut [u8], session: &mut [u8]) -> bool {
     let mut given = io::large_buffer();
     let mut buffer = io::large_buffer();
-    print_mount(playing::mount(engine, image, session));
-    play_rows(
-        engine,
-        script,
-        bytes,
-        most,
-        image,
-        session,
-        &mut given,
-        &mut buffer,
-    )
+    print_mount(lleuadrys_mount(image, session));
+    play_rows(script, bytes, most, image, session, &mut given, &mut buffer)
 }
 
 fn play_rows(
-    engine: Engine,
     script: i32,
     bytes: i32,
     most: u32,
@@ -204,7 +156,7 @@ fn play_rows(
     while k < most {
         let n = next(script, bytes, given);
         match n {
-            Ahead::Row(row) => play_row(engine, k, image, session, row, given, buffer),
+            Ahead::Row(row) => play_row(k, image, session, row, given, buffer),
             Ahead::End => return true,
             Ahead::Wrong(f) => {
                 print_fault(k, f);

@@ -8,40 +8,41 @@ use borrow.Author.Tests.{eq-eqb, ne-eqb}
 use types.Run.{OneOf}
 use Rattle.geometry.specs.Bytes.{part}
 use Rattle.directory.specs.Entries.{entryAt, tableOf}
-use Rattle.board.specs.Board.{Engine, Left}
+use Rattle.looking.specs.Looking.{lookIn}
+use Rattle.lleuadrys.specs.Calls.{Left}
 use Rattle.playing.specs.Sums.{wordsOf, total, sumOf}
-use Rattle.playing.specs.Played.{lookShown, movedBy, moved}
+use Rattle.playing.specs.Played.{movedBy, moved}
 use Rattle.playing.specs.declared.Row.{Row}
 
 pub no-words : 0 ≡ sumOf (wordsOf [])
 unfolding wordsOf total sumOf
 no-words = refl
 
-module _ {S : Type 0} (E : Engine S) (row : Row) (given : List ℕ) (a : Left) where
-  pub refused : a .number ≢ 0 → moved E row given a ≡ []
+module _ (row : Row) (given : List ℕ) (a : Left) where
+  pub refused : a .number ≢ 0 → moved row given a ≡ []
   unfolding moved
   refused h = rw (moved, ne-eqb (a .number) 0 h)
 
   module _ (done : a .number ≡ 0) where
-    at : (k : ℕ) → row .code ≡ k → moved E row given a ≡ getD (movedBy E row given a) k []
+    at : (k : ℕ) → row .code ≡ k → moved row given a ≡ getD (movedBy row given a) k []
     unfolding moved
     at k e = rw (moved, eq-eqb (a .number) 0 done, e)
 
-    pub read : OneOf (2 ∷ 4 ∷ []) (row .code) → moved E row given a ≡ part (a .buffer) 0 (entryAt (tableOf (a .image)) (row .entry) .length)
+    pub read : OneOf (2 ∷ 4 ∷ []) (row .code) → moved row given a ≡ part (a .buffer) 0 (entryAt (tableOf (a .image)) (row .entry) .length)
     unfolding movedBy
     read (inl e) = at 2 e
     read (inr e) = at 4 e
 
-    pub written : OneOf (3 ∷ 5 ∷ []) (row .code) → moved E row given a ≡ given
+    pub written : OneOf (3 ∷ 5 ∷ []) (row .code) → moved row given a ≡ given
     unfolding movedBy
     written (inl e) = at 3 e
     written (inr e) = at 5 e
 
-    pub looked : row .code ≡ 6 → moved E row given a ≡ lookShown E (a .image) (a .session) (row .entry) (row .granule)
+    pub looked : row .code ≡ 6 → moved row given a ≡ lookIn (a .image) (a .session) (row .entry) (row .granule)
     unfolding movedBy
     looked e = at 6 e
 
-    other-at : (k : ℕ) → (OneOf (2 ∷ 4 ∷ []) k → ⊥) → (OneOf (3 ∷ 5 ∷ []) k → ⊥) → k ≢ 6 → getD (movedBy E row given a) k [] ≡ []
+    other-at : (k : ℕ) → (OneOf (2 ∷ 4 ∷ []) k → ⊥) → (OneOf (3 ∷ 5 ∷ []) k → ⊥) → k ≢ 6 → getD (movedBy row given a) k [] ≡ []
     unfolding movedBy
     other-at zero r w l = refl
     other-at (suc zero) r w l = refl
@@ -52,5 +53,5 @@ module _ {S : Type 0} (E : Engine S) (row : Row) (given : List ℕ) (a : Left) w
     other-at (suc (suc (suc (suc (suc (suc zero)))))) r w l = absurd (l refl)
     other-at (suc (suc (suc (suc (suc (suc (suc k))))))) r w l = refl
 
-    pub other : (OneOf (2 ∷ 4 ∷ []) (row .code) → ⊥) → (OneOf (3 ∷ 5 ∷ []) (row .code) → ⊥) → row .code ≢ 6 → moved E row given a ≡ []
+    pub other : (OneOf (2 ∷ 4 ∷ []) (row .code) → ⊥) → (OneOf (3 ∷ 5 ∷ []) (row .code) → ⊥) → row .code ≢ 6 → moved row given a ≡ []
     other r w l = at (row .code) refl ∙ other-at (row .code) r w l

@@ -1,17 +1,10 @@
 // Scripts of requests: what a row asks for, and what is said of it. docs/PLAY.md has the form of a script.
-use board::board_buffered_look;
-use board::board_buffered_mount;
-use board::board_buffered_position;
-use board::board_buffered_request;
-use board::board_buffered_session_size;
-use board::board_look;
-use board::board_mount;
-use board::board_position;
-use board::board_request;
-use board::board_session_size;
 use directory::entry_at;
 use geometry::part;
 use geometry::word_at;
+use lleuadrys::lleuadrys_look;
+use lleuadrys::lleuadrys_position;
+use lleuadrys::lleuadrys_request;
 use requests::Asked;
 use requests::by_code;
 use texts::put_all;
@@ -20,12 +13,12 @@ ghost use mathlib.Core.Path.{_≡_};
 ghost use Rattle.directory.specs.Entries.{entryAt, tableOf};
 ghost use Rattle.geometry.specs.Bytes as Bytes;
 ghost use Rattle.texts.specs.Texts.{spaced, Wrote};
-ghost use Rattle.board.specs.Board.{left, mountNumber, mountBytes, lookSize, lookPlace};
-ghost use Rattle.board.specs.Codes.{standing, recordAt};
+ghost use Rattle.looking.specs.Looking.{lookIn};
+ghost use Rattle.lleuadrys.specs.Calls.{left};
 ghost use Rattle.playing.specs.Script.{usedBy, rowOf};
 ghost use Rattle.playing.specs.Sums.{wordsOf, sumOf, sumsOf};
 ghost use Rattle.playing.specs.Said.{mountLine, standWords, rowLine, imageLine, faultWords, faultLine};
-ghost use Rattle.playing.specs.Played.{engineOf, lookShown, leaves, moved, played};
+ghost use Rattle.playing.specs.Played.{leaves, moved, played};
 
 // ---- rows
 
@@ -112,78 +105,6 @@ pub fn sums_of(s: &[u8]) -> Sums
     }
 }
 
-// ---- an engine, on a session in lent bytes
-
-// Which of the two engines plays.
-pub enum Engine {
-    Plain,
-    Buffered,
-}
-
-// How many bytes a session takes.
-pub fn session_size(engine: Engine) -> usize
-    ensures { λ r. ⌜ r ≡ engineOf engine .size ⌝ }
-{
-    match engine {
-        Engine::Plain => board_session_size(),
-        Engine::Buffered => board_buffered_session_size(),
-    }
-}
-
-// Mounts an image, and stores the session; its number.
-pub fn mount(engine: Engine, image: &[u8], session: &mut [u8]) -> u16
-    ensures { λ r. ⌜ (r ≡ mountNumber (engineOf engine) (now (image .entry)) (now (session .entry)))
-        × (now (session .exit) ≡ mountBytes (engineOf engine) (now (image .entry)) (now (session .entry))) ⌝ }
-{
-    match engine {
-        Engine::Plain => board_mount(image, session),
-        Engine::Buffered => board_buffered_mount(image, session),
-    }
-}
-
-// A row's request; its number.
-fn request(
-    engine: Engine,
-    image: &mut [u8],
-    session: &mut [u8],
-    row: Row,
-    given: &[u8],
-    buffer: &mut [u8],
-) -> u16
-    ensures { λ r. ⌜ left r (now (image .exit)) (now (session .exit)) (now (buffer .exit))
-        ≡ leaves (engineOf engine) row (now (given .entry)) (now (image .entry)) (now (session .entry)) (now (buffer .entry)) ⌝ }
-{
-    let i = row.entry as usize;
-    match engine {
-        Engine::Plain => board_request(image, session, i, row.code, row.granule, given, buffer),
-        Engine::Buffered => {
-            board_buffered_request(image, session, i, row.code, row.granule, given, buffer)
-        }
-    }
-}
-
-// Looks at granule g of entry i: the number of its bytes; where they begin goes into at.
-fn look(engine: Engine, image: &[u8], session: &[u8], i: usize, g: u32, at: &mut usize) -> usize
-    ensures { λ r. ⌜ (r ≡ lookSize (engineOf engine) (now (image .entry)) (now (session .entry)) i g)
-        × (now (at .exit) ≡ lookPlace (engineOf engine) (now (image .entry)) (now (session .entry)) i g (now (at .entry))) ⌝ }
-{
-    match engine {
-        Engine::Plain => board_look(image, session, i, g, at),
-        Engine::Buffered => board_buffered_look(image, session, i, g, at),
-    }
-}
-
-// Where entry i's file stands: 0 not open, 1 open, 2 open and beyond the mark; its record goes into at.
-fn position(engine: Engine, session: &[u8], i: usize, at: &mut u32) -> u16
-    ensures { λ r. ⌜ (r ≡ standing (engineOf engine .spot (engineOf engine .read (now (session .entry))) i))
-        × (now (at .exit) ≡ recordAt (engineOf engine .spot (engineOf engine .read (now (session .entry))) i) (now (at .entry))) ⌝ }
-{
-    match engine {
-        Engine::Plain => board_position(session, i, at),
-        Engine::Buffered => board_buffered_position(session, i, at),
-    }
-}
-
 // ---- a row played
 
 // What is said of a row.
@@ -203,17 +124,16 @@ fn sum_read(image: &[u8], i: usize, buffer: &[u8]) -> u32
 }
 
 // The sum of the words that a look at granule g of entry i shows.
-fn sum_shown(engine: Engine, image: &[u8], session: &[u8], i: usize, g: u32) -> u32
-    ensures { λ r. ⌜ r ≡ sumOf (wordsOf (lookShown (engineOf engine) (now (image .entry)) (now (session .entry)) i g)) ⌝ }
+fn sum_shown(image: &[u8], session: &[u8], i: usize, g: u32) -> u32
+    ensures { λ r. ⌜ r ≡ sumOf (wordsOf (lookIn (now (image .entry)) (now (session .entry)) i g)) ⌝ }
 {
     let mut at: usize = 0;
-    let n = look(engine, image, session, i, g, &mut at);
+    let n = lleuadrys_look(image, session, i, g, &mut at);
     sums_of(part(image, at, n)).words
 }
 
 // The sum of the words that a row's request moved.
 fn sum_moved(
-    engine: Engine,
     row: Row,
     given: &[u8],
     number: u16,
@@ -221,7 +141,7 @@ fn sum_moved(
     session: &[u8],
     buffer: &[u8],
 ) -> u32
-    ensures { λ r. ⌜ r ≡ sumOf (wordsOf (moved (engineOf engine) row (now (given .entry)) (left number (now (image .entry)) (now (session .entry)) (now (buffer .entry))))) ⌝ }
+    ensures { λ r. ⌜ r ≡ sumOf (wordsOf (moved row (now (given .entry)) (left number (now (image .entry)) (now (session .entry)) (now (buffer .entry))))) ⌝ }
 {
     if number != 0 {
         return 0;
@@ -231,14 +151,13 @@ fn sum_moved(
     match code {
         2 | 4 => sum_read(image, i, buffer),
         3 | 5 => sums_of(given).words,
-        6 => sum_shown(engine, image, session, i, row.granule),
+        6 => sum_shown(image, session, i, row.granule),
         _ => 0,
     }
 }
 
 // Plays one row: a write takes its bytes from what is given, a read lays them in the buffer.
 pub fn play_row(
-    engine: Engine,
     image: &mut [u8],
     session: &mut [u8],
     row: Row,
@@ -246,13 +165,14 @@ pub fn play_row(
     buffer: &mut [u8],
 ) -> Played
     ensures { λ r. ⌜ (left (r .number) (now (image .exit)) (now (session .exit)) (now (buffer .exit))
-        ≡ leaves (engineOf engine) row (now (given .entry)) (now (image .entry)) (now (session .entry)) (now (buffer .entry)))
-        × (r ≡ played (engineOf engine) row (now (given .entry)) (now (image .entry)) (now (session .entry)) (now (buffer .entry))) ⌝ }
+        ≡ leaves row (now (given .entry)) (now (image .entry)) (now (session .entry)) (now (buffer .entry)))
+        × (r ≡ played row (now (given .entry)) (now (image .entry)) (now (session .entry)) (now (buffer .entry))) ⌝ }
 {
-    let number = request(engine, image, session, row, given, buffer);
-    let sum = sum_moved(engine, row, given, number, image, session, buffer);
+    let i = row.entry as usize;
+    let number = lleuadrys_request(image, session, i, row.code, row.granule, given, buffer);
+    let sum = sum_moved(row, given, number, image, session, buffer);
     let mut at: u32 = 0;
-    let standing = position(engine, session, row.entry as usize, &mut at);
+    let standing = lleuadrys_position(session, i, &mut at);
     Played {
         number: number,
         sum: sum,

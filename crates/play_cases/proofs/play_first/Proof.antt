@@ -9,13 +9,18 @@ slice-relend-prefix-play-image : tie.Need-slice-relend-prefix-play-image
 slice-relend-prefix-play-image c = search needs
 
 slice-aggregate-play-image : tie.Need-slice-aggregate-play-image
-slice-aggregate-play-image c = sym (length-take-le (c .before .before .before .args .n) (c .before .before .before .args .room .now) (c .before .if1 .taken))
+slice-aggregate-play-image c =
+    let a = c .before .before .before .before .args in
+    sym (length-take-le (a .n) (a .room .now) (c .before .if1 .taken))
 
 play-image-requires : tie.Need-play-image-requires
 play-image-requires c κs = search needs
 
 same-length : tie.Need-same-length
 same-length c = search needs
+
+same-length-2 : tie.Need-same-length-2
+same-length-2 c = search needs
 
 returns : tie.Need-returns
 returns c = search needs
@@ -31,5 +36,6 @@ play-first-spec =
     slice-aggregate-play-image
     play-image-requires
     same-length
+    same-length-2
     returns
     returns-2)

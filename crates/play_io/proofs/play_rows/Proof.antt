@@ -7,10 +7,10 @@ use Rattle.play_io.proofs.play_rows.Statement.{statement}
 use Rattle.play_io.proofs.play_rows.Tie as tie
 
 abbrev Inv-loop : tie.InvT-loop
-Inv-loop engine script bytes most image₀ session₀ given₀ buffer₀ k₀ image session given buffer k = (length image ≡ length image₀) × (length session ≡ length session₀) × (length given ≡ length given₀) × (length buffer ≡ length buffer₀)
+Inv-loop script bytes most image₀ session₀ given₀ buffer₀ k₀ image session given buffer k = (length image ≡ length image₀) × (length session ≡ length session₀) × (length given ≡ length given₀) × (length buffer ≡ length buffer₀)
 
 abbrev μ-loop : tie.MeasureT-loop
-μ-loop engine script bytes most image₀ session₀ given₀ buffer₀ k₀ image session given buffer k = most - k
+μ-loop script bytes most image₀ session₀ given₀ buffer₀ k₀ image session given buffer k = most - k
 
 loop-holds : tie.Need-loop-holds Inv-loop μ-loop
 loop-holds c = search needs

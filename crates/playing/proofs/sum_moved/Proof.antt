@@ -1,7 +1,6 @@
 -- `playing::sum_moved` meets its contract: by the number, then by the code.
-use Rattle.board.specs.Board.{left}
+use Rattle.lleuadrys.specs.Calls.{left}
 use Rattle.playing.specs.Sums.{sumsOf}
-use Rattle.playing.specs.Played.{engineOf}
 use Rattle.playing.proofs.Moved.{no-words, refused, read, written, looked, other}
 use borrow.Author.Needs.{needs}
 use Rattle.playing.proofs.sum_moved.Statement.{statement}
@@ -11,7 +10,7 @@ returns : tie.Need-returns
 returns c =
     let g = c .before .before .before .before .before .args in
     let a = left (g .number) (g .image .now) (g .session .now) (g .buffer .now) in
-    rw (refused (engineOf (g .engine)) (g .row) (g .given .now) a (c .if1 .taken)) no-words
+    rw (refused (g .row) (g .given .now) a (c .if1 .taken)) no-words
 
 cast-i : tie.Need-cast-i
 cast-i c = search needs
@@ -29,26 +28,26 @@ returns-2 : tie.Need-returns-2
 returns-2 c =
     let g = c .before .before .before .before .before .before .before .before .args in
     let a = left (g .number) (g .image .now) (g .session .now) (g .buffer .now) in
-    rw (read (engineOf (g .engine)) (g .row) (g .given .now) a (c .before .before .before .if1 .left) (c .before .match .keys1)) (c .sum-read .ensures)
+    rw (read (g .row) (g .given .now) a (c .before .before .before .if1 .left) (c .before .match .keys1)) (c .sum-read .ensures)
 
 returns-3 : tie.Need-returns-3
 unfolding sumsOf
 returns-3 c =
     let g = c .before .before .before .before .before .before .before .before .args in
     let a = left (g .number) (g .image .now) (g .session .now) (g .buffer .now) in
-    rw (written (engineOf (g .engine)) (g .row) (g .given .now) a (c .before .before .before .if1 .left) (c .before .match .keys2), c .sums-of .ensures)
+    rw (written (g .row) (g .given .now) a (c .before .before .before .if1 .left) (c .before .match .keys2), c .sums-of .ensures)
 
 returns-4 : tie.Need-returns-4
 returns-4 c =
     let g = c .before .before .before .before .before .before .before .before .args in
     let a = left (g .number) (g .image .now) (g .session .now) (g .buffer .now) in
-    rw (looked (engineOf (g .engine)) (g .row) (g .given .now) a (c .before .before .before .if1 .left) (c .before .match .keys3)) (c .sum-shown .ensures)
+    rw (looked (g .row) (g .given .now) a (c .before .before .before .if1 .left) (c .before .match .keys3)) (c .sum-shown .ensures)
 
 returns-5 : tie.Need-returns-5
 returns-5 c =
     let g = c .before .before .before .before .before .before .before .args in
     let a = left (g .number) (g .image .now) (g .session .now) (g .buffer .now) in
-    rw (other (engineOf (g .engine)) (g .row) (g .given .now) a (c .before .before .if1 .left) (c .match .rest .0 .0 .1) (c .match .rest .0 .1) (c .match .rest .1)) no-words
+    rw (other (g .row) (g .given .now) a (c .before .before .if1 .left) (c .match .rest .0 .0 .1) (c .match .rest .0 .1) (c .match .rest .1)) no-words
 
 pub sum-moved-spec : {M : Type 1} → statement M
 sum-moved-spec =

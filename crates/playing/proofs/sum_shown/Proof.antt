@@ -1,12 +1,12 @@
--- `playing::sum_shown` meets its contract: its parts are the definition's.
+-- `playing::sum_shown` meets its contract: the part of the image that the call tells is what the look shows.
+use Rattle.lleuadrys.proofs.Shown.{look-is}
 use Rattle.playing.specs.Sums.{sumsOf}
-use Rattle.playing.specs.Played.{lookShown}
 use borrow.Author.Needs.{needs}
 use Rattle.playing.proofs.sum_shown.Statement.{statement}
 use Rattle.playing.proofs.sum_shown.Tie as tie
 
-look-requires : tie.Need-look-requires
-look-requires c κs = search needs
+lleuadrys-look-requires : tie.Need-lleuadrys-look-requires
+lleuadrys-look-requires c κs = search needs
 
 part-requires : tie.Need-part-requires
 part-requires c κs = search needs
@@ -15,8 +15,11 @@ sums-of-requires : tie.Need-sums-of-requires
 sums-of-requires c κs = search needs
 
 returns : tie.Need-returns
-unfolding sumsOf lookShown
-returns c = rw (c .sums-of .ensures, c .before .part .ensures, c .before .before .look .ensures .0, c .before .before .look .ensures .1)
+unfolding sumsOf
+returns c =
+    let a = c .before .before .before .before .before .before .args in
+    rw (c .sums-of .ensures, c .before .part .ensures, c .before .before .lleuadrys-look .ensures .0, c .before .before .lleuadrys-look .ensures .1, look-is (a .image .now) (a .session .now) (a .i) (a .g) 0)
 
 pub sum-shown-spec : {M : Type 1} → statement M
-sum-shown-spec = tie.close (tie.spec look-requires part-requires sums-of-requires returns)
+sum-shown-spec =
+    tie.close (tie.spec lleuadrys-look-requires part-requires sums-of-requires returns)
