@@ -100,12 +100,11 @@ module _ (s : List ℕ) (room at : ℕ) (h : at < length s) where
       pub few-fit : (c ≤ room) × (c < length s - at)
       few-fit = let n = neither (ltb room c) (leb (length s - at) c) t in (ltb-false room c (n .0), leb-false (length s - at) c (n .1))
 
-      pub few-taken : Answer s room at ≡ Answer s (room - c) (at + (1 + c))
+      pub few-taken : Answer s room at ≡ Answer s (room - c) (at + 1 + c)
       few-taken =
-          let there : at + (1 + c) ≡ at + 1 + c = omega arith in
           let f = few-fit in
           ap answer (rw first at (at-run room at (drop at s) some more′ few′ (rw (first, left) (omega arith)) (rw first (f .0)))) ∙ answer-before _ _
-          ∙ rw (there, drop-drop 1 at s, drop-drop c (at + 1) s)
+          ∙ rw (drop-drop 1 at s, drop-drop c (at + 1) s)
 
   -- a run of n blanks, or 128
   module _ (n : ℕ) (is : c ≡ 128 + n) where

@@ -10,6 +10,7 @@ ghost use mathlib.Core.List.{_∷_};
 ghost use Prim.Native.Nat.{_+_, _-_, _≤_, _<_, _^_, min};
 ghost use lib.ListN.{length, take, drop, getD};
 ghost use lib.Seq.{sets, paste};
+ghost use Rattle.geometry.specs.Sizes as Sizes;
 ghost use Rattle.coding.specs.Decode.{decodeFrom, stopped, answer, given, Awaited, filled};
 ghost use Rattle.coding.specs.Decode as Decode;
 ghost use Rattle.coding.specs.Encode.{gapAt, runLength, runsCode};
@@ -33,40 +34,39 @@ fn copy(s: &[u8], at: usize, n: usize, out: &mut [u8], to: usize)
     }
 }
 
-// Runs of characters in the sector's bytes s, the first control byte at offset at, with room for so many; a run of blanks is given over to.
+// Runs of characters in a sector's bytes, the control byte at offset at, with room for so many; a run of blanks is given over to.
 // Returns the offset of the control byte at which the record stops: the 0, or one that cannot be obeyed.
-fn characters(s: &[u8], at: usize, room: usize) -> usize
-    requires { ⌜ at ≤ length (now s) ⌝ }
-    ensures { λ r. ⌜ (r ≤ length (now (s .entry))) × (stopped (now (s .entry)) r ≡ answer (decodeFrom room at (drop at (now (s .entry))))) ⌝ }
+// The slice itself is lent, so that a call hands on one address and the compiler can make a loop of the calls.
+fn characters(sector: &&[u8], at: usize, room: usize) -> usize
+    requires { ⌜ (length (now (now sector)) ≤ Sizes.sector) × (at ≤ length (now (now sector))) ⌝ }
+    ensures { λ r. ⌜ (r ≤ length (now (now (sector .entry)))) × (stopped (now (now (sector .entry))) r ≡ answer (decodeFrom room at (drop at (now (now (sector .entry)))))) ⌝ }
 {
-    let mut i = at;
-    let mut left = room;
-    while i < s.len() {
-        let c = s[i] as usize;
-        if c == 0 {
-            return i;
-        }
-        if 128 <= c {
-            return blanks(s, i, c - 128, left);
-        }
-        if (left < c) | (s.len() - i <= c) {
-            return i;
-        }
-        left -= c;
-        i += 1 + c;
+    let s = *sector;
+    if s.len() <= at {
+        return at;
     }
-    i
+    let c = s[at] as usize;
+    if c == 0 {
+        return at;
+    }
+    if 128 <= c {
+        return blanks(sector, at, c - 128, room);
+    }
+    if (room < c) | (s.len() - at <= c) {
+        return at;
+    }
+    characters(sector, at + 1 + c, room - c)
 }
 
 // A run of n blanks, with its control byte at offset at; it gives back to runs of characters.
-fn blanks(s: &[u8], at: usize, n: usize, room: usize) -> usize
-    requires { ⌜ (at < length (now s)) × (getD (now s) at 0 ≡ 128 + n) ⌝ }
-    ensures { λ r. ⌜ (r ≤ length (now (s .entry))) × (stopped (now (s .entry)) r ≡ answer (decodeFrom room at (drop at (now (s .entry))))) ⌝ }
+fn blanks(sector: &&[u8], at: usize, n: usize, room: usize) -> usize
+    requires { ⌜ (length (now (now sector)) ≤ Sizes.sector) × (at < length (now (now sector))) × (getD (now (now sector)) at 0 ≡ 128 + n) ⌝ }
+    ensures { λ r. ⌜ (r ≤ length (now (now (sector .entry)))) × (stopped (now (now (sector .entry))) r ≡ answer (decodeFrom room at (drop at (now (now (sector .entry)))))) ⌝ }
 {
     if (n == 0) | (room < n) {
         return at;
     }
-    characters(s, at + 1, room - n)
+    characters(sector, at + 1, room - n)
 }
 
 // What decoding the record of that length that s begins with answers. No character is moved, and no byte past a sector's is looked at.
@@ -74,7 +74,8 @@ pub fn measure(s: &[u8], length: usize) -> Coded
     ensures { λ r. ⌜ r ≡ answer (Decode.decode length (now (s .entry))) ⌝ }
 {
     let n = least(Geometry::SECTOR, s.len());
-    let k = characters(&s[..n], 0, length);
+    let sector = &s[..n];
+    let k = characters(&sector, 0, length);
     if k == n {
         return Coded::Bad(k);
     }
