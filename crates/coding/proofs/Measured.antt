@@ -1,14 +1,14 @@
 -- The decoder's answer depends on the control bytes alone: it is the answer from the next control byte on, with the room that is left.
 use mathlib.Core.Path.{_≡_, refl, sym, ap, _∙_}
 use mathlib.Core.Logic.{_≢_}
-use mathlib.Core.Bool.{Bool, true, false, _||_, true≢false}
+use mathlib.Core.Bool.{Bool, true, false, _&&_, _||_, true≢false}
 use mathlib.Core.List.{List}
 use Prim.Native.Nat.{ℕ, _+_, _-_, _≤_, _<_, min}
 use native.Mathlib.Nat.{add-zero}
 use native.Mathlib.Omega.{arith}
 use native.Mathlib.Decide.{decLt}
 use lib.ListN.{length, take, drop, getD, length-drop}
-use lib.Seq.{getD-drop, drop-drop, take-all, getD-take, length-take-le}
+use lib.Seq.{getD-drop, drop-drop, take-all, length-take-le}
 use lib.Dec.{eqb, leb, ltb}
 use borrow.Author.Tests.{lt-ltb, le-ltb, ne-eqb, eqb-true, eqb-false, leb-true, leb-false, ltb-true, ltb-false}
 use Rattle.geometry.specs.Sizes.{sector}
@@ -125,26 +125,14 @@ module _ (s : List ℕ) (room at : ℕ) (h : at < length s) where
 
 -- ---- in a sector's bytes, which the n first are
 
-module _ (R n k : ℕ) (s : List ℕ) (e : n ≡ min sector (length s)) (h : k ≤ length (take n s)) (is : stopped (take n s) k ≡ answer (decodeFrom R 0 (take n s))) where
-  size : length (take n s) ≡ n
-  size = length-take-le n s (omega arith)
+abbrev pub told : ℕ → Bool → Coded
+told k t = elim t [ true ↦ Good (k + 1) | false ↦ Bad k ]
 
-  pub read-within : (k ≤ n) × (n ≤ length s)
-  read-within = let z = size in (omega arith, omega arith)
-
-  whole : stopped (take n s) k ≡ answer (decode R s)
-  unfolding decode
-  whole = is ∙ ap (λ (t : List ℕ). answer (decodeFrom R 0 t)) (take-least n s e)
-
-  pub read-end : k ≡ n → Bad k ≡ answer (decode R s)
-  read-end z = sym (stopped-end (take n s) k (rw size (omega arith))) ∙ whole
-
-  module _ (more : k ≢ n) where
-    inside : k < n
-    inside = let w = read-within in omega arith
-
-    pub read-good : getD s k 0 ≡ 0 → Good (k + 1) ≡ answer (decode R s)
-    read-good z = sym (stopped-good (take n s) k (rw size inside) (getD-take n s k 0 inside ∙ z)) ∙ whole
-
-    pub read-bad : getD s k 0 ≢ 0 → Bad k ≡ answer (decode R s)
-    read-bad z = sym (stopped-bad (take n s) k (rw size inside) (rw (getD-take n s k 0 inside) z)) ∙ whole
+-- where they stop at the byte b
+pub read-told : (R n k b : ℕ) (s : List ℕ) → n ≡ min sector (length s) → b ≡ getD (take n s) k 0 → stopped (take n s) k ≡ answer (decodeFrom R 0 (take n s))
+    → (t : Bool) → ltb k n && eqb b 0 ≡ t → told k t ≡ answer (decode R s)
+unfolding decode stopped
+read-told R n k b s e at is t h =
+    let size : length (take n s) ≡ n = length-take-le n s (omega arith) in
+    let test : ltb k (length (take n s)) && eqb (getD (take n s) k 0) 0 ≡ t = rw (size, ← at) h in
+    ap (told k) (sym test) ∙ is ∙ ap (λ (u : List ℕ). answer (decodeFrom R 0 u)) (take-least n s e)

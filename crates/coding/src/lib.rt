@@ -2,6 +2,7 @@
 use geometry::Geometry;
 use geometry::byte_at;
 use geometry::fill;
+use geometry::lay;
 use geometry::least;
 use geometry::put;
 ghost use mathlib.Core.Path.{_≡_};
@@ -9,7 +10,7 @@ ghost use mathlib.Core.Bool.{true, false};
 ghost use mathlib.Core.List.{_∷_};
 ghost use Prim.Native.Nat.{_+_, _-_, _≤_, _<_, _^_, min};
 ghost use lib.ListN.{length, take, drop, getD};
-ghost use lib.Seq.{sets, paste};
+ghost use lib.Seq.{sets};
 ghost use Rattle.geometry.specs.Sizes as Sizes;
 ghost use Rattle.coding.specs.Decode.{decodeFrom, stopped, answer, given, Awaited, filled};
 ghost use Rattle.coding.specs.Decode as Decode;
@@ -20,18 +21,6 @@ ghost use Rattle.coding.specs.Encode as Encode;
 pub enum Coded {
     Good(usize),
     Bad(usize),
-}
-
-// Copies the n characters of s from the place at on over those of out from the place to on.
-fn copy(s: &[u8], at: usize, n: usize, out: &mut [u8], to: usize)
-    requires { ⌜ (at + n ≤ length (now s)) × (to + n ≤ length (now out)) ⌝ }
-    ensures { λ _. ⌜ now (out .exit) ≡ paste (now (out .entry)) to (drop at (now (s .entry))) n ⌝ }
-{
-    let mut k = 0;
-    while k < n {
-        out[to + k] = s[at + k];
-        k += 1;
-    }
 }
 
 // Runs of characters in a sector's bytes, the control byte at offset at, with room for so many; a run of blanks is given over to.
@@ -76,10 +65,7 @@ pub fn measure(s: &[u8], length: usize) -> Coded
     let n = least(Geometry::SECTOR, s.len());
     let sector = &s[..n];
     let k = characters(&sector, 0, length);
-    if k == n {
-        return Coded::Bad(k);
-    }
-    if s[k] == 0 {
+    if (k < n) & (byte_at(sector, k) == 0) {
         Coded::Good(k + 1)
     } else {
         Coded::Bad(k)
@@ -97,8 +83,9 @@ fn place(s: &[u8], out: &mut [u8])
         let c = s[i] as usize;
         i += 1;
         if c < 128 {
-            copy(s, i, c, out, j);
-            i += c;
+            let end = i + c;
+            lay(out, j, &s[i..end]);
+            i = end;
             j += c;
         } else {
             j += c - 128;
@@ -122,13 +109,6 @@ pub fn decode(s: &[u8], out: &mut [u8]) -> Coded
     }
 }
 
-// The character before the place j of x; 0 where there is none.
-fn before(x: &[u8], j: usize) -> u8
-    ensures { λ r. ⌜ r ≡ getD (0 ∷ now (x .entry)) j 0 ⌝ }
-{
-    if j == 0 { 0 } else { byte_at(x, j - 1) }
-}
-
 // Whether the character at the place j of x goes into a blank run: a blank with a blank beside it. No blank is the last character of x.
 fn in_gap(x: &[u8], j: usize) -> bool
     requires { ⌜ (j < length (now x)) × (Encode.keeps (length (now x)) (now x) ≡ length (now x)) ⌝ }
@@ -140,7 +120,10 @@ fn in_gap(x: &[u8], j: usize) -> bool
     if x[j + 1] == Geometry::BLANK {
         return true;
     }
-    before(x, j) == Geometry::BLANK
+    if j == 0 {
+        return false;
+    }
+    x[j - 1] == Geometry::BLANK
 }
 
 // The same, where the character before it does not go into one.

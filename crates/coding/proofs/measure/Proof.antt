@@ -1,13 +1,16 @@
 -- `coding::measure` meets its contract: the two decoding functions read a sector's bytes, from the first on, and where they stop says the answer.
 use mathlib.Core.Path.{_≡_, sym}
+use mathlib.Core.Bool.{Bool, true, false, _&&_}
 use mathlib.Core.List.{List}
-use Prim.Native.Nat.{ℕ, _≤_, min}
+use Prim.Native.Nat.{ℕ, min}
 use native.Mathlib.Omega.{arith}
 use lib.ListN.{length, take}
 use lib.Seq.{length-take-le}
+use lib.Dec.{eqb, ltb}
 use borrow.Author.Needs.{needs}
 use Rattle.geometry.specs.Sizes.{sector}
-use Rattle.coding.proofs.Measured.{read-within, read-end, read-good, read-bad}
+use Rattle.coding.specs.Decode.{decode, answer}
+use Rattle.coding.proofs.Measured.{told, read-told}
 use Rattle.coding.proofs.measure.Statement.{statement}
 use Rattle.coding.proofs.measure.Tie as tie
 
@@ -28,45 +31,33 @@ characters-requires c κs =
     let z = lent (c .before .before .before .before .args .s .now) (l .result) (omega arith) in
     (omega arith, omega arith)
 
--- what is lent, how many bytes of it are read, and where the record stops
-abbrev S : tie.After-characters → List ℕ
-S c = c .before .before .before .before .before .args .s .now
+byte-at-requires : tie.Need-byte-at-requires
+byte-at-requires c κs = search needs
 
-abbrev N : tie.After-characters → ℕ
-N c = c .before .before .before .least .result
+add-t16 : tie.Need-add-t16
+add-t16 c =
+    let l = c .before .before .before .before .before .least in
+    let e = l .ensures in
+    let z = lent (c .before .before .before .before .before .before .before .args .s .now) (l .result) (omega arith) in
+    let k = c .before .before .characters .ensures .0 in
+    omega arith
 
-least-is : (c : tie.After-characters) → N c ≡ min sector (length (S c))
-least-is c = let e = c .before .before .before .least .ensures in omega arith
-
-abbrev R : tie.After-characters → ℕ
-R c = c .before .before .before .before .before .args .length
-
-abbrev K : tie.After-characters → ℕ
-K c = c .characters .result
+-- by the byte at which they stop
+answers : (c : tie.After-byte-at)
+    → let a = c .before .before .before .before .before .before .args in
+    let k = c .before .characters .result in
+    (t : Bool) → ltb k (c .before .before .before .before .least .result) && eqb (c .byte-at .result) 0 ≡ t → told k t ≡ answer (decode (a .length) (a .s .now))
+answers c t h =
+    let l = c .before .before .before .before .least in
+    let a = c .before .before .before .before .before .before .args in
+    let e = l .ensures in
+    read-told (a .length) (l .result) (c .before .characters .result) (c .byte-at .result) (a .s .now) (omega arith) (c .byte-at .ensures) (c .before .characters .ensures .1) t h
 
 returns : tie.Need-returns
-returns c =
-    let h = c .before in
-    read-end (R h) (N h) (K h) (S h) (least-is h) (h .characters .ensures .0) (h .characters .ensures .1) (omega arith)
-
-within : (c : tie.After-characters) → (K c ≤ N c) × (N c ≤ length (S c))
-within c = read-within (R c) (N c) (K c) (S c) (least-is c) (c .characters .ensures .0) (c .characters .ensures .1)
-
-shared-slice-read-if2 : tie.Need-shared-slice-read-if2
-shared-slice-read-if2 c = let w = within (c .before .before) in omega arith
-
-add-t14 : tie.Need-add-t14
-add-t14 c = let w = within (c .before .before .before) in omega arith
+returns c = answers (c .before) true (c .if1 .taken)
 
 returns-2 : tie.Need-returns-2
-returns-2 c =
-    let h = c .before .before .before in
-    read-good (R h) (N h) (K h) (S h) (least-is h) (h .characters .ensures .0) (h .characters .ensures .1) (λ z. omega arith) (omega arith)
-
-returns-3 : tie.Need-returns-3
-returns-3 c =
-    let h = c .before .before .before in
-    read-bad (R h) (N h) (K h) (S h) (least-is h) (h .characters .ensures .0) (h .characters .ensures .1) (λ z. omega arith) (λ z. omega arith)
+returns-2 c = answers (c .before) false (c .if1 .left)
 
 pub measure-spec : {M : Type 1} → statement M
 measure-spec =
@@ -75,8 +66,7 @@ measure-spec =
     least-requires
     slice-aggregate-sector
     characters-requires
+    byte-at-requires
+    add-t16
     returns
-    shared-slice-read-if2
-    add-t14
-    returns-2
-    returns-3)
+    returns-2)
