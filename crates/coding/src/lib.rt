@@ -27,8 +27,8 @@ pub enum Coded {
 // Returns the offset of the control byte at which the record stops: the 0, or one that cannot be obeyed.
 // The slice itself is lent, so that a call hands on one address and the compiler can make a loop of the calls.
 fn characters(sector: &&[u8], at: usize, room: usize) -> usize
-    requires { ⌜ (length (now (now sector)) ≤ Sizes.sector) × (at ≤ length (now (now sector))) ⌝ }
-    ensures { λ r. ⌜ (r ≤ length (now (now (sector .entry)))) × (stopped (now (now (sector .entry))) r ≡ answer (decodeFrom room at (drop at (now (now (sector .entry)))))) ⌝ }
+    requires { ⌜ length (now (now sector)) ≤ Sizes.sector ⌝ }
+    ensures { λ r. ⌜ stopped (now (now (sector .entry))) r ≡ answer (decodeFrom room at (drop at (now (now (sector .entry))))) ⌝ }
 {
     let s = *sector;
     if s.len() <= at {
@@ -41,7 +41,10 @@ fn characters(sector: &&[u8], at: usize, room: usize) -> usize
     if 128 <= c {
         return blanks(sector, at, c - 128, room);
     }
-    if (room < c) | (s.len() - at <= c) {
+    if room < c {
+        return at;
+    }
+    if s.len() - at <= c {
         return at;
     }
     characters(sector, at + 1 + c, room - c)
@@ -50,9 +53,12 @@ fn characters(sector: &&[u8], at: usize, room: usize) -> usize
 // A run of n blanks, with its control byte at offset at; it gives back to runs of characters.
 fn blanks(sector: &&[u8], at: usize, n: usize, room: usize) -> usize
     requires { ⌜ (length (now (now sector)) ≤ Sizes.sector) × (at < length (now (now sector))) × (getD (now (now sector)) at 0 ≡ 128 + n) ⌝ }
-    ensures { λ r. ⌜ (r ≤ length (now (now (sector .entry)))) × (stopped (now (now (sector .entry))) r ≡ answer (decodeFrom room at (drop at (now (now (sector .entry)))))) ⌝ }
+    ensures { λ r. ⌜ stopped (now (now (sector .entry))) r ≡ answer (decodeFrom room at (drop at (now (now (sector .entry))))) ⌝ }
 {
-    if (n == 0) | (room < n) {
+    if n == 0 {
+        return at;
+    }
+    if room < n {
         return at;
     }
     characters(sector, at + 1, room - n)

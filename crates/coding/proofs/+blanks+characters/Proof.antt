@@ -1,12 +1,12 @@
 -- `coding::blanks` and `coding::characters`, which call each other, meet their contracts: each answers for its run, and the call that it ends with
 -- for what follows. The measure is twice the bytes that are left, and one more for runs of characters.
 use mathlib.Core.Path.{sym, _∙_}
-use Prim.Native.Nat.{ℕ, _<_, _≤_, _+_, _*_, _-_}
+use Prim.Native.Nat.{ℕ, _<_, _+_, _*_, _-_}
 use native.Mathlib.Omega.{arith}
-use lib.ListN.{length, getD}
+use lib.ListN.{length}
 use borrow.Fn.Kinds.{In}
 use borrow.Fn.PlainCycle.{Measures, is, falls, and}
-use Rattle.coding.proofs.Measured.{stops, few-refused, few-fit, few-taken, most-refused, most-fit, most-taken, ends}
+use Rattle.coding.proofs.Measured.{stops, few-short, few-over, few-taken, most-none, most-over, most-taken, ends}
 use Rattle.coding.proofs.blanks.Reads as blanks
 use Rattle.coding.proofs.blanks.Kinds as blanks-kinds
 use Rattle.coding.proofs.+blanks+characters.Lts-blanks as blanks-lts
@@ -49,35 +49,31 @@ blanks-returns : (t : ℕ) → blanks-lts.Need-returns (blanks-knows t) (blanks-
 blanks-returns t c =
     let a = c .before .args in
     let p = c .before .pre .1 in
-    (omega arith, most-refused (a .sector .now .now) (a .room) (a .at) (p .1) (a .n) (p .2) (c .if1 .taken))
-
--- the run fits
-fit : {t : ℕ} (c : blanks-lts.Else1 (blanks-knows t) (blanks-at t) blanks.Post) → (0 < c .before .args .n) × (c .before .args .n ≤ c .before .args .room)
-fit c =
-    let a = c .before .args in
-    let p = c .before .pre .1 in
-    most-fit (a .sector .now .now) (a .room) (a .at) (p .1) (a .n) (p .2) (c .if1 .left)
-
-blanks-add-characters : (t : ℕ) → blanks-lts.Need-add-characters (blanks-knows t) (blanks-at t) blanks.Post
-blanks-add-characters t c = omega arith
-
-blanks-sub-characters : (t : ℕ) → blanks-lts.Need-sub-characters (blanks-knows t) (blanks-at t) blanks.Post
-blanks-sub-characters t c = fit c .1
-
-blanks-characters-requires : (t : ℕ) → blanks-lts.Need-characters-requires (blanks-knows t) (blanks-at t) blanks.Post
-blanks-characters-requires t c κs = (omega arith, (omega arith, omega arith))
+    most-none (a .sector .now .now) (a .room) (a .at) (p .1) (a .n) (p .2) (omega arith)
 
 blanks-returns-2 : (t : ℕ) → blanks-lts.Need-returns-2 (blanks-knows t) (blanks-at t) blanks.Post
 blanks-returns-2 t c =
     let a = c .before .before .args in
     let p = c .before .before .pre .1 in
+    most-over (a .sector .now .now) (a .room) (a .at) (p .1) (a .n) (p .2) (omega arith)
+
+blanks-add-characters : (t : ℕ) → blanks-lts.Need-add-characters (blanks-knows t) (blanks-at t) blanks.Post
+blanks-add-characters t c = omega arith
+
+blanks-characters-requires : (t : ℕ) → blanks-lts.Need-characters-requires (blanks-knows t) (blanks-at t) blanks.Post
+blanks-characters-requires t c κs = (omega arith, omega arith)
+
+blanks-returns-3 : (t : ℕ) → blanks-lts.Need-returns-3 (blanks-knows t) (blanks-at t) blanks.Post
+blanks-returns-3 t c =
+    let a = c .before .before .before .args in
+    let p = c .before .before .before .pre .1 in
     let e = c .characters .ensures in
-    (e .0, e .1 ∙ sym (most-taken (a .sector .now .now) (a .room) (a .at) (p .1) (a .n) (p .2) (c .before .if1 .left)))
+    e ∙ sym (most-taken (a .sector .now .now) (a .room) (a .at) (p .1) (a .n) (p .2) (omega arith) (omega arith))
 
 -- ---- runs of characters
 
 characters-returns : (t : ℕ) → characters-lts.Need-returns (characters-knows t) (characters-at t) characters.Post
-characters-returns t c = let a = c .before .before .args in (omega arith, ends (a .sector .now .now) (a .room) (a .at) (omega arith) (omega arith))
+characters-returns t c = let a = c .before .before .args in ends (a .sector .now .now) (a .room) (a .at) (omega arith)
 
 characters-shared-slice-read-c : (t : ℕ) → characters-lts.Need-shared-slice-read-c (characters-knows t) (characters-at t) characters.Post
 characters-shared-slice-read-c t c = omega arith
@@ -88,7 +84,7 @@ characters-cast-c t c = omega (arith, c .shared-slice-known .given (c .before .b
 characters-returns-2 : (t : ℕ) → characters-lts.Need-returns-2 (characters-knows t) (characters-at t) characters.Post
 characters-returns-2 t c =
     let a = c .before .before .before .before .args in
-    (omega arith, stops (a .sector .now .now) (a .room) (a .at) (omega arith) (omega arith))
+    stops (a .sector .now .now) (a .room) (a .at) (omega arith) (omega arith)
 
 characters-blanks-requires : (t : ℕ) → characters-lts.Need-blanks-requires (characters-knows t) (characters-at t) characters.Post
 characters-blanks-requires t c κs = (omega arith, (omega arith, omega arith, omega arith))
@@ -96,50 +92,43 @@ characters-blanks-requires t c κs = (omega arith, (omega arith, omega arith, om
 characters-returns-3 : (t : ℕ) → characters-lts.Need-returns-3 (characters-knows t) (characters-at t) characters.Post
 characters-returns-3 t c = c .blanks .ensures
 
-characters-sub-if4 : (t : ℕ) → characters-lts.Need-sub-if4 (characters-knows t) (characters-at t) characters.Post
-characters-sub-if4 t c = omega arith
-
 characters-returns-4 : (t : ℕ) → characters-lts.Need-returns-4 (characters-knows t) (characters-at t) characters.Post
 characters-returns-4 t c =
     let a = c .before .before .before .before .before .before .args in
-    (omega arith, few-refused (a .sector .now .now) (a .room) (a .at) (omega arith) (λ z. omega arith) (omega arith) (c .if4 .taken))
+    few-over (a .sector .now .now) (a .room) (a .at) (omega arith) (λ z. omega arith) (omega arith) (omega arith)
 
--- the run is all there, and has room
-few : {t : ℕ} (c : characters-lts.Else4 (characters-knows t) (characters-at t) characters.Post)
-    → let a = c .before .before .before .before .before .before .args in
-    let n = getD (a .sector .now .now) (a .at) 0 in
-    (n ≤ a .room) × (n < length (a .sector .now .now) - a .at)
-few c =
-    let a = c .before .before .before .before .before .before .args in
-    few-fit (a .sector .now .now) (a .room) (a .at) (omega arith) (λ z. omega arith) (omega arith) (c .if4 .left)
+characters-sub-if5 : (t : ℕ) → characters-lts.Need-sub-if5 (characters-knows t) (characters-at t) characters.Post
+characters-sub-if5 t c = omega arith
+
+characters-returns-5 : (t : ℕ) → characters-lts.Need-returns-5 (characters-knows t) (characters-at t) characters.Post
+characters-returns-5 t c =
+    let a = c .before .before .before .before .before .before .before .args in
+    few-short (a .sector .now .now) (a .room) (a .at) (omega arith) (λ z. omega arith) (omega arith) (omega arith)
 
 characters-add-characters : (t : ℕ) → characters-lts.Need-add-characters (characters-knows t) (characters-at t) characters.Post
 characters-add-characters t c = omega arith
 
 characters-add-characters-2 : (t : ℕ) → characters-lts.Need-add-characters-2 (characters-knows t) (characters-at t) characters.Post
-characters-add-characters-2 t c = omega (arith, few c .1)
-
-characters-sub-characters : (t : ℕ) → characters-lts.Need-sub-characters (characters-knows t) (characters-at t) characters.Post
-characters-sub-characters t c = few c .0
+characters-add-characters-2 t c = omega arith
 
 characters-characters-requires : (t : ℕ) → characters-lts.Need-characters-requires (characters-knows t) (characters-at t) characters.Post
-characters-characters-requires t c κs = let f = few c .1 in (omega arith, (omega arith, omega arith))
+characters-characters-requires t c κs = (omega arith, omega arith)
 
-characters-returns-5 : (t : ℕ) → characters-lts.Need-returns-5 (characters-knows t) (characters-at t) characters.Post
-characters-returns-5 t c =
-    let a = c .before .before .before .before .before .before .before .args in
+characters-returns-6 : (t : ℕ) → characters-lts.Need-returns-6 (characters-knows t) (characters-at t) characters.Post
+characters-returns-6 t c =
+    let a = c .before .before .before .before .before .before .before .before .args in
     let e = c .characters .ensures in
-    (e .0, e .1 ∙ sym (few-taken (a .sector .now .now) (a .room) (a .at) (omega arith) (λ z. omega arith) (omega arith) (c .before .if4 .left)))
+    e ∙ sym (few-taken (a .sector .now .now) (a .room) (a .at) (omega arith) (λ z. omega arith) (omega arith) (omega arith) (omega arith))
 
 pub +blanks+characters-spec : {M : Type 1} → statement M
 +blanks+characters-spec = close μ-blanks μ-characters (λ t. blanks-lts.spec (blanks-knows t)
     (blanks-at t)
     blanks.Post
     (blanks-returns t)
+    (blanks-returns-2 t)
     (blanks-add-characters t)
-    (blanks-sub-characters t)
     (blanks-characters-requires t)
-    (blanks-returns-2 t))
+    (blanks-returns-3 t))
     λ t. characters-lts.spec
     (characters-knows t)
     (characters-at t)
@@ -150,10 +139,10 @@ pub +blanks+characters-spec : {M : Type 1} → statement M
     (characters-returns-2 t)
     (characters-blanks-requires t)
     (characters-returns-3 t)
-    (characters-sub-if4 t)
     (characters-returns-4 t)
+    (characters-sub-if5 t)
+    (characters-returns-5 t)
     (characters-add-characters t)
     (characters-add-characters-2 t)
-    (characters-sub-characters t)
     (characters-characters-requires t)
-    (characters-returns-5 t)
+    (characters-returns-6 t)

@@ -2,12 +2,14 @@
 use mathlib.Core.Path.{_≡_, sym}
 use mathlib.Core.Bool.{Bool, true, false, _&&_}
 use mathlib.Core.List.{List}
-use Prim.Native.Nat.{ℕ, min}
+use Prim.Native.Nat.{ℕ, _<_, min}
 use native.Mathlib.Omega.{arith}
 use lib.ListN.{length, take}
 use lib.Seq.{length-take-le}
 use lib.Dec.{eqb, ltb}
 use borrow.Author.Needs.{needs}
+use borrow.Author.Tests.{ltb-true}
+use Rattle.geometry.proofs.Tests.{and-left}
 use Rattle.geometry.specs.Sizes.{sector}
 use Rattle.coding.specs.Decode.{decode, answer}
 use Rattle.coding.proofs.Measured.{told, read-told}
@@ -29,17 +31,16 @@ characters-requires c κs =
     let l = c .before .before .least in
     let e = l .ensures in
     let z = lent (c .before .before .before .before .args .s .now) (l .result) (omega arith) in
-    (omega arith, omega arith)
+    omega arith
 
 byte-at-requires : tie.Need-byte-at-requires
 byte-at-requires c κs = search needs
 
 add-t16 : tie.Need-add-t16
 add-t16 c =
-    let l = c .before .before .before .before .before .least in
-    let e = l .ensures in
-    let z = lent (c .before .before .before .before .before .before .before .args .s .now) (l .result) (omega arith) in
-    let k = c .before .before .characters .ensures .0 in
+    let k = c .before .before .characters .result in
+    let n = c .before .before .before .before .before .least .result in
+    let some : k < n = ltb-true k n (and-left (ltb k n) _ (c .if1 .taken)) in
     omega arith
 
 -- by the byte at which they stop
@@ -51,7 +52,7 @@ answers c t h =
     let l = c .before .before .before .before .least in
     let a = c .before .before .before .before .before .before .args in
     let e = l .ensures in
-    read-told (a .length) (l .result) (c .before .characters .result) (c .byte-at .result) (a .s .now) (omega arith) (c .byte-at .ensures) (c .before .characters .ensures .1) t h
+    read-told (a .length) (l .result) (c .before .characters .result) (c .byte-at .result) (a .s .now) (omega arith) (c .byte-at .ensures) (c .before .characters .ensures) t h
 
 returns : tie.Need-returns
 returns c = answers (c .before) true (c .if1 .taken)

@@ -44,7 +44,7 @@ fit : (c : tie.Then2 Inv-loop μ-loop)
 fit c =
     let l = c .before .before .before .before in
     let a = l .before .before .before .args in
-    run-fits (a .s .now) (l .loop .i) (l .loop .out) (l .loop .j) (l .loop .inv .1) (c .before .before .if1 .taken) (c .if2 .taken)
+    run-fits (a .s .now) (l .loop .i) (l .loop .out) (l .loop .j) (l .loop .inv .1) (λ z. omega arith) (omega arith)
 
 add-end : tie.Need-add-end Inv-loop μ-loop
 add-end c = omega (arith, fit c .0)
@@ -75,7 +75,7 @@ loop-again c =
     let p = c .before .before .lay in
     let n = getD (a .s .now) (l .loop .i) 0 in
     let size : l .loop .i + 1 + n - (l .loop .i + 1) ≡ n = omega arith in
-    let r = laid (a .s .now) (l .loop .i) (l .loop .out) (l .loop .j) (l .loop .inv .1) (f .before .before .if1 .taken) (f .if2 .taken) (p .last .0) (rw size at (p .ensures)) in
+    let r = laid (a .s .now) (l .loop .i) (l .loop .out) (l .loop .j) (l .loop .inv .1) (λ z. omega arith) (omega arith) (p .last .0) (rw size at (p .ensures)) in
     (p .kept .0 ∙ l .loop .inv .0, r .0, l .loop .inv .2 ∙ r .1)
 
 -- a run of blanks
@@ -86,7 +86,7 @@ passed : (c : tie.Else2 Inv-loop μ-loop)
 passed c =
     let l = c .before .before .before .before in
     let a = l .before .before .before .args in
-    passes (a .s .now) (l .loop .i) (l .loop .out) (l .loop .j) (l .loop .inv .1) (over (a .s .now) (l .loop .i) (l .loop .out) (l .loop .j) (l .loop .inv .1) (c .if2 .left))
+    passes (a .s .now) (l .loop .i) (l .loop .out) (l .loop .j) (l .loop .inv .1) (over (a .s .now) (l .loop .i) (l .loop .out) (l .loop .j) (l .loop .inv .1) (omega arith))
 
 add-j-2 : tie.Need-add-j-2 Inv-loop μ-loop
 add-j-2 c = omega (arith, passed c .0)
