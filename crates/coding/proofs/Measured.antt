@@ -3,27 +3,20 @@ use mathlib.Core.Path.{_≡_, refl, sym, ap, _∙_}
 use mathlib.Core.Logic.{_≢_}
 use mathlib.Core.Bool.{Bool, true, false, _&&_}
 use mathlib.Core.List.{List}
-use Prim.Native.Nat.{ℕ, _+_, _-_, _≤_, _<_, min}
+use Prim.Native.Nat.{ℕ, _+_, _-_, _≤_, _<_}
 use native.Mathlib.Nat.{add-zero}
 use native.Mathlib.Omega.{arith}
 use native.Mathlib.Decide.{decLt}
-use lib.ListN.{length, take, drop, getD, length-drop}
-use lib.Seq.{getD-drop, drop-drop, take-all, length-take-le}
+use lib.ListN.{length, drop, getD, length-drop}
+use lib.Seq.{getD-drop, drop-drop}
 use lib.Dec.{eqb, ltb}
 use borrow.Author.Tests.{lt-ltb, le-ltb, ne-eqb}
 use Rattle.geometry.specs.Sizes.{sector}
+use Rattle.geometry.specs.Bytes.{part}
 use Rattle.coding.specs.declared.Coded.{Coded}
 use Rattle.coding.specs.declared.Coded.the-variants.{Good, Bad}
 use Rattle.coding.specs.Decode.{Decoded, good, bad, before, decodeFrom, decode, answer, stopped}
 use Rattle.coding.proofs.Reader.{at-end, at-stop, at-goOn, at-short, at-over, at-run, at-full, at-blanks}
-
--- as many bytes as a sector has, as far as there are any
-pub take-least : (n : ℕ) (s : List ℕ) → n ≡ min sector (length s) → take n s ≡ take sector s
-take-least n s e = go (decLt (length s) sector)
-  where
-    go : Dec (length s < sector) → take n s ≡ take sector s
-    go (yes h) = take-all n s (omega arith) ∙ sym (take-all sector s (omega arith))
-    go (no h) = let z : n ≡ sector = omega arith in rw z
 
 -- what is answered from the place `at` on
 abbrev pub Answer : List ℕ → ℕ → ℕ → Coded
@@ -114,16 +107,15 @@ module _ (s : List ℕ) (room at : ℕ) (h : at < length s) where
         let m : c - 128 ≡ n = omega arith in
         ap answer (rw (first, m) at (at-blanks room at (drop at s) some (rw first (omega arith)) (rw (first, m) f))) ∙ answer-before _ _ ∙ rw drop-drop
 
--- ---- in a sector's bytes, which the n first are
+-- ---- in a sector's bytes, as far as there are any
 
 abbrev pub told : ℕ → Bool → Coded
 told k t = elim t [ true ↦ Good (k + 1) | false ↦ Bad k ]
 
 -- where they stop at the byte b
-pub read-told : (R n k b : ℕ) (s : List ℕ) → n ≡ min sector (length s) → b ≡ getD (take n s) k 0 → stopped (take n s) k ≡ answer (decodeFrom R 0 (take n s))
-    → (t : Bool) → ltb k n && eqb b 0 ≡ t → told k t ≡ answer (decode R s)
-unfolding decode stopped
-read-told R n k b s e at is t h =
-    let size : length (take n s) ≡ n = length-take-le n s (omega arith) in
-    let test : ltb k (length (take n s)) && eqb (getD (take n s) k 0) 0 ≡ t = rw (size, ← at) h in
-    ap (told k) (sym test) ∙ is ∙ ap (λ (u : List ℕ). answer (decodeFrom R 0 u)) (take-least n s e)
+pub read-told : (R k b : ℕ) (l s : List ℕ) → l ≡ part s 0 sector → b ≡ getD l k 0 → stopped l k ≡ answer (decodeFrom R 0 l)
+    → (t : Bool) → ltb k (length l) && eqb b 0 ≡ t → told k t ≡ answer (decode R s)
+unfolding decode stopped part
+read-told R k b l s lent at is t h =
+    let test : ltb k (length l) && eqb (getD l k 0) 0 ≡ t = rw (← at) h in
+    ap (told k) (sym test) ∙ is ∙ ap (λ (u : List ℕ). answer (decodeFrom R 0 u)) lent

@@ -4,6 +4,7 @@ use geometry::byte_at;
 use geometry::fill;
 use geometry::lay;
 use geometry::least;
+use geometry::part;
 use geometry::put;
 ghost use mathlib.Core.Path.{_≡_};
 ghost use mathlib.Core.Bool.{true, false};
@@ -68,10 +69,9 @@ fn blanks(sector: &&[u8], at: usize, n: usize, room: usize) -> usize
 pub fn measure(s: &[u8], length: usize) -> Coded
     ensures { λ r. ⌜ r ≡ answer (Decode.decode length (now (s .entry))) ⌝ }
 {
-    let n = least(Geometry::SECTOR, s.len());
-    let sector = &s[..n];
+    let sector = part(s, 0, Geometry::SECTOR);
     let k = characters(&sector, 0, length);
-    if (k < n) & (byte_at(sector, k) == 0) {
+    if (k < sector.len()) & (byte_at(sector, k) == 0) {
         Coded::Good(k + 1)
     } else {
         Coded::Bad(k)
