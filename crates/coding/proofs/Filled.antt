@@ -1,4 +1,4 @@
--- What the two decoding functions leave: blanks are there already, characters are copied, and the rest of the code is read behind them.
+-- What is read of a good code: blanks are there already, characters are laid, and the rest of the code is read behind them.
 use mathlib.Core.Path.{_≡_, refl, sym, ap, _∙_}
 use mathlib.Core.Logic.{_≢_}
 use mathlib.Core.Bool.{true, true≢false}
@@ -7,13 +7,13 @@ use Prim.Native.Nat.{ℕ, _+_, _-_, _≤_, _<_}
 use native.Mathlib.Nat.{add-zero, sub-zero}
 use native.Mathlib.Omega.{arith}
 use native.Mathlib.Decide.{decLt}
-use lib.ListN.{length, take, drop, getD, replicate, length-drop, length-replicate, take-append-drop, replicate-append-replicate}
-use lib.Seq.{take-at, drop-at, take-add, drop-drop, getD-drop, paste, length-paste, take-paste, drop-paste}
+use lib.ListN.{length, take, drop, getD, replicate, length-append, length-drop, length-replicate, take-append-drop, replicate-append-replicate}
+use lib.Seq.{take-at, drop-at, take-add, drop-drop, getD-drop, length-take-le}
 use Rattle.geometry.specs.Sizes.{blank}
 use Rattle.geometry.specs.Bytes.{lay}
 use Rattle.coding.specs.declared.Coded.{Coded}
 use Rattle.coding.specs.Decode.{Decoded, good, bad, before, decodeFrom, decode, answer, given, isGood, Awaited, filled}
-use Rattle.geometry.proofs.Bytes.{lay-all, length-lay}
+use Rattle.geometry.proofs.Bytes.{lay-fits, lay-all, length-lay}
 use Rattle.coding.proofs.Reader.{at-end, at-stop, at-goOn, at-short, at-over, at-run, at-full, at-blanks, answer-good, answer-bad}
 use Rattle.coding.proofs.Known.{decode-all}
 
@@ -67,6 +67,15 @@ blanks-split out to n fits empty =
     let left : length out - to ≡ n + (length out - (to + n)) = omega arith in
     empty ∙ ap (λ k. replicate k blank) left ∙ sym (replicate-append-replicate n (length out - (to + n)) blank)
 
+-- what is laid stands behind what was there before it, and before what was there behind it
+laid-in : (out xs new : List ℕ) (to n : ℕ) → length xs ≡ n → to + n ≤ length out → new ≡ lay out to xs
+    → (take (to + n) new ≡ take to out ++ xs) × (drop (to + n) new ≡ drop (to + n) out)
+laid-in out xs new to n size fits e =
+    let front : length (take to out ++ xs) ≡ to + n = length-append (take to out) xs ∙ rw (length-take-le to out (omega arith), size) in
+    let is : new ≡ (take to out ++ xs) ++ drop (to + n) out =
+    e ∙ lay-fits out to xs (rw size fits) ∙ ap (λ (k : ℕ). take to out ++ (xs ++ drop (to + k) out)) size ∙ sym (append-assoc (take to out) xs (drop (to + n) out)) in
+    (ap (take (to + n)) is ∙ take-at (take to out ++ xs) _ (to + n) front, ap (drop (to + n)) is ∙ drop-at (take to out ++ xs) _ (to + n) front)
+
 -- ---- one run: out becomes new, with the n characters xs behind those that it had, and what follows is read by g
 
 one-run : (f g : Decoded) (xs out new : List ℕ) (to n : ℕ) → f ≡ before xs g → to + n ≤ length out → length new ≡ length out
@@ -92,9 +101,9 @@ abbrev pub Passed : List ℕ → ℕ → List ℕ → ℕ → ℕ → Type 0
 Passed s at out to n =
     (to + n ≤ length out) × Awaited (Next s (at + 1) out (to + n)) out (to + n) × (filled (Next s at out to) out to ≡ filled (Next s (at + 1) out (to + n)) out (to + n))
 
--- a run of n characters is copied
-abbrev pub Copied : List ℕ → ℕ → ℕ → List ℕ → ℕ → List ℕ → Type 0
-Copied s at n out to new =
+-- a run of n characters is laid
+abbrev pub Laid : List ℕ → ℕ → ℕ → List ℕ → ℕ → List ℕ → Type 0
+Laid s at n out to new =
     Awaited (Next s (at + 1 + n) new (to + n)) new (to + n) × (filled (Next s at out to) out to ≡ filled (Next s (at + 1 + n) new (to + n)) new (to + n))
 
 module _ (s : List ℕ) (at : ℕ) (out : List ℕ) (to : ℕ) where
@@ -152,18 +161,19 @@ module _ (s : List ℕ) (at : ℕ) (out : List ℕ) (to : ℕ) where
           let within = w .fits in
           (omega arith, omega arith)
 
-      pub copied : (new : List ℕ) → new ≡ paste out to (drop (at + 1) s) n → Copied s at n out to new
-      copied new e =
+      pub laid : (new : List ℕ) → new ≡ lay out to (take n (drop (at + 1) s)) → Laid s at n out to new
+      laid new e =
           let r = ready in
           let f = run-fits in
-          let long : length new ≡ length out = ap length e ∙ length-paste out to (drop (at + 1) s) n (f .1) (r .0) in
+          let xs = take n (drop (at + 1) s) in
+          let size : length xs ≡ n = length-take-le n (drop (at + 1) s) (r .0) in
+          let long : length new ≡ length out = ap length e ∙ length-lay out to xs in
           let rest : length out - to - n ≡ length new - (to + n) = omega arith in
           let fits : n ≤ length (drop 1 (drop at s)) = rw drop-drop (r .0) in
-          let is : Next s at out to ≡ before (take n (drop (at + 1) s)) (Next s (at + 1 + n) new (to + n)) =
+          let is : Next s at out to ≡ before xs (Next s (at + 1 + n) new (to + n)) =
           rw (first, rest, drop-drop, drop-drop) at (at-run (length out - to) at (drop at s) some (rw first more) (rw first few) (rw first fits) (rw first (r .1))) in
-          one-run _ _ (take n (drop (at + 1) s)) out new to n is (f .1) long
-          (ap (take (to + n)) e ∙ take-paste out to (drop (at + 1) s) n (w .fits) (r .0))
-          (ap (drop (to + n)) e ∙ drop-paste out to (drop (at + 1) s) n (w .fits) (r .0)) w
+          let l = laid-in out xs new to n size (f .1) e in
+          one-run _ _ xs out new to n is (f .1) long (l .0) (l .1) w
 
 -- ---- measured first
 

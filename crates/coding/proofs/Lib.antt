@@ -1,4 +1,3 @@
-pub mod Parts
 pub mod Reader
 pub mod Filled
 pub mod Measured

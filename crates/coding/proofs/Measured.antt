@@ -1,34 +1,22 @@
 -- The decoder's answer depends on the control bytes alone: it is the answer from the next control byte on, with the room that is left.
 use mathlib.Core.Path.{_≡_, refl, sym, ap, _∙_}
 use mathlib.Core.Logic.{_≢_}
-use mathlib.Core.Bool.{Bool, true, false, _||_, true≢false}
+use mathlib.Core.Bool.{Bool, true, false, _&&_}
 use mathlib.Core.List.{List}
-use Prim.Native.Nat.{ℕ, _+_, _-_, _≤_, _<_, min}
+use Prim.Native.Nat.{ℕ, _+_, _-_, _≤_, _<_}
 use native.Mathlib.Nat.{add-zero}
 use native.Mathlib.Omega.{arith}
 use native.Mathlib.Decide.{decLt}
-use lib.ListN.{length, take, drop, getD, length-drop}
-use lib.Seq.{getD-drop, drop-drop, take-all, getD-take, length-take-le}
-use lib.Dec.{eqb, leb, ltb}
-use borrow.Author.Tests.{lt-ltb, le-ltb, ne-eqb, eqb-true, eqb-false, leb-true, leb-false, ltb-true, ltb-false}
+use lib.ListN.{length, drop, getD, length-drop}
+use lib.Seq.{getD-drop, drop-drop}
+use lib.Dec.{eqb, ltb}
+use borrow.Author.Tests.{lt-ltb, le-ltb, ne-eqb}
 use Rattle.geometry.specs.Sizes.{sector}
-use Rattle.geometry.proofs.Tests.{or-either}
+use Rattle.geometry.specs.Bytes.{part}
 use Rattle.coding.specs.declared.Coded.{Coded}
 use Rattle.coding.specs.declared.Coded.the-variants.{Good, Bad}
 use Rattle.coding.specs.Decode.{Decoded, good, bad, before, decodeFrom, decode, answer, stopped}
 use Rattle.coding.proofs.Reader.{at-end, at-stop, at-goOn, at-short, at-over, at-run, at-full, at-blanks}
-
-neither : (a b : Bool) → a || b ≡ false → (a ≡ false) × (b ≡ false)
-neither true b h = absurd (true≢false h)
-neither false b h = (refl, h)
-
--- as many bytes as a sector has, as far as there are any
-pub take-least : (n : ℕ) (s : List ℕ) → n ≡ min sector (length s) → take n s ≡ take sector s
-take-least n s e = go (decLt (length s) sector)
-  where
-    go : Dec (length s < sector) → take n s ≡ take sector s
-    go (yes h) = take-all n s (omega arith) ∙ sym (take-all sector s (omega arith))
-    go (no h) = let z : n ≡ sector = omega arith in rw z
 
 -- what is answered from the place `at` on
 abbrev pub Answer : List ℕ → ℕ → ℕ → Coded
@@ -57,8 +45,8 @@ pub stopped-good : (s : List ℕ) (k : ℕ) → k < length s → getD s k 0 ≡ 
 unfolding stopped
 stopped-good s k h z = rw (lt-ltb k (length s) h, z, stopped)
 
-pub ends : (s : List ℕ) (room at : ℕ) → length s ≤ at → at ≤ length s → stopped s at ≡ Answer s room at
-ends s room at h g = stopped-end s at h ∙ sym (answer-bad _ at (at-end room at (drop at s) (rw length-drop (omega arith))))
+pub ends : (s : List ℕ) (room at : ℕ) → length s ≤ at → stopped s at ≡ Answer s room at
+ends s room at h = stopped-end s at h ∙ sym (answer-bad _ at (at-end room at (drop at s) (rw length-drop (omega arith))))
 
 module _ (s : List ℕ) (room at : ℕ) (h : at < length s) where
   some : 0 < length (drop at s)
@@ -88,64 +76,46 @@ module _ (s : List ℕ) (room at : ℕ) (h : at < length s) where
     left : length (drop 1 (drop at s)) ≡ length s - at - 1
     left = rw (length-drop, length-drop)
 
-    pub few-refused : ltb room c || leb (length s - at) c ≡ true → stopped s at ≡ Answer s room at
-    few-refused t = refused more (short (decLt (length s - at - 1) c))
+    -- that runs past the sector, or has no room
+    pub few-short : length s - at ≤ c → stopped s at ≡ Answer s room at
+    few-short f = refused more (at-short room at (drop at s) some more′ few′ (rw (first, left) (omega arith)))
+
+    pub few-over : room < c → stopped s at ≡ Answer s room at
+    few-over f = go (decLt c (length s - at))
       where
-        short : Dec (length s - at - 1 < c) → decodeFrom room at (drop at s) ≡ bad at
-        short (yes l) = at-short room at (drop at s) some more′ few′ (rw (first, left) l)
-        short (no l) = at-over room at (drop at s) some more′ few′ (rw (first, left) (omega arith))
-            (rw first (or-either (ltb room c) (leb (length s - at) c) t (λ u. ltb-true room c u) (λ u. absurd (let f = leb-true (length s - at) c u in omega arith))))
+        go : Dec (c < length s - at) → stopped s at ≡ Answer s room at
+        go (yes l) = refused more (at-over room at (drop at s) some more′ few′ (rw (first, left) (omega arith)) (rw first f))
+        go (no l) = few-short (omega arith)
 
-    module _ (t : ltb room c || leb (length s - at) c ≡ false) where
-      pub few-fit : (c ≤ room) × (c < length s - at)
-      few-fit = let n = neither (ltb room c) (leb (length s - at) c) t in (ltb-false room c (n .0), leb-false (length s - at) c (n .1))
+    -- that is all there
+    pub few-taken : c ≤ room → c < length s - at → Answer s room at ≡ Answer s (room - c) (at + 1 + c)
+    few-taken f l =
+        ap answer (rw first at (at-run room at (drop at s) some more′ few′ (rw (first, left) (omega arith)) (rw first f))) ∙ answer-before _ _
+        ∙ rw (drop-drop 1 at s, drop-drop c (at + 1) s)
 
-      pub few-taken : Answer s room at ≡ Answer s (room - c) (at + (1 + c))
-      few-taken =
-          let there : at + (1 + c) ≡ at + 1 + c = omega arith in
-          let f = few-fit in
-          ap answer (rw first at (at-run room at (drop at s) some more′ few′ (rw (first, left) (omega arith)) (rw first (f .0)))) ∙ answer-before _ _
-          ∙ rw (there, drop-drop 1 at s, drop-drop c (at + 1) s)
-
-  -- a run of n blanks, or 128
+  -- a run of n blanks
   module _ (n : ℕ) (is : c ≡ 128 + n) where
-    pub most-refused : eqb n 0 || ltb room n ≡ true → stopped s at ≡ Answer s room at
-    most-refused t = refused (λ z. omega arith) (or-either (eqb n 0) (ltb room n) t
-        (λ u. let z = eqb-true n 0 u in at-goOn room at (drop at s) some (rw first (omega arith)))
-        (λ u. let f = ltb-true room n u in at-full room at (drop at s) some (rw first (omega arith)) (rw first (omega arith))))
+    -- that is 128, or has no room
+    pub most-none : n ≡ 0 → stopped s at ≡ Answer s room at
+    most-none z = refused (λ e. omega arith) (at-goOn room at (drop at s) some (rw first (omega arith)))
 
-    module _ (t : eqb n 0 || ltb room n ≡ false) where
-      pub most-fit : (0 < n) × (n ≤ room)
-      most-fit = let e = neither (eqb n 0) (ltb room n) t in let z = eqb-false n 0 (e .0) in (omega arith, ltb-false room n (e .1))
+    pub most-over : room < n → stopped s at ≡ Answer s room at
+    most-over f = refused (λ e. omega arith) (at-full room at (drop at s) some (rw first (omega arith)) (rw first (omega arith)))
 
-      pub most-taken : Answer s room at ≡ Answer s (room - n) (at + 1)
-      most-taken =
-          let f = most-fit in
-          let m : c - 128 ≡ n = omega arith in
-          ap answer (rw (first, m) at (at-blanks room at (drop at s) some (rw first (omega arith)) (rw (first, m) (f .1)))) ∙ answer-before _ _ ∙ rw drop-drop
+    pub most-taken : 0 < n → n ≤ room → Answer s room at ≡ Answer s (room - n) (at + 1)
+    most-taken l f =
+        let m : c - 128 ≡ n = omega arith in
+        ap answer (rw (first, m) at (at-blanks room at (drop at s) some (rw first (omega arith)) (rw (first, m) f))) ∙ answer-before _ _ ∙ rw drop-drop
 
--- ---- in a sector's bytes, which the n first are
+-- ---- in a sector's bytes, as far as there are any
 
-module _ (R n k : ℕ) (s : List ℕ) (e : n ≡ min sector (length s)) (h : k ≤ length (take n s)) (is : stopped (take n s) k ≡ answer (decodeFrom R 0 (take n s))) where
-  size : length (take n s) ≡ n
-  size = length-take-le n s (omega arith)
+abbrev pub told : ℕ → Bool → Coded
+told k t = elim t [ true ↦ Good (k + 1) | false ↦ Bad k ]
 
-  pub read-within : (k ≤ n) × (n ≤ length s)
-  read-within = let z = size in (omega arith, omega arith)
-
-  whole : stopped (take n s) k ≡ answer (decode R s)
-  unfolding decode
-  whole = is ∙ ap (λ (t : List ℕ). answer (decodeFrom R 0 t)) (take-least n s e)
-
-  pub read-end : k ≡ n → Bad k ≡ answer (decode R s)
-  read-end z = sym (stopped-end (take n s) k (rw size (omega arith))) ∙ whole
-
-  module _ (more : k ≢ n) where
-    inside : k < n
-    inside = let w = read-within in omega arith
-
-    pub read-good : getD s k 0 ≡ 0 → Good (k + 1) ≡ answer (decode R s)
-    read-good z = sym (stopped-good (take n s) k (rw size inside) (getD-take n s k 0 inside ∙ z)) ∙ whole
-
-    pub read-bad : getD s k 0 ≢ 0 → Bad k ≡ answer (decode R s)
-    read-bad z = sym (stopped-bad (take n s) k (rw size inside) (rw (getD-take n s k 0 inside) z)) ∙ whole
+-- where they stop at the byte b
+pub read-told : (R k b : ℕ) (l s : List ℕ) → l ≡ part s 0 sector → b ≡ getD l k 0 → stopped l k ≡ answer (decodeFrom R 0 l)
+    → (t : Bool) → ltb k (length l) && eqb b 0 ≡ t → told k t ≡ answer (decode R s)
+unfolding decode stopped part
+read-told R k b l s lent at is t h =
+    let test : ltb k (length l) && eqb (getD l k 0) 0 ≡ t = rw (← at) h in
+    ap (told k) (sym test) ∙ is ∙ ap (λ (u : List ℕ). answer (decodeFrom R 0 u)) lent

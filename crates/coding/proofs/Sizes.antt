@@ -1,5 +1,6 @@
--- "A coded record has at most R + 3 bytes", and they are bytes. A run of characters costs one byte more than its characters, and so does the 0 at the
--- end; but a run of characters that is not full has the end or two blanks behind it, which cost one byte. So only full runs cost more.
+-- "A coded record has at most R + 3 bytes": the code of any text has at most a byte more than characters, and one for each 127 of them that is begun. A run
+-- of characters costs one byte more than its characters, and so does the 0 at the end; but a run that is not full has the end or two blanks behind it,
+-- which cost one byte. So only full runs cost more.
 use mathlib.Core.Path.{_≡_, refl, sym, _∙_}
 use mathlib.Core.Bool.{Bool, true, false, Bool·beq}
 use mathlib.Core.List.{List, [], _∷_, _++_}
@@ -45,9 +46,9 @@ run-two n q c (d ∷ s) t =
 
 -- ---- the length of a code
 
--- at most two bytes more than characters, and one for each 127 of them; one less where the list is tight
+-- a byte more than characters, and one for each 127 of them that is begun; only for each 127 that is full where the list is tight
 Short : List ℕ → ℕ → Type 0
-Short s n = (n ≤ length s + 2 + length s / 127) × (Tight s → n ≤ length s + 1 + length s / 127)
+Short s n = (n ≤ length s + 1 + (length s + 126) / 127) × (Tight s → n ≤ length s + 1 + length s / 127)
 
 short-run : (gap : Bool) (q c : ℕ) (s u : List ℕ) → inGap q c s ≡ gap → Short (drop (runLength 126 gap c s) s) (length u)
     → Short (c ∷ s) (length (runCode gap (take (suc (runLength 126 gap c s)) (c ∷ s)) ++ u))
@@ -71,53 +72,20 @@ short [] (suc k) q = (omega arith, λ t. omega arith)
 short (c ∷ s) (suc k) q = short s k c
 short (c ∷ s) zero q = rw (run-own 126 q c s, sub-one) (short-run (inGap q c s) q c s (runsCode (runLength 126 (inGap q c s) c s) c s) refl (short s (runLength 126 (inGap q c s) c s) c))
 
-pub encode-length : (x : List ℕ) → length x ≤ 132 → length (encode x) ≤ length x + 3
+-- of any text; row 8 of the table has as many
+pub encode-most : (x : List ℕ) → length (encode x) ≤ length x + 1 + (length x + 126) / 127
 unfolding encode Short
-encode-length x h =
+encode-most x =
     let e = keeps (length x) x in
     let l = keeps-le (length x) x in
     let n : length (take e x) ≡ e = length-take-le e x l in
     let f = short (take e x) 0 0 .0 in
     omega arith
 
+-- three more is enough up to 254 characters
+pub encode-length : (x : List ℕ) → length x ≤ 254 → length (encode x) ≤ length x + 3
+encode-length x h = let m = encode-most x in omega arith
+
 pub codeOf-length : (R : ℕ) (given : List ℕ) → length given ≤ R → R ≤ 132 → length (codeOf R given) ≤ R + 3
 unfolding codeOf
 codeOf-length R given h b = rw (encode-padded R given) (let l = encode-length given (omega arith) in omega arith)
-
--- ---- its bytes
-
--- all are bytes
-abbrev Bytes : List ℕ → Type 0
-Bytes xs = (i : ℕ) → getD xs i 0 < 256
-
-bytes-cons : (c : ℕ) (xs : List ℕ) → c < 256 → Bytes xs → Bytes (c ∷ xs)
-bytes-cons c xs h b zero = h
-bytes-cons c xs h b (suc i) = b i
-
-bytes-append : (xs ys : List ℕ) → Bytes xs → Bytes ys → Bytes (xs ++ ys)
-bytes-append [] ys a b i = b i
-bytes-append (x ∷ xs) ys a b zero = a 0
-bytes-append (x ∷ xs) ys a b (suc i) = bytes-append xs ys (λ i. a (suc i)) b i
-
-bytes-take : (n : ℕ) (xs : List ℕ) → Bytes xs → Bytes (take n xs)
-bytes-take zero xs a i = omega arith
-bytes-take (suc n) [] a i = a i
-bytes-take (suc n) (x ∷ xs) a zero = a 0
-bytes-take (suc n) (x ∷ xs) a (suc i) = bytes-take n xs (λ i. a (suc i)) i
-
-bytes-run : (gap : Bool) (xs : List ℕ) → length xs ≤ 127 → Bytes xs → Bytes (runCode gap xs)
-unfolding runCode
-bytes-run false xs h b = bytes-cons (length xs) xs (omega arith) b
-bytes-run true xs h b = bytes-cons (128 + length xs) [] (omega arith) (λ i. omega arith)
-
-bytes-runs : (s : List ℕ) (k q : ℕ) → Bytes s → Bytes (runsCode k q s)
-unfolding runsCode
-bytes-runs [] zero q b = bytes-cons 0 [] (omega arith) b
-bytes-runs [] (suc k) q b = bytes-cons 0 [] (omega arith) b
-bytes-runs (c ∷ s) (suc k) q b = bytes-runs s k c (λ i. b (suc i))
-bytes-runs (c ∷ s) zero q b =
-    let gap = inGap q c s in
-    let n = runLength 127 gap q (c ∷ s) in
-    let le = run-le 127 gap q (c ∷ s) in
-    let l : length (take n (c ∷ s)) ≡ n = length-take-le n (c ∷ s) (le .1) in
-    bytes-append (runCode gap (take n (c ∷ s))) (runsCode (n - 1) c s) (bytes-run gap (take n (c ∷ s)) (omega arith) (bytes-take n (c ∷ s) b)) (bytes-runs s (n - 1) c (λ i. b (suc i)))

@@ -48,13 +48,20 @@ module _ (x : List ℕ) (j : ℕ) where
   pub gap-two : getD x j 0 ≡ blank → getD x (j + 1) 0 ≡ blank → true ≡ gapAt x j
   gap-two b d = sym (gap-first (Before x j) (getD x j 0) (drop (j + 1) x) b (next ∙ d))
 
-  pub gap-last : getD x j 0 ≡ blank → getD x (j + 1) 0 ≢ blank → eqb (Before x j) blank ≡ gapAt x j
+  gap-last : getD x j 0 ≡ blank → getD x (j + 1) 0 ≢ blank → eqb (Before x j) blank ≡ gapAt x j
   unfolding inGap
   gap-last b n = rw (b, next, ne-eqb (getD x (j + 1) 0) blank n) (go (eqb (Before x j) blank))
     where
       go : (t : Bool) → t ≡ t || false
       go true = refl
       go false = refl
+
+  -- by the character before it, if there is one
+  pub gap-first-last : getD x j 0 ≡ blank → getD x (j + 1) 0 ≢ blank → j ≡ 0 → false ≡ gapAt x j
+  gap-first-last b n z = sym (ap (λ (i : ℕ). eqb (Before x i) blank) z) ∙ gap-last b n
+
+  pub gap-behind : getD x j 0 ≡ blank → getD x (j + 1) 0 ≢ blank → j ≢ 0 → eqb (getD x (j - 1) 0) blank ≡ gapAt x j
+  gap-behind b n more = ap (λ (q : ℕ). eqb q blank) (sym (before-is x j more)) ∙ gap-last b n
 
   -- behind a character that goes into none
   pub gap-begins : 0 < j → gapAt x (j - 1) ≡ false → getD x j 0 ≡ blank → eqb (getD x (j + 1) 0) blank ≡ gapAt x j

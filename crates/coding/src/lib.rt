@@ -2,14 +2,17 @@
 use geometry::Geometry;
 use geometry::byte_at;
 use geometry::fill;
+use geometry::lay;
 use geometry::least;
+use geometry::part;
 use geometry::put;
 ghost use mathlib.Core.Path.{_≡_};
 ghost use mathlib.Core.Bool.{true, false};
 ghost use mathlib.Core.List.{_∷_};
 ghost use Prim.Native.Nat.{_+_, _-_, _≤_, _<_, _^_, min};
 ghost use lib.ListN.{length, take, drop, getD};
-ghost use lib.Seq.{sets, paste};
+ghost use lib.Seq.{sets};
+ghost use Rattle.geometry.specs.Sizes as Sizes;
 ghost use Rattle.coding.specs.Decode.{decodeFrom, stopped, answer, given, Awaited, filled};
 ghost use Rattle.coding.specs.Decode as Decode;
 ghost use Rattle.coding.specs.Encode.{gapAt, runLength, runsCode};
@@ -21,64 +24,54 @@ pub enum Coded {
     Bad(usize),
 }
 
-// Copies the n characters of s from the place at on over those of out from the place to on.
-fn copy(s: &[u8], at: usize, n: usize, out: &mut [u8], to: usize)
-    requires { ⌜ (at + n ≤ length (now s)) × (to + n ≤ length (now out)) ⌝ }
-    ensures { λ _. ⌜ now (out .exit) ≡ paste (now (out .entry)) to (drop at (now (s .entry))) n ⌝ }
-{
-    let mut k = 0;
-    while k < n {
-        out[to + k] = s[at + k];
-        k += 1;
-    }
-}
-
-// Runs of characters in the sector's bytes s, the first control byte at offset at, with room for so many; a run of blanks is given over to.
+// Runs of characters in a sector's bytes, the control byte at offset at, with room for so many; a run of blanks is given over to.
 // Returns the offset of the control byte at which the record stops: the 0, or one that cannot be obeyed.
-fn characters(s: &[u8], at: usize, room: usize) -> usize
-    requires { ⌜ at ≤ length (now s) ⌝ }
-    ensures { λ r. ⌜ (r ≤ length (now (s .entry))) × (stopped (now (s .entry)) r ≡ answer (decodeFrom room at (drop at (now (s .entry))))) ⌝ }
+// The slice itself is lent, so that a call hands on one address and the compiler can make a loop of the calls.
+fn characters(sector: &&[u8], at: usize, room: usize) -> usize
+    requires { ⌜ length (now (now sector)) ≤ Sizes.sector ⌝ }
+    ensures { λ r. ⌜ stopped (now (now (sector .entry))) r ≡ answer (decodeFrom room at (drop at (now (now (sector .entry))))) ⌝ }
 {
-    let mut i = at;
-    let mut left = room;
-    while i < s.len() {
-        let c = s[i] as usize;
-        if c == 0 {
-            return i;
-        }
-        if 128 <= c {
-            return blanks(s, i, c - 128, left);
-        }
-        if (left < c) | (s.len() - i <= c) {
-            return i;
-        }
-        left -= c;
-        i += 1 + c;
+    let s = *sector;
+    if s.len() <= at {
+        return at;
     }
-    i
+    let c = s[at] as usize;
+    if c == 0 {
+        return at;
+    }
+    if 128 <= c {
+        return blanks(sector, at, c - 128, room);
+    }
+    if room < c {
+        return at;
+    }
+    if s.len() - at <= c {
+        return at;
+    }
+    characters(sector, at + 1 + c, room - c)
 }
 
 // A run of n blanks, with its control byte at offset at; it gives back to runs of characters.
-fn blanks(s: &[u8], at: usize, n: usize, room: usize) -> usize
-    requires { ⌜ (at < length (now s)) × (getD (now s) at 0 ≡ 128 + n) ⌝ }
-    ensures { λ r. ⌜ (r ≤ length (now (s .entry))) × (stopped (now (s .entry)) r ≡ answer (decodeFrom room at (drop at (now (s .entry))))) ⌝ }
+fn blanks(sector: &&[u8], at: usize, n: usize, room: usize) -> usize
+    requires { ⌜ (length (now (now sector)) ≤ Sizes.sector) × (at < length (now (now sector))) × (getD (now (now sector)) at 0 ≡ 128 + n) ⌝ }
+    ensures { λ r. ⌜ stopped (now (now (sector .entry))) r ≡ answer (decodeFrom room at (drop at (now (now (sector .entry))))) ⌝ }
 {
-    if (n == 0) | (room < n) {
+    if n == 0 {
         return at;
     }
-    characters(s, at + 1, room - n)
+    if room < n {
+        return at;
+    }
+    characters(sector, at + 1, room - n)
 }
 
 // What decoding the record of that length that s begins with answers. No character is moved, and no byte past a sector's is looked at.
 pub fn measure(s: &[u8], length: usize) -> Coded
     ensures { λ r. ⌜ r ≡ answer (Decode.decode length (now (s .entry))) ⌝ }
 {
-    let n = least(Geometry::SECTOR, s.len());
-    let k = characters(&s[..n], 0, length);
-    if k == n {
-        return Coded::Bad(k);
-    }
-    if s[k] == 0 {
+    let sector = part(s, 0, Geometry::SECTOR);
+    let k = characters(&sector, 0, length);
+    if (k < sector.len()) & (byte_at(sector, k) == 0) {
         Coded::Good(k + 1)
     } else {
         Coded::Bad(k)
@@ -96,8 +89,9 @@ fn place(s: &[u8], out: &mut [u8])
         let c = s[i] as usize;
         i += 1;
         if c < 128 {
-            copy(s, i, c, out, j);
-            i += c;
+            let end = i + c;
+            lay(out, j, &s[i..end]);
+            i = end;
             j += c;
         } else {
             j += c - 128;
@@ -121,13 +115,6 @@ pub fn decode(s: &[u8], out: &mut [u8]) -> Coded
     }
 }
 
-// The character before the place j of x; 0 where there is none.
-fn before(x: &[u8], j: usize) -> u8
-    ensures { λ r. ⌜ r ≡ getD (0 ∷ now (x .entry)) j 0 ⌝ }
-{
-    if j == 0 { 0 } else { byte_at(x, j - 1) }
-}
-
 // Whether the character at the place j of x goes into a blank run: a blank with a blank beside it. No blank is the last character of x.
 fn in_gap(x: &[u8], j: usize) -> bool
     requires { ⌜ (j < length (now x)) × (Encode.keeps (length (now x)) (now x) ≡ length (now x)) ⌝ }
@@ -139,7 +126,10 @@ fn in_gap(x: &[u8], j: usize) -> bool
     if x[j + 1] == Geometry::BLANK {
         return true;
     }
-    before(x, j) == Geometry::BLANK
+    if j == 0 {
+        return false;
+    }
+    x[j - 1] == Geometry::BLANK
 }
 
 // The same, where the character before it does not go into one.

@@ -13,7 +13,6 @@ use Rattle.geometry.specs.Bytes.{part}
 use Rattle.geometry.specs.Sizes.{sector}
 use Rattle.geometry.specs.Places.{byteOf}
 use Rattle.geometry.specs.declared.Place.{Place}
-use Rattle.geometry.proofs.Tests.{either}
 use Rattle.geometry.proofs.Bytes.{getD-part, part-part, length-part-min}
 use Rattle.coding.specs.Decode.{Decoded, good, bad, decodeFrom, decode, answer, given}
 use Rattle.coding.specs.declared.Coded.{Coded}
@@ -24,7 +23,7 @@ use Rattle.packing.specs.Reading.{overlaid, further, goesOn, startOf, Go
 use Rattle.packing.specs.declared.Led.the-variants.{To, Lost}
 use Rattle.packing.specs.declared.Led.{Led}
 use Rattle.packing.proofs.Overlaid.{isHeld, size-held, sector-held, sector-own}
-use Rattle.packing.proofs.One.{goes-on, stays-here, Started, started}
+use Rattle.packing.proofs.One.{Started, started}
 
 -- ---- the sector a place lies in
 
@@ -44,6 +43,11 @@ module _ (bytes : List ℕ) (p : Place) where
 
   pub goes-seen : p .byte < sector → (seen : List ℕ) → sectorOf ≡ seen → (c : ℕ) → c ≡ getD seen (p .byte) 0 → leb 1 (p .byte) && eqb c 128 ≡ goesOn bytes p
   goes-seen h seen same c is = rw (is, ← same) (sym (goes-by h))
+
+  -- and by the byte of an extent that has the same sector
+  pub goes-own : p .byte < sector → (own : List ℕ) → sectorOf ≡ part own (sector * p .sector) sector → (c : ℕ) → c ≡ getD own (byteOf p) 0
+      → leb 1 (p .byte) && eqb c 128 ≡ goesOn bytes p
+  goes-own h own same c is = goes-seen h (part own (sector * p .sector) sector) same c (is ∙ sym (getD-part own (sector * p .sector) sector (p .byte) 0 h))
 
   -- its part from the place's byte on
   part-from : p .byte ≤ sector → part bytes (byteOf p) (sector - p .byte) ≡ drop (p .byte) sectorOf
@@ -99,27 +103,14 @@ module _ (R sectors : ℕ) (bytes : List ℕ) (p : Place) where
       read-from ∙ ap (λ (z : Place). gotFrom z (decode R (drop (z .byte) (sectorOf bytes z)))) (sym is)
       ∙ ap (λ (z : List ℕ). gotFrom q (decode R (drop (q .byte) z))) same
 
--- ---- the start that the code finds, by its sector
+-- ---- the start q, and the extent's sectors
 
-module _ (sectors : ℕ) (bytes : List ℕ) (p : Place) where
-  pub start-past : sectors ≤ startOf bytes p .sector → extentEnd sectors ≡ startIn sectors bytes p
-  start-past h = ap (pick sectors bytes p) (sym (le-ltb (startOf bytes p .sector) sectors h))
+module _ (sectors : ℕ) (bytes : List ℕ) (p q : Place) (is : startOf bytes p ≡ q) where
+  pub start-past : sectors ≤ q .sector → extentEnd sectors ≡ startIn sectors bytes p
+  start-past h = ap (pick sectors bytes p) (sym (le-ltb (startOf bytes p .sector) sectors (rw is h)))
 
-  module _ (h : startOf bytes p .sector < sectors) where
-    start-inside : startOf bytes p ≡ startIn sectors bytes p
-    start-inside = ap (pick sectors bytes p) (sym (lt-ltb (startOf bytes p .sector) sectors h))
-
-    pub start-here : startOf bytes p .sector ≡ p .sector → p ≡ startIn sectors bytes p
-    start-here e =
-        either (goesOn bytes p)
-        (λ g. let s : startOf bytes p .sector ≡ p .sector + 1 = ap (λ (z : Place). z .sector) (goes-on bytes p g) in absurd (omega arith))
-        (λ g. sym (stays-here bytes p g) ∙ start-inside)
-
-    pub start-next : (s : ℕ) → s ≡ startOf bytes p .sector → ¬ (s ≡ p .sector) → record { sector = s; byte = 0 } ≡ startIn sectors bytes p
-    start-next s is n =
-        either (goesOn bytes p)
-        (λ g. let e : s ≡ p .sector + 1 = is ∙ ap (λ (z : Place). z .sector) (goes-on bytes p g) in ap (λ (z : ℕ). record { sector = z; byte = 0 }) e ∙ sym (goes-on bytes p g) ∙ start-inside)
-        (λ g. absurd (n (is ∙ ap (λ (z : Place). z .sector) (stays-here bytes p g))))
+  pub start-inside : q .sector < sectors → q ≡ startIn sectors bytes p
+  start-inside h = sym is ∙ ap (pick sectors bytes p) (sym (lt-ltb (startOf bytes p .sector) sectors (rw is h)))
 
 -- ---- where the decoder's answer leads
 

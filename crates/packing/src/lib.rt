@@ -57,7 +57,7 @@ fn from_byte(sector: &[u8], o: u32) -> &[u8]
 }
 
 // Whether the record behind the place p starts in the next sector.
-pub fn goes_on(bytes: &[u8], held: u32, over: &[u8], p: Place) -> bool
+fn goes_on(bytes: &[u8], held: u32, over: &[u8], p: Place) -> bool
     ensures { λ r. ⌜ r ≡ goesOn (overlaid (now (bytes .entry)) held (now (over .entry))) p ⌝ }
 {
     if 360 <= p.byte {
@@ -67,21 +67,9 @@ pub fn goes_on(bytes: &[u8], held: u32, over: &[u8], p: Place) -> bool
     let c = if is_held(bytes, held, over, p.sector) {
         byte_at(over, o)
     } else {
-        byte_at(sector_of(bytes, p.sector), o)
+        byte_at(bytes, Geometry::SECTOR * (p.sector as usize) + o)
     };
     (1 <= o) & (c == 128)
-}
-
-// The sector that the record behind the place p starts in.
-pub fn starts_in(bytes: &[u8], held: u32, over: &[u8], p: Place) -> usize
-    ensures { λ r. ⌜ r ≡ startOf (overlaid (now (bytes .entry)) held (now (over .entry))) p .sector ⌝ }
-{
-    let s = p.sector as usize;
-    if goes_on(bytes, held, over, p) {
-        s + 1
-    } else {
-        s
-    }
 }
 
 // The end of an extent of so many sectors: byte 360 of its last.
@@ -103,18 +91,20 @@ fn start(bytes: &[u8], held: u32, over: &[u8], sectors: u16, p: Place) -> Place
       | false ↦ extentEnd sectors
     ] ⌝ }
 {
-    let s = starts_in(bytes, held, over, p);
-    if (sectors as usize) <= s {
+    if goes_on(bytes, held, over, p) {
+        let next = (p.sector as usize) + 1;
+        if (sectors as usize) <= next {
+            return extent_end(sectors);
+        }
+        return Place {
+            sector: next as u32,
+            byte: 0,
+        };
+    }
+    if (sectors as u32) <= p.sector {
         return extent_end(sectors);
     }
-    if s == (p.sector as usize) {
-        p
-    } else {
-        Place {
-            sector: s as u32,
-            byte: 0,
-        }
-    }
+    p
 }
 
 // Where the decoder's answer c leads, for a code that starts at the place q.

@@ -16,7 +16,7 @@ abbrev μ-loop : tie.MeasureT-loop
 
 returns : tie.Need-returns Inv-loop μ-loop
 unfolding keeps
-returns c = rw (c .if1 .taken)
+returns c = let none : length (c .before .args .x .now) ≡ 0 = omega arith in rw none
 
 sub-e : tie.Need-sub-e Inv-loop μ-loop
 sub-e c = omega arith
@@ -35,8 +35,9 @@ unfolding keeps
 returns-2 c =
     let l = c .before .before .before in
     let x = l .before .before .args .x .now in
-    let none : keeps (l .loop .e) x ≡ 0 = rw (c .if3 .taken) in
-    sym none ∙ sym (keeps-less x (l .loop .e) (c .before .if2 .taken)) ∙ l .loop .inv .1
+    let first : l .loop .e ≡ 0 = omega arith in
+    let none : keeps (l .loop .e) x ≡ 0 = rw first in
+    sym none ∙ sym (keeps-less x (l .loop .e) (omega arith)) ∙ l .loop .inv .1
 
 sub-e-2 : tie.Need-sub-e-2 Inv-loop μ-loop
 sub-e-2 c = omega arith
@@ -49,7 +50,7 @@ loop-again c =
     let l = c .before .before .before in
     let x = l .before .before .args .x .now in
     let back : l .loop .e - 1 + 1 ≡ l .loop .e = omega arith in
-    (omega arith, rw back (sym (keeps-less x (l .loop .e) (c .before .if2 .taken)) ∙ l .loop .inv .1))
+    (omega arith, rw back (sym (keeps-less x (l .loop .e) (omega arith)) ∙ l .loop .inv .1))
 
 add-result : tie.Need-add-result Inv-loop μ-loop
 add-result c = omega arith
@@ -57,7 +58,7 @@ add-result c = omega arith
 returns-3 : tie.Need-returns-3 Inv-loop μ-loop
 returns-3 c =
     let l = c .before .before in
-    sym (keeps-all (l .before .before .args .x .now) (l .loop .e) (c .if2 .left)) ∙ l .loop .inv .1
+    sym (keeps-all (l .before .before .args .x .now) (l .loop .e) (λ z. omega arith)) ∙ l .loop .inv .1
 
 pub keeps-spec : {M : Type 1} → statement M
 keeps-spec =

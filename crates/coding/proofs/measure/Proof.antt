@@ -1,78 +1,54 @@
--- `coding::measure` meets its contract: the two decoding functions read a sector's bytes, from the first on, and where they stop says the answer.
-use mathlib.Core.Path.{_≡_, sym}
-use Prim.Native.Nat.{_≤_, min}
+-- `coding::measure` meets its contract: the two decoding functions read a sector's bytes, from the first on, and the byte at which they stop says the answer.
+use mathlib.Core.Path.{_≡_, ap}
+use mathlib.Core.Bool.{Bool, true, false, _&&_}
+use Prim.Native.Nat.{_<_}
 use native.Mathlib.Omega.{arith}
 use lib.ListN.{length}
-use lib.Seq.{length-take-le}
+use lib.Dec.{eqb, ltb}
 use borrow.Author.Needs.{needs}
+use borrow.Author.Tests.{ltb-true}
 use Rattle.geometry.specs.Sizes.{sector}
-use Rattle.coding.proofs.Measured.{read-within, read-end, read-good, read-bad}
+use Rattle.geometry.proofs.Tests.{and-left}
+use Rattle.geometry.proofs.Bytes.{length-part-min}
+use Rattle.coding.specs.Decode.{decode, answer}
+use Rattle.coding.proofs.Measured.{told, read-told}
 use Rattle.coding.proofs.measure.Statement.{statement}
 use Rattle.coding.proofs.measure.Tie as tie
 
-least-requires : tie.Need-least-requires
-least-requires c κs = search needs
-
-slice-aggregate-characters : tie.Need-slice-aggregate-characters
-slice-aggregate-characters c =
-    let s = c .before .before .before .args .s .now in
-    let e = c .before .least .ensures in
-    sym (length-take-le (c .before .least .result) s (omega arith))
+part-requires : tie.Need-part-requires
+part-requires c κs = search needs
 
 characters-requires : tie.Need-characters-requires
-characters-requires c κs = search needs
+characters-requires c κs =
+    let p = c .before .part in
+    omega (arith, ap length (p .ensures), length-part-min (c .before .before .before .args .s .now) 0 sector)
+
+byte-at-requires : tie.Need-byte-at-requires
+byte-at-requires c κs = search needs
+
+add-t14 : tie.Need-add-t14
+add-t14 c =
+    let k = c .before .before .characters .result in
+    let n = length (c .before .before .before .before .part .result .now) in
+    let some : k < n = ltb-true k n (and-left (ltb k n) _ (c .if1 .taken)) in
+    omega arith
+
+answers : (c : tie.After-byte-at)
+    → let a = c .before .before .before .before .before .args in
+    let k = c .before .characters .result in
+    (t : Bool) → ltb k (length (c .before .before .before .part .result .now)) && eqb (c .byte-at .result) 0 ≡ t → told k t ≡ answer (decode (a .length) (a .s .now))
+answers c t h =
+    let p = c .before .before .before .part in
+    let a = c .before .before .before .before .before .args in
+    read-told (a .length) (c .before .characters .result) (c .byte-at .result) (p .result .now) (a .s .now) (p .ensures) (c .byte-at .ensures) (c .before .characters .ensures) t h
 
 returns : tie.Need-returns
-returns c =
-    let h = c .before in
-    let l = h .before .before .least in
-    let a = h .before .before .before .before .args in
-    let e = l .ensures in
-    let n : l .result ≡ min sector (length (a .s .now)) = omega arith in
-    read-end (a .length) (l .result) (h .characters .result) (a .s .now) n (h .characters .ensures .0) (h .characters .ensures .1) (omega arith)
-
-within : (c : tie.After-characters) → let l = c .before .before .least in (c .characters .result ≤ l .result) × (l .result ≤ length (c .before .before .before .before .args .s .now))
-within c =
-    let h = c in
-    let l = h .before .before .least in
-    let a = h .before .before .before .before .args in
-    let e = l .ensures in
-    let n : l .result ≡ min sector (length (a .s .now)) = omega arith in
-    read-within (a .length) (l .result) (h .characters .result) (a .s .now) n (h .characters .ensures .0) (h .characters .ensures .1)
-
-shared-slice-read-if2 : tie.Need-shared-slice-read-if2
-shared-slice-read-if2 c = let w = within (c .before .before) in omega arith
-
-add-t12 : tie.Need-add-t12
-add-t12 c = let w = within (c .before .before .before) in omega arith
+returns c = answers (c .before) true (c .if1 .taken)
 
 returns-2 : tie.Need-returns-2
-returns-2 c =
-    let h = c .before .before .before in
-    let l = h .before .before .least in
-    let a = h .before .before .before .before .args in
-    let e = l .ensures in
-    let n : l .result ≡ min sector (length (a .s .now)) = omega arith in
-    read-good (a .length) (l .result) (h .characters .result) (a .s .now) n (h .characters .ensures .0) (h .characters .ensures .1) (λ z. omega arith) (omega arith)
-
-returns-3 : tie.Need-returns-3
-returns-3 c =
-    let h = c .before .before .before in
-    let l = h .before .before .least in
-    let a = h .before .before .before .before .args in
-    let e = l .ensures in
-    let n : l .result ≡ min sector (length (a .s .now)) = omega arith in
-    read-bad (a .length) (l .result) (h .characters .result) (a .s .now) n (h .characters .ensures .0) (h .characters .ensures .1) (λ z. omega arith) (λ z. omega arith)
+returns-2 c = answers (c .before) false (c .if1 .left)
 
 pub measure-spec : {M : Type 1} → statement M
 measure-spec =
     tie.close
-    (tie.spec
-    least-requires
-    slice-aggregate-characters
-    characters-requires
-    returns
-    shared-slice-read-if2
-    add-t12
-    returns-2
-    returns-3)
+    (tie.spec part-requires characters-requires byte-at-requires add-t14 returns returns-2)

@@ -4,8 +4,9 @@ use Prim.Native.Nat.{_<_, _≤_, _+_, _-_}
 use native.Mathlib.Nat.{sub-zero}
 use native.Mathlib.Omega.{arith}
 use lib.ListN.{length, getD}
+use borrow.Author.Needs.{needs}
 use Rattle.coding.specs.Decode.{Awaited, filled}
-use Rattle.coding.proofs.Filled.{Next, Passed, inside, stops, passes, over, run-fits, copied}
+use Rattle.coding.proofs.Filled.{Next, Passed, inside, stops, passes, over, run-fits, laid}
 use Rattle.coding.proofs.place.Statement.{statement}
 use Rattle.coding.proofs.place.Tie as tie
 
@@ -43,28 +44,39 @@ fit : (c : tie.Then2 Inv-loop μ-loop)
 fit c =
     let l = c .before .before .before .before in
     let a = l .before .before .before .args in
-    run-fits (a .s .now) (l .loop .i) (l .loop .out) (l .loop .j) (l .loop .inv .1) (c .before .before .if1 .taken) (c .if2 .taken)
+    run-fits (a .s .now) (l .loop .i) (l .loop .out) (l .loop .j) (l .loop .inv .1) (λ z. omega arith) (omega arith)
 
-copy-requires : tie.Need-copy-requires Inv-loop μ-loop
-copy-requires c κs = fit (c .before)
+add-end : tie.Need-add-end Inv-loop μ-loop
+add-end c = omega (arith, fit c .0)
 
-add-i-2 : tie.Need-add-i-2 Inv-loop μ-loop
-add-i-2 c = omega (arith, fit (c .before .before .before .before) .0)
+sub-lay : tie.Need-sub-lay Inv-loop μ-loop
+sub-lay c = omega arith
+
+part-lay-start : tie.Need-part-lay-start Inv-loop μ-loop
+part-lay-start c = omega (arith, fit (c .before) .0)
+
+part-lay-end : tie.Need-part-lay-end Inv-loop μ-loop
+part-lay-end c = omega (arith, fit (c .before) .0)
+
+lay-requires : tie.Need-lay-requires Inv-loop μ-loop
+lay-requires c κs = search needs
 
 add-j : tie.Need-add-j Inv-loop μ-loop
-add-j c = omega (arith, fit (c .before .before .before .before) .1)
+add-j c = omega (arith, fit (c .before .before .before .before .before) .1)
 
 loop-less : tie.Need-loop-less Inv-loop μ-loop
-loop-less c = omega (arith, fit (c .before .before .before .before) .0)
+loop-less c = omega (arith, fit (c .before .before .before .before .before) .0)
 
 loop-again : tie.Need-loop-again Inv-loop μ-loop
 loop-again c =
-    let f = c .before .before .before .before in
+    let f = c .before .before .before .before .before in
     let l = f .before .before .before .before in
     let a = l .before .before .before .args in
-    let p = c .before .before .copy in
-    let r = copied (a .s .now) (l .loop .i) (l .loop .out) (l .loop .j) (l .loop .inv .1) (f .before .before .if1 .taken) (f .if2 .taken) (p .last .1 .1 .1 .0) (p .ensures) in
-    (p .kept .1 .1 .1 .0 ∙ l .loop .inv .0, r .0, l .loop .inv .2 ∙ r .1)
+    let p = c .before .before .lay in
+    let n = getD (a .s .now) (l .loop .i) 0 in
+    let size : l .loop .i + 1 + n - (l .loop .i + 1) ≡ n = omega arith in
+    let r = laid (a .s .now) (l .loop .i) (l .loop .out) (l .loop .j) (l .loop .inv .1) (λ z. omega arith) (omega arith) (p .last .0) (rw size at (p .ensures)) in
+    (p .kept .0 ∙ l .loop .inv .0, r .0, l .loop .inv .2 ∙ r .1)
 
 -- a run of blanks
 passed : (c : tie.Else2 Inv-loop μ-loop)
@@ -74,7 +86,7 @@ passed : (c : tie.Else2 Inv-loop μ-loop)
 passed c =
     let l = c .before .before .before .before in
     let a = l .before .before .before .args in
-    passes (a .s .now) (l .loop .i) (l .loop .out) (l .loop .j) (l .loop .inv .1) (over (a .s .now) (l .loop .i) (l .loop .out) (l .loop .j) (l .loop .inv .1) (c .if2 .left))
+    passes (a .s .now) (l .loop .i) (l .loop .out) (l .loop .j) (l .loop .inv .1) (over (a .s .now) (l .loop .i) (l .loop .out) (l .loop .j) (l .loop .inv .1) (omega arith))
 
 add-j-2 : tie.Need-add-j-2 Inv-loop μ-loop
 add-j-2 c = omega (arith, passed c .0)
@@ -105,8 +117,11 @@ place-spec =
     shared-slice-read-c
     cast-c
     add-i
-    copy-requires
-    add-i-2
+    add-end
+    sub-lay
+    part-lay-start
+    part-lay-end
+    lay-requires
     add-j
     loop-less
     loop-again

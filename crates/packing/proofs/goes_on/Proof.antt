@@ -3,7 +3,7 @@ use mathlib.Core.Path.{sym, _∙_}
 use mathlib.Core.Logic.{⊎-elim}
 use Rattle.packing.specs.Reading.{overlaid}
 use Rattle.packing.proofs.Overlaid.{sector-held, sector-own}
-use Rattle.packing.proofs.Starts.{goes-far, goes-seen}
+use Rattle.packing.proofs.Starts.{goes-far, goes-seen, goes-own}
 use borrow.Author.Needs.{needs}
 use Rattle.packing.proofs.goes_on.Statement.{statement}
 use Rattle.packing.proofs.goes_on.Tie as tie
@@ -22,8 +22,14 @@ is-held-requires c κs = search needs
 byte-at-requires : tie.Need-byte-at-requires
 byte-at-requires c κs = search needs
 
-sector-of-requires : tie.Need-sector-of-requires
-sector-of-requires c κs = search needs
+cast-byte-at : tie.Need-cast-byte-at
+cast-byte-at c = search needs
+
+mul-byte-at : tie.Need-mul-byte-at
+mul-byte-at c = search needs
+
+add-byte-at : tie.Need-add-byte-at
+add-byte-at c = search needs
 
 byte-at-requires-2 : tie.Need-byte-at-requires-2
 byte-at-requires-2 c κs = search needs
@@ -36,7 +42,7 @@ returns-2 c =
     let near = c .before .before .before .if1 .left in
     ⊎-elim
     (λ w. goes-seen seen (a .p) near (a .over .now) (sector-held (a .bytes .now) (a .held) (a .over .now) (a .p .sector) (sym (h .ensures) ∙ w .0 .taken)) _ (w .2 ∙ w .1 .ensures))
-    (λ w. goes-seen seen (a .p) near _ (sector-own (a .bytes .now) (a .held) (a .over .now) (a .p .sector) (sym (h .ensures) ∙ w .0 .left) ∙ sym (w .1 .ensures)) _ (w .3 ∙ w .2 .ensures))
+    (λ w. goes-own seen (a .p) near (a .bytes .now) (sector-own (a .bytes .now) (a .held) (a .over .now) (a .p .sector) (sym (h .ensures) ∙ w .0 .left)) _ (w .3 ∙ w .2 .ensures))
     (c .if2 .came)
 
 pub goes-on-spec : {M : Type 1} → statement M
@@ -47,6 +53,8 @@ goes-on-spec =
     cast-o
     is-held-requires
     byte-at-requires
-    sector-of-requires
+    cast-byte-at
+    mul-byte-at
+    add-byte-at
     byte-at-requires-2
     returns-2)
