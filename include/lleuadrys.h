@@ -112,19 +112,11 @@ uint16_t lleuadrys_position(const uint8_t *session, size_t session_size, size_t 
 size_t lleuadrys_list(const uint8_t *image, size_t image_size, uint8_t *out, size_t out_size);
 
 /* Decodes the compressed record that code begins with into text, whose length is the record's: the bytes of the code;
-<<<<<<< HEAD
-   0, and text as it was, where the code is bad. */
-size_t lleuadrys_decode(const uint8_t *code, size_t code_size, uint8_t *text, size_t text_size);
-
-/* Codes a record, as far as there is room: the bytes of the code, at most text_size + 3 for a text of up to 132 bytes. */
-size_t lleuadrys_encode(const uint8_t *text, size_t text_size, uint8_t *code, size_t code_size);
-=======
    0, and text as it was, where the code is bad. Of code no more than a sector's 360 bytes are looked at. */
-size_t board_decode(const uint8_t *code, size_t code_size, uint8_t *text, size_t text_size);
+size_t lleuadrys_decode(const uint8_t *code, size_t code_size, uint8_t *text, size_t text_size);
 
 /* Codes a record, as far as there is room: the bytes of the code, at most text_size + 3 up to a text_size of 254, and
    text_size + 1 and one for each 127 begun of any. */
-size_t board_encode(const uint8_t *text, size_t text_size, uint8_t *code, size_t code_size);
->>>>>>> 58da6ae34001674d9c52d6b20939a6981dd71fdd
+size_t lleuadrys_encode(const uint8_t *text, size_t text_size, uint8_t *code, size_t code_size);
 
 #endif
