@@ -1,11 +1,9 @@
 -- A run of the calls from C is the run of the engine in lent bytes, and so that of the tapes and rows.
 use mathlib.Core.Path.{_≡_, refl, ap, ap₂, _∙_}
 use mathlib.Core.Bool.{true}
-use mathlib.Core.List.{List, [], _∷_, map}
+use mathlib.Core.List.{List, [], _∷_}
 use Prim.Native.Nat.{ℕ}
 use lib.ListN.{length}
-use Rattle.geometry.specs.Lists.{numbersFrom}
-use Rattle.geometry.specs.Sizes.{entries}
 use Rattle.mounting.specs.Mounting.{mounts, plainMount, bufferedMount}
 use Rattle.requests.specs.Codes.{codes, askedFor}
 use Rattle.requests.specs.declared.Asked.the-variants.{For}
@@ -15,10 +13,10 @@ use Rattle.sessions.specs.Session.{unheld}
 use Rattle.tapes.specs.Model.{Asked, Report}
 use Rattle.judging.specs.Lent.{lentAfter}
 use Rattle.board.specs.Board as board
-use Rattle.demands.specs.Engine.{Standing, shownBy, spotsOf, answered, stepOf, reportOf, reports, mounted}
+use Rattle.demands.specs.Engine.{Standing, spotsOf, answered, stepOf, reportOf, reports, mounted}
 use Rattle.demands.specs.Demand2.{Faithful}
 use Rattle.callers.specs.Lent.{lentEngine, Called}
-use Rattle.callers.specs.Calls.{call, toldBy, callReport, callReports, Calling, Coded}
+use Rattle.callers.specs.Calls.{call, callReport, callReports, Calling, Coded}
 use Rattle.callers.proofs.Lent.{lent-plain-faithful, lent-buffered-faithful, called-plain, called-buffered}
 use Rattle.requests.specs.declared.Answer.the-variants.{Done}
 use Rattle.requests.specs.declared.Request.{Request}
@@ -26,24 +24,9 @@ use Rattle.requests.specs.declared.Request.the-variants.{Open, Read, Write, Gra
 use Rattle.sessions.specs.declared.BufferedSession.{BufferedSession}
 
 module _ {S : Type 0} (seen : S → BufferedSession) (B : board.Engine S) where
-  told-shown : (image b : List ℕ) (i : ℕ) (q : Request) → toldBy B image b i q ≡ shownBy (lentEngine seen B) image b i q
-  unfolding toldBy shownBy
-  told-shown image b i Open = refl
-  told-shown image b i Read = refl
-  told-shown image b i Write = refl
-  told-shown image b i (GranuleRead g) = refl
-  told-shown image b i (GranuleWrite g) = refl
-  told-shown image b i (GranuleLook g) = refl
-  told-shown image b i (Position o) = refl
-
   report-is : (w : Standing (List ℕ)) (a : Asked) → callReport B w a ≡ reportOf (lentEngine seen B) w a
   unfolding callReport reportOf answered spotsOf board.requested board.kept lentAfter
-  report-is w a = λ j. record {
-    number = call B w a .number;
-    buffer = call B w a .buffer;
-    shown = told-shown (w .image) (w .session) (a .entry) (a .request) j;
-    spots = map (B .spot (B .read (call B w a .session))) (numbersFrom 0 entries);
-  }
+  report-is w a = refl
 
   step-is : (w : Standing (List ℕ)) (a : Asked) → record { image = call B w a .image; session = call B w a .session } ≡ stepOf (lentEngine seen B) w a
   unfolding stepOf answered board.requested board.kept lentAfter

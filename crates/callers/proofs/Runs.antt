@@ -1,5 +1,5 @@
 -- A run on lent bytes is the run on the session that they are: each step leaves bytes that are the next session. One argument for both engines.
-use mathlib.Core.Path.{_≡_, refl, sym, ap, ap₂, _∙_}
+use mathlib.Core.Path.{_≡_, refl, sym, ap, ap₂, _∙_, fun-ext}
 use mathlib.Core.Bool.{true, false}
 use mathlib.Core.List.{List, [], _∷_, map}
 use Prim.Native.Nat.{ℕ, _+_}
@@ -12,7 +12,7 @@ use Rattle.sessions.specs.Session.{bufferedLegal}
 use Rattle.tapes.specs.Model.{Asked, Report}
 use Rattle.judging.specs.Lent.{lentAfter}
 use Rattle.board.specs.Board as board
-use Rattle.demands.specs.Engine.{Engine, Standing, spotsOf, shownBy, answered, stepOf, reportOf, reports, run, mounted, areBytes, giveBytes, inBytes, sound}
+use Rattle.demands.specs.Engine.{Engine, Standing, spotsOf, ifLook, shownBy, answered, stepOf, reportOf, reports, run, mounted, areBytes, giveBytes, inBytes, sound}
 use Rattle.demands.specs.Demand1.{Orderly, Passing}
 use Rattle.demands.specs.Writes.{inRun}
 use Rattle.demands.proofs.Answers.{bytes-image, bytes-given}
@@ -22,7 +22,6 @@ use Rattle.callers.specs.Lent.{lentEngine}
 use Rattle.requests.specs.declared.Answer.the-variants.{Met}
 use Rattle.requests.specs.declared.Edge.{Edge}
 use Rattle.requests.specs.declared.Request.{Request}
-use Rattle.requests.specs.declared.Request.the-variants.{Open, Read, Write, GranuleRead, GranuleWrite, GranuleLook, Position}
 use Rattle.sessions.specs.declared.BufferedSession.{BufferedSession}
 
 -- the engine on sessions as values
@@ -81,15 +80,8 @@ module _ {S : Type 0} {seen : S → BufferedSession} {B : board.Engine S} {look 
     unfolding answered lentAfter
     same-buffer = refl
 
-    same-shown : (q : Request) → shownBy E (w .image) (w .session) (a .entry) q ≡ shownBy F (opened w .image) (opened w .session) (a .entry) q
-    unfolding shownBy
-    same-shown Open = refl
-    same-shown Read = refl
-    same-shown Write = refl
-    same-shown (GranuleRead g) = refl
-    same-shown (GranuleWrite g) = refl
-    same-shown (GranuleLook g) = keeps .shows (w .image) (w .session) (a .entry) g
-    same-shown (Position o) = refl
+    same-shown : shownBy E (w .image) (w .session) (a .entry) (a .request) ≡ shownBy F (opened w .image) (opened w .session) (a .entry) (a .request)
+    same-shown = ap (λ (look : ℕ → List ℕ). ifLook look (a .request)) (fun-ext (keeps .shows (w .image) (w .session) (a .entry)))
 
     module _ (bytes : areBytes (w .image) ≡ true) (gives : areBytes (a .given) ≡ true) where
       -- the image stays one of bytes
@@ -118,7 +110,7 @@ module _ {S : Type 0} {seen : S → BufferedSession} {B : board.Engine S} {look 
       same-report = λ j. record {
         number = numberOf (same-answer j);
         buffer = same-buffer j;
-        shown = same-shown (a .request) j;
+        shown = same-shown j;
         spots = same-spots j;
       }
 

@@ -12,10 +12,9 @@ use Rattle.mounting.specs.Mounting.{mounts}
 use Rattle.requests.specs.Codes.{askedFor}
 use Rattle.tapes.specs.Model.{Asked, Report, modelsOf, modelReports}
 use Rattle.board.specs.Board as board
-use Rattle.demands.specs.Engine.{Standing, inBytes}
+use Rattle.demands.specs.Engine.{Standing, ifLook, inBytes}
 use Rattle.requests.specs.declared.Asked.the-variants.{For}
 use Rattle.requests.specs.declared.Request.{Request}
-use Rattle.requests.specs.declared.Request.the-variants.{Open, Read, Write, GranuleRead, GranuleWrite, GranuleLook, Position}
 
 module _ {S : Type 0} (B : board.Engine S) where
   -- what the request call answers and leaves
@@ -23,14 +22,8 @@ module _ {S : Type 0} (B : board.Engine S) where
   call w a = board.requested B (w .image) (w .session) (a .entry) (For (a .request)) (a .given) (a .buffer)
 
   -- the part of the image that the look call tells, if a look is asked for
-  unfoldable pub toldBy : List ℕ → List ℕ → ℕ → Request → List ℕ
-  toldBy image b i Open = []
-  toldBy image b i Read = []
-  toldBy image b i Write = []
-  toldBy image b i (GranuleRead g) = []
-  toldBy image b i (GranuleWrite g) = []
-  toldBy image b i (GranuleLook g) = part image (board.lookPlace B image b i g 0) (board.lookSize B image b i g)
-  toldBy image b i (Position o) = []
+  abbrev pub toldBy : List ℕ → List ℕ → ℕ → Request → List ℕ
+  toldBy image b i q = ifLook (λ g. part image (board.lookPlace B image b i g 0) (board.lookSize B image b i g)) q
 
   -- the number, the buffer, what is shown, and where the position call then says that each file stands
   unfoldable pub callReport : Standing (List ℕ) → Asked → Report

@@ -24,7 +24,7 @@ use Rattle.tapes.specs.Model.{Model, nothing, tape, row, Asked, shapeOf, modelA
 use Rattle.serving.proofs.Solo.{shows}
 use Rattle.serving.proofs.Step.{asked}
 use Rattle.serving.proofs.View.{showsAt}
-use Rattle.demands.specs.Engine.{Engine, Standing, shownBy, answered, run, mounted, areBytes, inBytes}
+use Rattle.demands.specs.Engine.{Engine, Standing, ifLook, answered, run, mounted, areBytes, inBytes}
 use Rattle.demands.specs.Demand2.{Faithful, GranuleBack, granuleWriting, granuleReading}
 use Rattle.demands.proofs.Answers.{run-append, step-at, bytes-one, no-bytes, same-answer, same-buffer, same-shown}
 use Rattle.demands.proofs.Plain.{then-shows}
@@ -208,12 +208,12 @@ module _ (E : Engine) (faithful : Faithful E) (image : List ℕ) (ok : mounts im
       ∙ rw (row-answer ms′ i w′ here′ (GranuleRead h) [] buffer, here′)
 
   shown-before : (h : ℕ) → E .look (v .image) (v .session) i h ≡ ifDone (judge (GranuleLook h) (rowFacts (openModels ms) [] 0 w)) (granule w h)
-  unfolding shownBy modelShown modelGranule
+  unfolding ifLook modelShown modelGranule
   shown-before h =
       same-shown E faithful image ok before (looking h) (look-bytes before fit h) ∙ rw (row-answer ms i w here (GranuleLook h) [] [], here)
 
   shown-behind : (h : ℕ) → E .look (v′ .image) (v′ .session) i h ≡ ifDone (judge (GranuleLook h) (rowFacts (openModels ms′) [] 0 w′)) (granule w′ h)
-  unfolding shownBy modelShown modelGranule
+  unfolding ifLook modelShown modelGranule
   shown-behind h =
       same-shown E faithful image ok after (looking h) (look-bytes after written h) ∙ rw (row-answer ms′ i w′ here′ (GranuleLook h) [] [], here′)
 

@@ -17,7 +17,7 @@ use Rattle.serving.proofs.Lifting.{Stands}
 use Rattle.serving.proofs.Mounted.{mounted-session, mounted-stands, mounted-view, afresh-view, afresh-mounts}
 use Rattle.serving.proofs.Step.{asked, tape-counts, answer-step, buffer-step, look-step, view-step, stands-step}
 use Rattle.serving.proofs.View.{view-at, showsAt, view, spot-view}
-use Rattle.demands.specs.Engine.{plainEngine, Standing, spotsOf, shownBy, answered, stepOf, reportOf, reports, run, mounted}
+use Rattle.demands.specs.Engine.{plainEngine, Standing, spotsOf, ifLook, shownBy, answered, stepOf, reportOf, reports, run, mounted}
 use Rattle.demands.specs.Demand2.{Faithful}
 use Rattle.requests.specs.declared.Answer.{Answer}
 use Rattle.requests.specs.declared.Answer.the-variants.{Done, Met, Refused}
@@ -67,7 +67,7 @@ module _ (w : Standing Session) (v : Stands (w .image) (w .session)) (a : Asked)
 
   shown-then : (i : ℕ) (q : Request) (given buffer : List ℕ)
       → shownBy plainEngine (w .image) (w .session) i q ≡ ifDone (modelAnswer ms (asked i q given buffer)) (modelShown q (modelAt ms i))
-  unfolding shownBy modelShown
+  unfolding ifLook modelShown
   shown-then i Open given buffer = sym (none-done _)
   shown-then i Read given buffer = sym (none-done _)
   shown-then i Write given buffer = sym (none-done _)

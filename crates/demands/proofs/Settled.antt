@@ -1,5 +1,5 @@
 -- A run of the buffered engine, seen with every held buffer laid back, is the plain engine's run: one step is, and what a step needs is kept.
-use mathlib.Core.Path.{_≡_, refl, sym, ap, ap₂, _∙_}
+use mathlib.Core.Path.{_≡_, refl, sym, ap, ap₂, _∙_, fun-ext}
 use mathlib.Core.Bool.{true, false}
 use mathlib.Core.List.{List, [], _∷_, map}
 use Prim.Native.Nat.{ℕ, _<_}
@@ -20,9 +20,8 @@ use Rattle.settling.proofs.Scene.{settled-legal}
 use Rattle.settling.proofs.Step.{Agrees, step-agrees}
 use Rattle.settling.proofs.Look.{look-agrees}
 use Rattle.settling.proofs.Begin.{settle-idle, mounted-kept, mounted-settles, mounted-bare}
-use Rattle.demands.specs.Engine.{plainEngine, bufferedEngine, Standing, spotsOf, shownBy, answered, stepOf, reportOf, reports, run, mounted}
+use Rattle.demands.specs.Engine.{plainEngine, bufferedEngine, Standing, spotsOf, ifLook, shownBy, answered, stepOf, reportOf, reports, run, mounted}
 use Rattle.requests.specs.declared.Request.{Request}
-use Rattle.requests.specs.declared.Request.the-variants.{Open, Read, Write, GranuleRead, GranuleWrite, GranuleLook, Position}
 use Rattle.sessions.specs.declared.BufferedSession.{BufferedSession}
 use Rattle.sessions.specs.declared.Session.{Session}
 
@@ -61,15 +60,8 @@ module _ (w : Standing BufferedSession) (ok : KeptAt w) (a : Asked) where
   unfolding stepOf
   settled-step = ap₂ (λ (x : List ℕ) (s : Session). record { image = x; session = s }) (agrees .image) (agrees .session)
 
-  same-shown : (q : Request) → shownBy bufferedEngine (w .image) (w .session) (a .entry) q ≡ shownBy plainEngine (settled w .image) (settled w .session) (a .entry) q
-  unfolding shownBy
-  same-shown Open = refl
-  same-shown Read = refl
-  same-shown Write = refl
-  same-shown (GranuleRead g) = refl
-  same-shown (GranuleWrite g) = refl
-  same-shown (GranuleLook g) = look-agrees (w .image) (w .session) ok (a .entry) g
-  same-shown (Position o) = refl
+  same-shown : shownBy bufferedEngine (w .image) (w .session) (a .entry) (a .request) ≡ shownBy plainEngine (settled w .image) (settled w .session) (a .entry) (a .request)
+  same-shown = ap (λ (look : ℕ → List ℕ). ifLook look (a .request)) (fun-ext (look-agrees (w .image) (w .session) ok (a .entry)))
 
   same-spots : spotsOf bufferedEngine (answered bufferedEngine w a .session) ≡ spotsOf plainEngine (answered plainEngine (settled w) a .session)
   unfolding spotsOf
@@ -80,7 +72,7 @@ module _ (w : Standing BufferedSession) (ok : KeptAt w) (a : Asked) where
   same-report = λ j. record {
     number = numberOf (agrees .answer j);
     buffer = agrees .buffer j;
-    shown = same-shown (a .request) j;
+    shown = same-shown j;
     spots = same-spots j;
   }
 

@@ -51,14 +51,17 @@ unfoldable pub spotsOf : (E : Engine) → E .Session → List Spot
 spotsOf E s = map (E .position s) (numbersFrom 0 entries)
 
 -- what a look shows, if the request is one
-unfoldable pub shownBy : (E : Engine) → List ℕ → E .Session → ℕ → Request → List ℕ
-shownBy E image s i Open = []
-shownBy E image s i Read = []
-shownBy E image s i Write = []
-shownBy E image s i (GranuleRead g) = []
-shownBy E image s i (GranuleWrite g) = []
-shownBy E image s i (GranuleLook g) = E .look image s i g
-shownBy E image s i (Position o) = []
+unfoldable pub ifLook : (ℕ → List ℕ) → Request → List ℕ
+ifLook look Open = []
+ifLook look Read = []
+ifLook look Write = []
+ifLook look (GranuleRead g) = []
+ifLook look (GranuleWrite g) = []
+ifLook look (GranuleLook g) = look g
+ifLook look (Position o) = []
+
+abbrev pub shownBy : (E : Engine) → List ℕ → E .Session → ℕ → Request → List ℕ
+shownBy E image s i q = ifLook (E .look image s i) q
 
 unfoldable pub answered : (E : Engine) → Standing (E .Session) → Asked → After (E .Session)
 answered E w a = E .request (w .image) (w .session) (a .entry) (a .request) (a .given) (a .buffer)
