@@ -7,9 +7,9 @@ use geometry::least;
 use geometry::part;
 use geometry::put;
 ghost use mathlib.Core.Path.{_≡_};
-ghost use mathlib.Core.Bool.{true, false};
+ghost use mathlib.Core.Bool.{false};
 ghost use mathlib.Core.List.{_∷_};
-ghost use Prim.Native.Nat.{_+_, _-_, _≤_, _<_, _^_, min};
+ghost use Prim.Native.Nat.{_+_, _-_, _≤_, _<_, _^_};
 ghost use lib.ListN.{length, take, drop, getD};
 ghost use lib.Seq.{sets};
 ghost use Rattle.geometry.specs.Sizes as Sizes;
@@ -65,7 +65,7 @@ fn blanks(sector: &&[u8], at: usize, n: usize, room: usize) -> usize
     characters(sector, at + 1, room - n)
 }
 
-// What decoding the record of that length that s begins with answers. No character is moved, and no byte past a sector's is looked at.
+// What decoding the record of that length that s begins with answers. No character is moved, and of s a sector's bytes are looked at and no more.
 pub fn measure(s: &[u8], length: usize) -> Coded
     ensures { λ r. ⌜ r ≡ answer (Decode.decode length (now (s .entry))) ⌝ }
 {

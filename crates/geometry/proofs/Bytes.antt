@@ -393,9 +393,6 @@ outside-part a b at n p m o k = same-parts a b p m (o .size) λ (i : ℕ) (h : i
 pub outside-same : (a : List ℕ) (at n : ℕ) → Outside a a at n
 outside-same a at n = record { size = refl; byte = λ i k. refl }
 
-pub outside-wider : (a b : List ℕ) (at n p m : ℕ) → Outside a b at n → p ≤ at → at + n ≤ p + m → Outside a b p m
-outside-wider a b at n p m o h k = record { size = o .size; byte = λ (i : ℕ) (q : Apart i 1 p m). o .byte i (omega arith) }
-
 -- ---- padding
 
 pub length-padded : (b n : ℕ) (xs : List ℕ) → length xs ≤ n → length (padded b n xs) ≡ n

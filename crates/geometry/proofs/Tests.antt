@@ -346,14 +346,3 @@ same-true (x ∷ a) (y ∷ b) h =
     let e : x ≡ y = eqb-true x y (and-left (eqb x y) (same a b) h) in
     let f : a ≡ b = same-true a b (and-right (eqb x y) (same a b) h) in
     cc
-
-pub same-refl : (a : List ℕ) → same a a ≡ true
-unfolding same
-same-refl [] = refl
-same-refl (x ∷ a) = and-both (eqb x x) (same a a) (eq-eqb x x refl) (same-refl a)
-
-pub eq-same : (a b : List ℕ) → a ≡ b → same a b ≡ true
-eq-same a b e = rw e (same-refl b)
-
-pub same-false : (a b : List ℕ) → same a b ≡ false → ¬ (a ≡ b)
-same-false a b h e = both-ways (same a b) (eq-same a b e) h

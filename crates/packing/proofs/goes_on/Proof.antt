@@ -1,6 +1,9 @@
 -- The byte at the place is that of its sector, which is the held one or the extent's own.
 use mathlib.Core.Path.{sym, _∙_}
 use mathlib.Core.Logic.{⊎-elim}
+use Prim.Native.Nat.{_<_}
+use native.Mathlib.Omega.{arith}
+use Rattle.geometry.specs.Sizes.{sector}
 use Rattle.packing.specs.Reading.{overlaid}
 use Rattle.packing.proofs.Overlaid.{sector-held, sector-own}
 use Rattle.packing.proofs.Starts.{goes-far, goes-seen, goes-own}
@@ -11,7 +14,7 @@ use Rattle.packing.proofs.goes_on.Tie as tie
 returns : tie.Need-returns
 returns c =
     let a = c .before .before .before .before .args in
-    sym (goes-far (overlaid (a .bytes .now) (a .held) (a .over .now)) (a .p) (c .if1 .taken))
+    sym (goes-far (overlaid (a .bytes .now) (a .held) (a .over .now)) (a .p) (omega arith))
 
 cast-o : tie.Need-cast-o
 cast-o c = search needs
@@ -39,7 +42,7 @@ returns-2 c =
     let a = c .before .before .before .before .before .before .before .args in
     let h = c .before .is-held in
     let seen = overlaid (a .bytes .now) (a .held) (a .over .now) in
-    let near = c .before .before .before .if1 .left in
+    let near : a .p .byte < sector = omega arith in
     ⊎-elim
     (λ w. goes-seen seen (a .p) near (a .over .now) (sector-held (a .bytes .now) (a .held) (a .over .now) (a .p .sector) (sym (h .ensures) ∙ w .0 .taken)) _ (w .2 ∙ w .1 .ensures))
     (λ w. goes-own seen (a .p) near (a .bytes .now) (sector-own (a .bytes .now) (a .held) (a .over .now) (a .p .sector) (sym (h .ensures) ∙ w .0 .left)) _ (w .3 ∙ w .2 .ensures))

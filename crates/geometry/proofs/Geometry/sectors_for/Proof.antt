@@ -1,5 +1,5 @@
 -- `Geometry::sectors_for` meets its contract, by its definition.
-use mathlib.Core.Path.{refl}
+use native.Mathlib.Omega.{arith}
 use borrow.Author.Needs.{needs}
 use Rattle.geometry.specs.Places.{sectorsFor}
 use Rattle.geometry.proofs.Geometry.sectors_for.Statement.{statement}
@@ -13,7 +13,7 @@ cast-result c = search needs
 
 returns : tie.Need-returns
 unfolding sectorsFor
-returns c = refl
+returns c = omega arith
 
 pub sectors-for-spec : {M : Type 1} → statement M
 sectors-for-spec = tie.close (tie.spec add-result cast-result returns)
