@@ -1,9 +1,10 @@
--- A free entry keeps every rule exactly if its 20 bytes are zero, which they are if its name and its words are.
+-- A free entry keeps every rule exactly if its bytes are zero, which they are if its name and its words are; one that is not zero must be a used one.
 use mathlib.Core.Path.{_≡_, refl, sym, ap, _∙_}
-use mathlib.Core.Bool.{Bool, true, false, _&&_, and-assoc}
+use mathlib.Core.Bool.{Bool, true, false, _&&_, and-assoc, and-false}
 use mathlib.Core.List.{List, [], _∷_, _++_}
 use Prim.Native.Nat.{ℕ, _+_, _/_, _%_}
 use native.Mathlib.Omega.{arith}
+use native.Mathlib.Decide.{ℕ-discrete}
 use lib.Dec.{eqb}
 use borrow.Author.Tests.{eq-eqb, ne-eqb, eqb-true, eqb-false}
 use Rattle.geometry.specs.Lists.{every}
@@ -11,8 +12,9 @@ use Rattle.geometry.specs.Bytes.{word}
 use Rattle.directory.specs.declared.Entry.{Entry}
 use Rattle.geometry.proofs.Tests.{either, and-left, and-right}
 use Rattle.directory.specs.Entries.{entryBytes}
-use Rattle.directory.specs.Rules.{kindKnown, freeIsZero, nameGood, extentInside, flagsKnown, lengthGood, countGood, randomBare}
-use Rattle.directory.specs.Grouped.{entryGood}
+use Rattle.directory.specs.Rules.{kindKnown, freeIsZero, isName, nameGood, extentInside, flagsKnown, lengthGood, countGood, randomBare}
+use Rattle.directory.specs.Grouped.{isZero, entryGood, usedGood}
+use Rattle.directory.proofs.Grouped.{used-good}
 
 pub every-append : {A : Type 0} (p : A → Bool) (xs ys : List A) → every p (xs ++ ys) ≡ (every p xs && every p ys)
 unfolding every
@@ -44,22 +46,36 @@ zero-entry e =
     next : {b : Bool} (n : ℕ) (ys : List ℕ) → every zero-byte ys ≡ b → every zero-byte (word n ++ ys) ≡ (eqb n 0 && b)
     next n ys h = every-append zero-byte (word n) ys ∙ rw (zero-word n, h)
 
--- the rules of one entry, for a free one
+-- the rules of one entry, for a free one, and for one that is not zero
 module _ (N : ℕ) (e : Entry) where
-  last-words : every zero-byte (entryBytes e) ≡ true → (eqb (e .count) 0 && eqb (e .flags) 0) ≡ true
+  zero-words : isZero e ≡ true → (eqb (e .kind) 0 && (eqb (e .length) 0 && (eqb (e .first) 0 && (eqb (e .sectors) 0 && (eqb (e .count) 0 && eqb (e .flags) 0))))) ≡ true
+  zero-words h = and-right (every zero-byte (e .name)) _ (sym (zero-entry e) ∙ h)
+
+  pub zero-free : isZero e ≡ true → e .kind ≡ 0
+  zero-free h = eqb-true (e .kind) 0 (and-left (eqb (e .kind) 0) _ (zero-words h))
+
+  last-words : isZero e ≡ true → (eqb (e .count) 0 && eqb (e .flags) 0) ≡ true
   last-words h =
       and-right (eqb (e .sectors) 0) (eqb (e .count) 0 && eqb (e .flags) 0)
-      (and-right (eqb (e .first) 0) _
-      (and-right (eqb (e .length) 0) _
-      (and-right (eqb (e .kind) 0) _
-      (and-right (every zero-byte (e .name)) _ (sym (zero-entry e) ∙ h)))))
+      (and-right (eqb (e .first) 0) _ (and-right (eqb (e .length) 0) _ (and-right (eqb (e .kind) 0) _ (zero-words h))))
 
-  pub free-good : e .kind ≡ 0 → entryGood N e ≡ every (λ b. eqb b 0) (entryBytes e)
+  pub free-good : e .kind ≡ 0 → entryGood N e ≡ isZero e
   unfolding entryGood kindKnown freeIsZero nameGood extentInside flagsKnown lengthGood countGood randomBare
   free-good k =
-      either (every zero-byte (entryBytes e))
-      (λ (h : every zero-byte (entryBytes e) ≡ true).
+      either (isZero e)
+      (λ (h : isZero e ≡ true).
       let c : e .count ≡ 0 = eqb-true (e .count) 0 (and-left (eqb (e .count) 0) (eqb (e .flags) 0) (last-words h)) in
       let f : e .flags ≡ 0 = eqb-true (e .flags) 0 (and-right (eqb (e .count) 0) (eqb (e .flags) 0) (last-words h)) in
       rw (h, k, c, f))
-      (λ (h : every zero-byte (entryBytes e) ≡ false). rw (h, k))
+      (λ (h : isZero e ≡ false). rw (h, k))
+
+  pub zero-good : isZero e ≡ true → entryGood N e ≡ true
+  zero-good h = free-good (zero-free h) ∙ h
+
+  pub other-good : isZero e ≡ false → entryGood N e ≡ (isName (e .name) && usedGood N e)
+  unfolding usedGood
+  other-good h = go (ℕ-discrete (e .kind) 0)
+    where
+      go : Dec (e .kind ≡ 0) → entryGood N e ≡ (isName (e .name) && usedGood N e)
+      go (yes k) = free-good k ∙ h ∙ rw (eq-eqb (e .kind) 0 k) (sym (and-false (isName (e .name))))
+      go (no u) = used-good N e u

@@ -2,15 +2,19 @@
 use mathlib.Core.Path.{_≡_, refl, sym, _∙_}
 use mathlib.Core.Bool.{Bool, true, false, _&&_, _||_, not, and-true, and-false, or-true}
 use mathlib.Core.List.{List, [], _∷_}
-use Prim.Native.Nat.{ℕ, _+_, _≤_, _<_}
-use lib.Dec.{leb}
-use lib.ListN.{getD}
-use borrow.Author.Tests.{le-leb, lt-leb, eq-eqb, ne-eqb}
+use Prim.Native.Nat.{ℕ, zero, suc, _+_, _*_, _/_, _%_, _≤_, _<_}
+use native.Mathlib.Nat.{le-div-iff-mul-le}
+use native.Mathlib.Omega.{arith}
+use native.Mathlib.Decide.{ℕ-discrete}
+use lib.Dec.{leb, eqb}
+use borrow.Author.Tests.{le-leb, lt-leb, leb-true, eq-eqb, ne-eqb}
 use Rattle.geometry.specs.Lists.{all, every, pairwise, same}
-use Rattle.geometry.proofs.Tests.{or-either, denied, all-getD, every-and, pairwise-and, neither-left, neither-right}
-use Rattle.directory.specs.Entries.{isFree}
-use Rattle.directory.specs.Rules.{kindKnown, freeIsZero, isName, nameGood, namesDiffer, extentFits, extentInside, extentsApart, flagsKnown, lengthFits, lengthGood, countGood, randomBare, tableRules, tableGood}
-use Rattle.directory.specs.Grouped.{entryGood, usedGood, twoGood}
+use Rattle.geometry.specs.Places.{sectorsFor, capacity}
+use Rattle.geometry.specs.Sizes.{unblocked, blocked, compressed, random, mostRecords}
+use Rattle.geometry.proofs.Tests.{alike, and-left, and-right, or-either, every-and, pairwise-and, neither-left, neither-right}
+use Rattle.directory.specs.Entries.{isFree, isMarked}
+use Rattle.directory.specs.Rules.{kindKnown, freeIsZero, isName, nameGood, namesDiffer, extentFits, extentInside, extentsApart, flagsKnown, longest, lengthGood, countGood, randomBare, tableRules, tableGood}
+use Rattle.directory.specs.Grouped.{entryGood, lengthUpTo, sizesGood, usedGood, twoGood}
 use Rattle.directory.specs.declared.Entry.{Entry}
 
 module _ {A : Type 0} where
@@ -51,10 +55,13 @@ swap : (k n r : Bool) → (k && (n && r)) ≡ (n && (k && r))
 swap true n r = refl
 swap false n r = sym (and-false n)
 
+over : (k : ℕ) → ¬ (k ≡ 0) → ¬ (k ≡ 1) → ¬ (k ≡ 2) → ¬ (k ≡ 3) → ¬ (k ≡ 4) → 4 < k
+over k z a b c d = omega arith
+
 module _ (N : ℕ) (e : Entry) where
   module _ (used : ¬ (e .kind ≡ 0)) where
     pub used-good : entryGood N e ≡ (isName (e .name) && usedGood N e)
-    unfolding entryGood freeIsZero nameGood extentInside lengthGood usedGood
+    unfolding entryGood freeIsZero nameGood extentInside lengthGood usedGood sizesGood
     used-good = rw (ne-eqb (e .kind) 0 used) (swap (kindKnown e) (isName (e .name)) _)
 
     pub used-unnamed : isName (e .name) ≡ false → entryGood N e ≡ false
@@ -63,21 +70,65 @@ module _ (N : ℕ) (e : Entry) where
     pub used-named : isName (e .name) ≡ true → entryGood N e ≡ usedGood N e
     used-named n = used-good ∙ rw n
 
-  abbrev rules : List Bool
-  rules = kindKnown e ∷ extentFits N e ∷ flagsKnown e ∷ lengthFits e ∷ countGood e ∷ randomBare e ∷ []
-
-  used-rules : usedGood N e ≡ all rules
-  unfolding usedGood all
-  used-rules = rw (and-true (randomBare e))
-
-  -- the rule of number m is broken
-  pub used-bad : (m : ℕ) → getD rules m true ≡ false → usedGood N e ≡ false
-  used-bad m h = used-rules ∙ denied (all rules) (getD rules m true) (all-getD rules m) h
-
-  -- all but the last are kept
-  pub used-kept : kindKnown e ≡ true → extentFits N e ≡ true → flagsKnown e ≡ true → lengthFits e ≡ true → countGood e ≡ true → usedGood N e ≡ randomBare e
+  pub used-outside : extentFits N e ≡ false → usedGood N e ≡ false
   unfolding usedGood
-  used-kept k x f l c = rw (k, x, f, l, c)
+  used-outside h = rw (h, and-false (kindKnown e), and-false (not (isFree e)))
+
+  module _ (x : extentFits N e ≡ true) where
+    pub used-flagged : flagsKnown e ≡ false → usedGood N e ≡ false
+    unfolding usedGood
+    used-flagged h = rw (x, h, and-false (kindKnown e), and-false (not (isFree e)))
+
+    -- what is left is decided by kind
+    module _ (f : flagsKnown e ≡ true) where
+      pub used-kind : 1 ≤ e .kind → e .kind ≤ 4 → usedGood N e ≡ sizesGood e
+      unfolding usedGood kindKnown
+      used-kind l h = rw (ne-eqb (e .kind) 0 (omega arith), le-leb (e .kind) 4 h, x, f)
+
+      pub used-other : ¬ (e .kind ≡ 1) → ¬ (e .kind ≡ 2) → ¬ (e .kind ≡ 3) → ¬ (e .kind ≡ 4) → usedGood N e ≡ false
+      unfolding usedGood kindKnown
+      used-other a b c d = go (ℕ-discrete (e .kind) 0)
+        where
+          go : Dec (e .kind ≡ 0) → (not (isFree e) && (leb (e .kind) 4 && (extentFits N e && (flagsKnown e && sizesGood e)))) ≡ false
+          go (yes z) = rw (eq-eqb (e .kind) 0 z)
+          go (no u) = rw (lt-leb (e .kind) 4 (over (e .kind) u a b c d), and-false (not (isFree e)))
+
+sectors-some : (R : ℕ) → 2 ≤ R → 0 < sectorsFor R
+unfolding sectorsFor
+sectors-some R l = omega arith
+
+-- R and the count, kind by kind
+module _ (e : Entry) where
+  pub sizes-off : (most : ℕ) → longest (e .kind) ≡ most → lengthUpTo most e ≡ false → sizesGood e ≡ false
+  unfolding sizesGood
+  sizes-off most m h = rw (m, h)
+
+  -- as many records as the count take no more sectors than there are
+  pub sizes-unblocked : e .kind ≡ unblocked → lengthUpTo 3600 e ≡ true → leb (e .count * sectorsFor (e .length)) (e .sectors) ≡ sizesGood e
+  unfolding sizesGood longest countGood randomBare capacity
+  sizes-unblocked k h =
+      let some : 0 < sectorsFor (e .length) = sectors-some (e .length) (leb-true 2 (e .length) (and-left (leb 2 (e .length)) _ (and-right (eqb (e .length % 2) 0) _ h))) in
+      let each = le-div-iff-mul-le {x = e .count} {y = e .sectors} some in
+      rw (k, h, and-true (leb (e .count) (e .sectors / sectorsFor (e .length))))
+      (alike _ _
+      (λ (q : leb (e .count * sectorsFor (e .length)) (e .sectors) ≡ true). le-leb _ _ (each .1 (leb-true _ _ q)))
+      (λ (q : leb (e .count) (e .sectors / sectorsFor (e .length)) ≡ true). le-leb _ _ (each .0 (leb-true _ _ q))))
+
+  pub sizes-blocked : e .kind ≡ blocked → lengthUpTo 360 e ≡ true → leb (e .count) (capacity (e .kind) (e .length) (e .sectors)) ≡ sizesGood e
+  unfolding sizesGood longest countGood randomBare
+  sizes-blocked k h = sym (rw (k, h, and-true (leb (e .count) (capacity blocked (e .length) (e .sectors)))))
+
+  pub sizes-compressed : e .kind ≡ compressed → lengthUpTo 132 e ≡ true → leb (e .count) mostRecords ≡ sizesGood e
+  unfolding sizesGood longest countGood randomBare
+  sizes-compressed k h = sym (rw (k, h, and-true (leb (e .count) mostRecords)))
+
+  pub sizes-random : e .kind ≡ random → lengthUpTo 3600 e ≡ true → (eqb (e .count) 0 && not (isMarked e)) ≡ sizesGood e
+  unfolding sizesGood longest countGood randomBare isMarked
+  sizes-random k h = sym (rw (k, h) (none (e .count) (not (isMarked e))))
+    where
+      none : (n : ℕ) (m : Bool) → (leb n mostRecords && (eqb n 0 && m)) ≡ (eqb n 0 && m)
+      none zero m = refl
+      none (suc n) m = rw (ne-eqb (suc n) 0 (omega arith)) (and-false (leb (suc n) mostRecords))
 
 -- two entries of which one is free, and two used ones, the extents first
 module _ (a b : Entry) where

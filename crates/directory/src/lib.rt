@@ -13,9 +13,10 @@ ghost use Rattle.geometry.specs.Bytes.{padded, word};
 ghost use Rattle.geometry.specs.Bytes as Bytes;
 ghost use Rattle.geometry.specs.Lists.{every};
 ghost use Rattle.geometry.specs.Lists as Lists;
+ghost use Rattle.geometry.specs.Sizes.{unblocked, blocked, compressed, random};
 ghost use Rattle.directory.specs.Entries.{entryFrom, entryBytes, oneWord, freeEntry, tableOf, entryAt, isMarked, isProtected};
-ghost use Rattle.directory.specs.Rules.{capital, digit, isName, extentFits, longest, lengthFits, countGood, randomBare, tableGood};
-ghost use Rattle.directory.specs.Grouped.{entryGood, usedGood, twoGood};
+ghost use Rattle.directory.specs.Rules.{capital, digit, isName, extentFits, tableGood};
+ghost use Rattle.directory.specs.Grouped.{entryGood, lengthUpTo, sizesGood, usedGood, twoGood};
 ghost use Rattle.directory.specs.Search.{matches, told};
 ghost use Rattle.directory.specs.Search as Search;
 ghost use Rattle.directory.specs.Stamp.{stampBytes, stamped};
@@ -280,64 +281,78 @@ fn extent_inside(e: Entry, n: u32) -> bool
     (1 <= e.first) & ((1 <= e.sectors) & ((e.first as u32) + (e.sectors as u32) <= n))
 }
 
-// The greatest length of a record or granule, by kind.
-fn longest_of(kind: u16) -> u16
-    ensures { λ r. ⌜ r ≡ longest kind ⌝ }
+// R is even, and from 2 to the most that there may be.
+fn length_good(e: Entry, most: u16) -> bool
+    ensures { λ r. ⌜ r ≡ lengthUpTo most e ⌝ }
 {
-    if kind == Geometry::BLOCKED {
-        360
-    } else if kind == Geometry::COMPRESSED {
-        132
-    } else {
-        3600
+    (e.length % 2 == 0) & ((2 <= e.length) & (e.length <= most))
+}
+
+// R and the count of an unblocked file. As many records as the count take no more sectors than there are: that spares a division.
+fn unblocked_good(e: Entry) -> bool
+    requires { ⌜ e .kind ≡ unblocked ⌝ }
+    ensures { λ r. ⌜ r ≡ sizesGood e ⌝ }
+{
+    if !length_good(e, 3600) {
+        return false;
     }
+    (e.count as usize) * (Geometry::sectors_for(e.length) as usize) <= (e.sectors as usize)
 }
 
-// An entry's length is even, and within the bounds of its kind.
-fn length_good(e: Entry) -> bool
-    ensures { λ r. ⌜ r ≡ lengthFits e ⌝ }
+// Those of a blocked file.
+fn blocked_good(e: Entry) -> bool
+    requires { ⌜ e .kind ≡ blocked ⌝ }
+    ensures { λ r. ⌜ r ≡ sizesGood e ⌝ }
 {
-    (e.length % 2 == 0) & ((2 <= e.length) & (e.length <= longest_of(e.kind)))
-}
-
-// The count is within the capacity, or is one word.
-fn count_good(e: Entry) -> bool
-    ensures { λ r. ⌜ r ≡ countGood e ⌝ }
-{
-    if (e.kind == Geometry::UNBLOCKED) | (e.kind == Geometry::BLOCKED) {
-        e.count <= Geometry::capacity(e.kind, e.length, e.sectors)
-    } else {
-        e.count <= Geometry::MOST_RECORDS
+    if !length_good(e, 360) {
+        return false;
     }
+    e.count <= Geometry::capacity(e.kind, e.length, e.sectors)
 }
 
-// A random file has no count and no mark.
-fn random_bare(e: Entry) -> bool
-    ensures { λ r. ⌜ r ≡ randomBare e ⌝ }
+// Those of a compressed file.
+fn compressed_good(e: Entry) -> bool
+    requires { ⌜ e .kind ≡ compressed ⌝ }
+    ensures { λ r. ⌜ r ≡ sizesGood e ⌝ }
 {
-    !(e.kind == Geometry::RANDOM) | ((e.count == 0) & !is_marked(e))
+    if !length_good(e, 132) {
+        return false;
+    }
+    e.count <= Geometry::MOST_RECORDS
 }
 
-// Whether an entry keeps the rules of a used one but that of its name, in an image of n sectors: one after another, in document 01's order.
+// Those of a random file, which has no count and no mark.
+fn random_good(e: Entry) -> bool
+    requires { ⌜ e .kind ≡ random ⌝ }
+    ensures { λ r. ⌜ r ≡ sizesGood e ⌝ }
+{
+    if !length_good(e, 3600) {
+        return false;
+    }
+    (e.count == 0) & !is_marked(e)
+}
+
+// Whether an entry is a used one and keeps the rules of one but that of its name, in an image of n sectors.
 pub fn used_good(e: Entry, n: u32) -> bool
     ensures { λ r. ⌜ r ≡ usedGood n e ⌝ }
 {
-    if Geometry::RANDOM < e.kind {
-        return false;
-    }
     if !extent_inside(e, n) {
         return false;
     }
     if 3 < e.flags {
         return false;
     }
-    if !length_good(e) {
-        return false;
+    if e.kind == Geometry::UNBLOCKED {
+        unblocked_good(e)
+    } else if e.kind == Geometry::BLOCKED {
+        blocked_good(e)
+    } else if e.kind == Geometry::COMPRESSED {
+        compressed_good(e)
+    } else if e.kind == Geometry::RANDOM {
+        random_good(e)
+    } else {
+        false
     }
-    if !count_good(e) {
-        return false;
-    }
-    random_bare(e)
 }
 
 // Whether an entry keeps the rules of one entry, in an image of n sectors.

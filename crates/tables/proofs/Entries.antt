@@ -1,6 +1,6 @@
 -- An entry where it lies: what is tested of its bytes is tested of the entry that they hold.
 use mathlib.Core.Path.{_≡_, refl, sym, ap, _∙_}
-use mathlib.Core.Bool.{Bool, true, false, _&&_}
+use mathlib.Core.Bool.{Bool, true, false, false≢true, _&&_, and-true, and-false}
 use mathlib.Core.List.{List}
 use Prim.Native.Nat.{ℕ, _+_, _-_, _*_, _≤_}
 use native.Mathlib.Omega.{arith}
@@ -12,10 +12,9 @@ use Rattle.geometry.specs.Bytes.{part, padded, wordAt}
 use Rattle.geometry.specs.Lists.{every}
 use Rattle.geometry.proofs.Bytes.{length-part, part-split, padded-long}
 use Rattle.directory.specs.Entries.{entryBytes}
-use Rattle.directory.specs.Grouped.{entryGood, usedGood}
+use Rattle.directory.specs.Grouped.{isZero, entryGood, usedGood}
 use Rattle.directory.specs.Rules.{isName}
-use Rattle.directory.proofs.Free.{every-append, zero-entry, free-good}
-use Rattle.directory.proofs.Grouped.{used-unnamed, used-named}
+use Rattle.directory.proofs.Free.{every-append, zero-entry, free-good, other-good}
 use Rattle.directory.specs.declared.Entry.{Entry}
 use Rattle.tables.specs.Numbers.{longAt, numberIn}
 use Rattle.tables.specs.Tables.{Wide, countAt, entryIn}
@@ -102,32 +101,28 @@ module _ (b : List ℕ) where
         ∙ sym (zero-entry (entryIn w b at) ∙ rw (name-is b at (omega arith)))
 
     abbrev zeros : Bool
-    zeros = every (λ x. eqb x 0) (entryBytes (entryIn w b at))
+    zeros = isZero (entryIn w b at)
 
-    -- read one after another, up to the first that is not zero
-    module _ (x : ℕ) (p : x ≡ numberIn (part b at 8)) where
-      pub zero-not : ¬ (x ≡ 0) → false ≡ zeros
-      zero-not h = sym (sym by-field ∙ by-eight ∙ rw (sym p, ne-eqb x 0 h))
+    -- read one after another, the last eight first, up to those that are not zero
+    by-number : zeros ≡ (eqb (numberIn (part b at 8)) 0 && (eqb (numberIn (part b (at + 8) 8)) 0 && eqb (numberIn (part b (at + (w - 8)) 8)) 0))
+    by-number = sym by-field ∙ by-eight
 
-      module _ (e : x ≡ 0) (y : ℕ) (q : y ≡ numberIn (part b (at + 8) 8)) where
+    module _ (z : ℕ) (r : z ≡ numberIn (part b (at + (w - 8)) 8)) where
+      pub zero-not : ¬ (z ≡ 0) → false ≡ zeros
+      zero-not h =
+          sym (by-number ∙ rw (sym r, ne-eqb z 0 h, and-false (eqb (numberIn (part b (at + 8) 8)) 0), and-false (eqb (numberIn (part b at 8)) 0)))
+
+      module _ (e : z ≡ 0) (y : ℕ) (q : y ≡ numberIn (part b (at + 8) 8)) where
         pub zero-not-next : ¬ (y ≡ 0) → false ≡ zeros
-        zero-not-next h = sym (sym by-field ∙ by-eight ∙ rw (sym p, eq-eqb x 0 e, sym q, ne-eqb y 0 h))
+        zero-not-next h = sym (by-number ∙ rw (sym q, ne-eqb y 0 h, and-false (eqb (numberIn (part b at 8)) 0)))
 
-        pub zero-last : y ≡ 0 → (z : ℕ) → z ≡ numberIn (part b (at + (w - 8)) 8) → eqb z 0 ≡ zeros
-        zero-last f z r = sym (sym by-field ∙ by-eight ∙ rw (sym p, eq-eqb x 0 e, sym q, eq-eqb y 0 f, sym r))
+        pub zero-first : y ≡ 0 → (x : ℕ) → x ≡ numberIn (part b at 8) → eqb x 0 ≡ zeros
+        zero-first f x p = sym (by-number ∙ rw (sym r, eq-eqb z 0 e, sym q, eq-eqb y 0 f, sym p, and-true (eqb x 0)))
 
-    -- ---- the rules of one entry
+    -- ---- the rules of one entry, which is not zero
 
-    module _ (N kind : ℕ) (k : kind ≡ wordAt b (at + 8)) where
-      pub free-told : kind ≡ 0 → (r : Bool) → r ≡ zeros → r ≡ entryGood N (entryIn w b at)
-      unfolding entryIn
-      free-told z r p = p ∙ sym (free-good N (entryIn w b at) (sym k ∙ z))
-
-      module _ (u : ¬ (kind ≡ 0)) (r : Bool) (p : r ≡ isName (take ((at + 8) - at) (drop at b))) where
-        used : ¬ (entryIn w b at .kind ≡ 0)
-        unfolding entryIn
-        used z = u (k ∙ z)
-
+    module _ (N : ℕ) (other : zeros ≡ false) where
+      module _ (r : Bool) (p : r ≡ isName (take ((at + 8) - at) (drop at b))) where
         named : isName (entryIn w b at .name) ≡ r
         unfolding entryIn part
         named =
@@ -135,7 +130,12 @@ module _ (b : List ℕ) where
             ap isName (name-is b at (omega arith)) ∙ ap (λ (n : ℕ). isName (take n (drop at b))) (sym e) ∙ sym p
 
         pub unnamed-told : r ≡ false → false ≡ entryGood N (entryIn w b at)
-        unnamed-told f = sym (used-unnamed N (entryIn w b at) used (named ∙ f))
+        unnamed-told f = sym (other-good N (entryIn w b at) other ∙ rw (named, f))
 
         pub used-told : r ≡ true → (e : Entry) (s : Bool) → e ≡ entryIn w b at → s ≡ usedGood N e → s ≡ entryGood N (entryIn w b at)
-        used-told t e s q m = m ∙ ap (usedGood N) q ∙ sym (used-named N (entryIn w b at) used (named ∙ t))
+        used-told t e s q m = m ∙ ap (usedGood N) q ∙ sym (other-good N (entryIn w b at) other ∙ rw (named, t))
+
+      -- a good one is used
+      pub good-used : entryGood N (entryIn w b at) ≡ true → ¬ (wordAt b (at + 8) ≡ 0)
+      unfolding entryIn
+      good-used t k = false≢true (sym other ∙ sym (free-good N (entryIn w b at) k) ∙ t)

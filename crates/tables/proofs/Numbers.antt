@@ -1,19 +1,19 @@
--- Numbers and their bytes: bytes are zero, or the same, if their numbers are. And a part of bytes, written out.
+-- Numbers and their bytes: bytes are zero, or the same, if their numbers are; a word is two bytes turned. And a part of bytes, written out.
 use mathlib.Core.Path.{_≡_, refl, sym, ap, _∙_}
 use mathlib.Core.Bool.{Bool, true, _&&_}
 use mathlib.Core.List.{List, [], _∷_, map}
-use Prim.Native.Nat.{ℕ, suc, _+_, _*_, _≤_, _<_}
+use Prim.Native.Nat.{ℕ, suc, _+_, _*_, _/_, _%_, _≤_, _<_}
 use native.Mathlib.Omega.{arith}
 use lib.Dec.{eqb}
 use lib.ListN.{length, getD}
 use lib.Seq.{drop-cons}
 use borrow.Author.Tests.{eq-eqb, eqb-true, ltb-true, lt-ltb}
-use Rattle.geometry.specs.Bytes.{part, wordAt}
+use Rattle.geometry.specs.Bytes.{part, wordAt, word}
 use Rattle.geometry.specs.Lists.{every, same, numbersFrom}
-use Rattle.geometry.proofs.Bytes.{same-bytes, length-part, getD-part}
+use Rattle.geometry.proofs.Bytes.{same-bytes, length-part, getD-part, part-split}
 use Rattle.geometry.proofs.Numbered.{length-numbered, getD-numbered}
 use Rattle.geometry.proofs.Tests.{alike, and-left, and-right, and-both, every-from}
-use Rattle.tables.specs.Numbers.{numberIn, isByte}
+use Rattle.tables.specs.Numbers.{longAt, numberIn, isByte}
 
 -- ---- bytes written out
 
@@ -27,6 +27,52 @@ written b at n h =
     let p : i < n = omega arith in
     let e : suc at + i ≡ at + (1 + i) = omega arith in
     getD-part b (suc at) n i 0 p ∙ ap (λ (j : ℕ). getD b j 0) e ∙ sym (getD-numbered (λ k. getD b (at + k) 0) 1 n i 0 p)))
+
+-- ---- bytes read at once
+
+-- the bytes of a number of four, taken out one by one
+module _ (x p q r s : ℕ) (e : x ≡ p + 256 * (q + 256 * (r + 256 * s))) (hp : p < 256) (hq : q < 256) (hr : r < 256) where
+  second : x / 256 % 256 ≡ q
+  second = let t : x / 256 ≡ q + 256 * (r + 256 * s) = omega arith in omega arith
+
+  third : x / 65536 % 256 ≡ r
+  third = let t : x / 65536 ≡ r + 256 * s = omega arith in omega arith
+
+  fourth : x / 16777216 ≡ s
+  fourth = omega arith
+
+  turned-bytes : 16777216 * (x % 256) + 65536 * (x / 256 % 256) + 256 * (x / 65536 % 256) + x / 16777216 ≡ 65536 * (256 * p + q) + (256 * r + s)
+  turned-bytes = let t : x % 256 ≡ p = omega arith in rw (second, third, fourth) (omega arith)
+
+module _ (b : List ℕ) (at : ℕ) where
+  -- eight are four, and four behind them
+  pub eight-fours : at + 8 ≤ length b → numberIn (part b at 4) + 4294967296 * numberIn (part b (at + 4) 4) ≡ numberIn (part b at 8)
+  unfolding numberIn
+  eight-fours h =
+      let front = written b at 3 (omega arith) in
+      rw (part-split b at 8 4 (omega arith), front) (omega arith)
+
+  module _ (g : (k : ℕ) → getD b k 0 < 256) where
+    pub turned-two : at + 2 ≤ length b → 256 * (numberIn (part b at 2) % 256) + numberIn (part b at 2) / 256 ≡ wordAt b at
+    unfolding numberIn wordAt
+    turned-two h = rw (written b at 1 h) (omega (arith, g at, g (at + 1)))
+
+    pub turned-four : at + 4 ≤ length b
+        → 16777216 * (numberIn (part b at 4) % 256) + 65536 * (numberIn (part b at 4) / 256 % 256) + 256 * (numberIn (part b at 4) / 65536 % 256) + numberIn (part b at 4) / 16777216
+        ≡ longAt b at
+    unfolding numberIn longAt wordAt
+    turned-four h =
+        let e : (at + 2) + 1 ≡ at + 3 = omega arith in
+        let n : numberIn (part b at 4) ≡ getD b at 0 + 256 * (getD b (at + 1) 0 + 256 * (getD b (at + 2) 0 + 256 * getD b (at + 3) 0)) = ap numberIn (written b at 3 h) ∙ omega arith in
+        rw e (turned-bytes (numberIn (part b at 4)) (getD b at 0) (getD b (at + 1) 0) (getD b (at + 2) 0) (getD b (at + 3) 0) n (g at) (g (at + 1)) (g (at + 2)))
+
+-- a word that was turned, byte by byte
+pub turned-back : (k t : ℕ) → k < 65536 → t ≡ 256 * (k % 256) + k / 256 → word k ≡ (t % 256 ∷ t / 256 ∷ [])
+unfolding word
+turned-back k t h e =
+    let p : t % 256 ≡ k / 256 = omega arith in
+    let q : t / 256 ≡ k % 256 = omega arith in
+    rw (p, q)
 
 -- ---- zero
 

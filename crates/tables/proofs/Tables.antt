@@ -1,31 +1,34 @@
--- A table where it lies: entry i stands at w·i, and what is tested of the bytes of two entries is tested of the entries that they hold.
+-- A table where it lies: entry i stands at w·i, and what is tested of the bytes of entries is tested of the entries that they hold, from the front on.
 use mathlib.Core.Path.{_≡_, refl, sym, ap, _∙_}
-use mathlib.Core.Bool.{Bool, true, false, _&&_, _||_, not, and-assoc, or-true}
+use mathlib.Core.Bool.{Bool, true, false, _&&_, _||_, not, and-true, and-false, or-true, or-false}
 use mathlib.Core.List.{List, []}
-use Prim.Native.Nat.{ℕ, _+_, _-_, _*_, _≤_, _<_}
+use Prim.Native.Nat.{ℕ, _+_, _-_, _*_, _/_, _%_, _≤_, _<_, max}
+use native.Mathlib.Nat.{mul-le-mul-left}
 use native.Mathlib.Omega.{arith}
 use lib.Dec.{eqb, leb}
-use lib.ListN.{length, take, drop, getD}
-use lib.Seq.{take-all, length-take-le}
-use borrow.Author.Tests.{eq-eqb, ne-eqb, le-leb, leb-true}
+use lib.ListN.{length, take, getD}
+use lib.Seq.{take-all}
+use borrow.Author.Tests.{eq-eqb, ne-eqb, le-leb, lt-leb, leb-true}
 use Rattle.geometry.specs.Bytes.{part, wordAt}
 use Rattle.geometry.specs.Lists.{every, pairwise, same}
 use Rattle.geometry.proofs.Bytes.{part-all}
-use Rattle.geometry.proofs.Front.{front-some}
-use Rattle.geometry.proofs.Left.{every-on, every-off, every-end}
-use Rattle.geometry.proofs.Tests.{or-either, and-both, every-getD, every-from, every-more, pairwise-and, pairwise-more}
+use Rattle.geometry.proofs.Front.{front-one, front-some}
+use Rattle.geometry.proofs.Tests.{denied, or-either, every-and, every-getD, every-from, every-more, pairwise-more}
 use Rattle.directory.specs.Entries.{freeEntry, isFree}
 use Rattle.directory.specs.Rules.{namesDiffer, extentsApart, tableGood}
-use Rattle.directory.specs.Grouped.{entryGood, twoGood}
+use Rattle.directory.specs.Grouped.{isZero, entryGood, twoGood}
 use Rattle.directory.specs.Search.{matches, told, find}
-use Rattle.directory.proofs.Grouped.{grouped}
+use Rattle.directory.proofs.Free.{zero-free, zero-good}
+use Rattle.directory.proofs.Grouped.{grouped, free-apart}
 use Rattle.directory.proofs.Find.{found-none}
 use Rattle.directory.specs.declared.Entry.{Entry}
 use Rattle.directory.specs.declared.Found.the-variants.{Nothing}
-use Rattle.tables.specs.Numbers.{numberIn}
+use Rattle.tables.specs.Numbers.{longAt, numberIn}
+use Rattle.tables.specs.Rows.{rowIn}
 use Rattle.tables.specs.Tables.{hasRows, entryIn, entriesIn, tableIn}
 use Rattle.tables.proofs.Numbers.{same-eights}
 use Rattle.tables.proofs.Rows.{length-row, getD-row, take-row}
+use Rattle.tables.proofs.Widths.{below, one-on, row-before, row-upto}
 use Rattle.tables.proofs.Entries.{name-is}
 
 -- ---- entry i
@@ -53,73 +56,90 @@ module _ (w n : ℕ) (b : List ℕ) where
   unfolding tableIn
   table-none h = rw (h, tableIn)
 
-  -- a rule of two of entry i and those before it
-  pub before-told : (p : Entry → Entry → Bool) (i at : ℕ) (r : Bool) → i < n → at ≡ w * i → r ≡ every (λ f. p f (entryIn w b at)) (entriesIn w i b)
-      → every (λ f. p f (getD (entriesIn w n b) i freeEntry)) (take i (entriesIn w n b)) ≡ r
-  before-told p i at r h q s = rw (entry-is i at h q, first-entries i (omega arith)) (sym s)
+-- ---- the next entry
 
-  -- a rule of one entry, of entry i
-  pub row-told : (p : Entry → Bool) (i at : ℕ) (r : Bool) → i < n → at ≡ w * i → r ≡ p (entryIn w b at) → p (getD (entriesIn w n b) i freeEntry) ≡ r
-  row-told p i at r h q s = ap p (entry-is i at h q) ∙ sym s
+module _ (w i : ℕ) (b : List ℕ) where
+  there : i < length (entriesIn w (i + 1) b)
+  there = omega (arith, length-entries w (i + 1) b)
 
-  -- a rule of one, of those from number j on
-  pub left-end : (p : Entry → Bool) (j : ℕ) → n ≤ j → every p (drop j (entriesIn w n b)) ≡ true
-  left-end p j h = every-end p (entriesIn w n b) j (omega (arith, length-entries))
+  all-of : take (i + 1) (entriesIn w (i + 1) b) ≡ entriesIn w (i + 1) b
+  all-of = take-all (i + 1) (entriesIn w (i + 1) b) (omega (arith, length-entries w (i + 1) b))
 
-  module _ (p : Entry → Bool) (j at : ℕ) (h : j < n) (q : at ≡ w * j) where
-    pub left-on : p (entryIn w b at) ≡ true → every p (drop j (entriesIn w n b)) ≡ every p (drop (j + 1) (entriesIn w n b))
-    left-on e = every-on p (entriesIn w n b) j freeEntry (omega (arith, length-entries)) (ap p (entry-is j at h q) ∙ e)
+  next-is : getD (entriesIn w (i + 1) b) i freeEntry ≡ entryIn w b (w * i)
+  next-is = entry-is w (i + 1) b i (w * i) (omega arith) refl
 
-    pub left-off : p (entryIn w b at) ≡ false → every p (drop j (entriesIn w n b)) ≡ false
-    left-off e = every-off p (entriesIn w n b) j freeEntry (omega (arith, length-entries)) (ap p (entry-is j at h q) ∙ e)
+  pub more-every : (p : Entry → Bool) → every p (entriesIn w (i + 1) b) ≡ (every p (entriesIn w i b) && p (entryIn w b (w * i)))
+  more-every p =
+      ap (every p) (sym all-of) ∙ every-more p (entriesIn w (i + 1) b) i freeEntry there ∙ rw (first-entries w (i + 1) b i (omega arith), next-is)
 
--- ---- the rules of a table: of one entry, and of two, the names apart from the extents
+  more-pairs : (r : Entry → Entry → Bool) → pairwise r (entriesIn w (i + 1) b) ≡ (pairwise r (entriesIn w i b) && every (λ a. r a (entryIn w b (w * i))) (entriesIn w i b))
+  more-pairs r =
+      ap (pairwise r) (sym all-of) ∙ pairwise-more r (entriesIn w (i + 1) b) i freeEntry there ∙ rw (first-entries w (i + 1) b i (omega arith), next-is)
 
-pub parted : (N : ℕ) (t : List Entry) → tableGood N t ≡ ((every (entryGood N) t && pairwise namesDiffer t) && pairwise extentsApart t)
-unfolding twoGood
-parted N t =
-    grouped N t ∙ ap (λ (q : Bool). every (entryGood N) t && q) (pairwise-and namesDiffer extentsApart t) ∙ sym (and-assoc (every (entryGood N) t) (pairwise namesDiffer t) (pairwise extentsApart t))
+  -- the rules of a table, with one entry more
+  pub more-good : (N : ℕ) → tableGood N (entriesIn w (i + 1) b)
+      ≡ (tableGood N (entriesIn w i b) && (entryGood N (entryIn w b (w * i)) && every (λ a. twoGood a (entryIn w b (w * i))) (entriesIn w i b)))
+  more-good N =
+      grouped N (entriesIn w (i + 1) b)
+      ∙ rw (more-every (entryGood N), more-pairs twoGood, grouped N (entriesIn w i b))
+      (swapped (every (entryGood N) (entriesIn w i b)) (entryGood N (entryIn w b (w * i))) (pairwise twoGood (entriesIn w i b)) (every (λ a. twoGood a (entryIn w b (w * i))) (entriesIn w i b)))
+    where
+      swapped : (a x c y : Bool) → ((a && x) && (c && y)) ≡ ((a && c) && (x && y))
+      swapped false x c y = refl
+      swapped true false false y = refl
+      swapped true false true y = refl
+      swapped true true c y = refl
 
-module _ (N w n : ℕ) (b : List ℕ) where
-  pub good-none : hasRows w n b ≡ false → false ≡ (hasRows w n b && tableGood N (entriesIn w n b))
-  good-none h = rw h
+  -- which is zero
+  pub zero-more : isZero (entryIn w b (w * i)) ≡ true → (N : ℕ) → tableGood N (entriesIn w (i + 1) b) ≡ tableGood N (entriesIn w i b)
+  zero-more z N =
+      more-good N
+      ∙ rw (zero-good N (entryIn w b (w * i)) z, free-apart (entryIn w b (w * i)) (zero-free N (entryIn w b (w * i)) z) (entriesIn w i b), and-true (tableGood N (entriesIn w i b)))
 
-  module _ (h : hasRows w n b ≡ true) (r : Bool) (p : r ≡ (every (entryGood N) (entriesIn w n b) && pairwise namesDiffer (entriesIn w n b))) where
-    pub good-left : r ≡ false → false ≡ (hasRows w n b && tableGood N (entriesIn w n b))
-    good-left f = rw (h, parted N (entriesIn w n b), sym p, f)
+pub zero-less : (w i at : ℕ) (b : List ℕ) → 0 < i → at ≡ w * (i - 1) → isZero (entryIn w b at) ≡ true → (N : ℕ) → tableGood N (entriesIn w i b) ≡ tableGood N (entriesIn w (i - 1) b)
+zero-less w i at b h q z N =
+    let e : i ≡ (i - 1) + 1 = omega arith in
+    ap (λ (n : ℕ). tableGood N (entriesIn w n b)) e ∙ zero-more w (i - 1) b (ap (λ (n : ℕ). isZero (entryIn w b n)) (sym q) ∙ z) N
 
-    pub good-right : r ≡ true → (s : Bool) → s ≡ pairwise extentsApart (entriesIn w n b) → s ≡ (hasRows w n b && tableGood N (entriesIn w n b))
-    good-right f s q = rw (h, parted N (entriesIn w n b), sym p, f, sym q)
+-- ---- a rule of one, of the entries before a byte
 
--- ---- a rule of two, of the first i
+pub record Kept (w : ℕ) (b : List ℕ) (p : Entry → Bool) (at : ℕ) : Type 0 where
+  pub row : ℕ
+  pub place : at ≡ w * row
+  pub all : every p (entriesIn w row b) ≡ true
 
-module _ (r : Entry → Entry → Bool) (t : List Entry) where
-  pub pairs-none : pairwise r (take 0 t) ≡ true
-  unfolding pairwise
-  pairs-none = refl
+module _ (w : ℕ) (b : List ℕ) (p : Entry → Bool) where
+  pub kept-none : Kept w b p 0
+  unfolding entriesIn rowIn every
+  kept-none = record { row = 0; place = omega arith; all = refl }
 
-  pub pairs-whole : (i : ℕ) → length t ≤ i → pairwise r (take i t) ≡ true → pairwise r t ≡ true
-  pairs-whole i h done = rw (take-all i t h) at done
+  module _ (at : ℕ) (k : Kept w b p at) where
+    pub kept-on : p (entryIn w b at) ≡ true → Kept w b p (at + w)
+    kept-on e = record { row = k .row + 1; place = omega (arith, one-on w (k .row)); all = more-every w (k .row) b p ∙ rw (sym (k .place), k .all, e) }
 
-  module _ (i : ℕ) (h : i < length t) where
-    pub pairs-on : pairwise r (take i t) ≡ true → every (λ a. r a (getD t i freeEntry)) (take i t) ≡ true → pairwise r (take (i + 1) t) ≡ true
-    pairs-on done e = pairwise-more r t i freeEntry h ∙ and-both (pairwise r (take i t)) _ done e
+    -- of all before byte `end`, where entry i begins
+    module _ (end : ℕ) where
+      pub kept-off : at < end → p (entryIn w b at) ≡ false → (i : ℕ) → end ≡ w * i → false ≡ every p (entriesIn w i b)
+      kept-off h e i q =
+          let l : length (entriesIn w i b) ≡ i = length-entries w i b in
+          let j : k .row < i = row-before w (k .row) i (omega arith) in
+          sym (denied (every p (entriesIn w i b)) (p (entryIn w b at)) (λ (t : every p (entriesIn w i b) ≡ true).
+          sym (ap p (entry-is w i b (k .row) at j (k .place))) ∙ every-getD p (entriesIn w i b) (k .row) freeEntry t (omega arith)) e)
 
-    pub pairs-off : every (λ a. r a (getD t i freeEntry)) (take i t) ≡ false → pairwise r t ≡ false
-    pairs-off e =
-        let all : every (λ (a : Entry). true) t ≡ true = every-from (λ (a : Entry). true) t freeEntry (λ j l. refl) in
-        rw all at (front-some (λ (a : Entry). true) r t i freeEntry h e)
+      pub kept-whole : 0 < w → end ≤ at → (i : ℕ) → end ≡ w * i → true ≡ every p (entriesIn w i b)
+      kept-whole s h i q =
+          let j : i ≤ k .row = row-upto w i (k .row) s (omega arith) in
+          let l : length (entriesIn w (k .row) b) ≡ k .row = length-entries w (k .row) b in
+          let m : length (entriesIn w i b) ≡ i = length-entries w i b in
+          sym (every-from p (entriesIn w i b) freeEntry λ (n : ℕ) (u : n < length (entriesIn w i b)).
+          ap p (entry-is w i b n (w * n) (omega arith) refl ∙ sym (entry-is w (k .row) b n (w * n) (omega arith) refl)) ∙ every-getD p (entriesIn w (k .row) b) n freeEntry (k .all) (omega arith))
 
 -- ---- names
 
--- no entry has the name of a free one
-pub free-differs : (w n : ℕ) (b : List ℕ) (i at kind : ℕ) → i < n → at ≡ w * i → kind ≡ wordAt b (at + 8) → kind ≡ 0
-    → every (λ a. namesDiffer a (getD (entriesIn w n b) i freeEntry)) (take i (entriesIn w n b)) ≡ true
-unfolding entryIn namesDiffer
-free-differs w n b i at kind h q k z =
-    rw (entry-is w n b i at h q)
-    (every-from (λ a. namesDiffer a (entryIn w b at)) (take i (entriesIn w n b)) freeEntry λ (j : ℕ) (l : j < length (take i (entriesIn w n b))).
-    rw (sym k, eq-eqb kind 0 z, or-true (isFree (getD (take i (entriesIn w n b)) j freeEntry))))
+used-kinds : (w : ℕ) (b : List ℕ) (at end kind : ℕ) → kind ≡ wordAt b (at + 8) → ¬ (wordAt b (end + 8) ≡ 0)
+    → (isFree (entryIn w b at) || (isFree (entryIn w b end) || false)) ≡ eqb kind 0
+unfolding entryIn
+used-kinds w b at end kind k u = rw (sym k, ne-eqb (wordAt b (end + 8)) 0 u) (or-false (eqb kind 0))
 
 module _ (w : ℕ) (b : List ℕ) (g : (k : ℕ) → getD b k 0 < 256) (at : ℕ) (room : at + 8 ≤ length b) (x : ℕ) (p : x ≡ numberIn (part b at 8)) where
   -- with another entry
@@ -131,20 +151,13 @@ module _ (w : ℕ) (b : List ℕ) (g : (k : ℕ) → getD b k 0 < 256) (at : ℕ
     unfolding entryIn
     alike-names = rw (name-is b at room, name-is b end room′, p, q) (sym (same-eights b g b g at end room room′))
 
-    pub names-other : ¬ (x ≡ y) → differ ≡ true
+    pub names-other : ¬ (x ≡ y) → true ≡ differ
     unfolding namesDiffer
-    names-other h = rw (alike-names, ne-eqb x y h, or-true (isFree (entryIn w b end)), or-true (isFree (entryIn w b at)))
+    names-other h = sym (rw (alike-names, ne-eqb x y h, or-true (isFree (entryIn w b end)), or-true (isFree (entryIn w b at))))
 
-    pub names-free : (kind : ℕ) → kind ≡ wordAt b (at + 8) → kind ≡ 0 → differ ≡ true
-    unfolding namesDiffer entryIn
-    names-free kind k z = rw (sym k, eq-eqb kind 0 z)
-
-    kinds-used : (kind : ℕ) → kind ≡ wordAt b (at + 8) → ¬ (kind ≡ 0) → ¬ (wordAt b (end + 8) ≡ 0) → differ ≡ not (same (entryIn w b at .name) (entryIn w b end .name))
-    unfolding namesDiffer entryIn
-    kinds-used kind k u v = rw (sym k, ne-eqb kind 0 u, ne-eqb (wordAt b (end + 8)) 0 v)
-
-    pub names-same : x ≡ y → (kind : ℕ) → kind ≡ wordAt b (at + 8) → ¬ (kind ≡ 0) → ¬ (wordAt b (end + 8) ≡ 0) → differ ≡ false
-    names-same e kind k u v = kinds-used kind k u v ∙ ap not (alike-names ∙ eq-eqb x y e)
+    pub names-same : x ≡ y → (kind : ℕ) → kind ≡ wordAt b (at + 8) → ¬ (wordAt b (end + 8) ≡ 0) → eqb kind 0 ≡ differ
+    unfolding namesDiffer
+    names-same e kind k u = sym (rw (alike-names, eq-eqb x y e) (used-kinds w b at end kind k u))
 
   -- with a name that is looked for
   module _ (name : List ℕ) (g′ : (k : ℕ) → getD name k 0 < 256) (long : length name ≡ 8) (y : ℕ) (q : y ≡ numberIn (part name 0 8)) where
@@ -187,11 +200,39 @@ empty-none t name e = found-none t name freeEntry (λ j l. absurd (omega (arith,
 
 -- ---- extents
 
-pub apart-told : (w : ℕ) (b : List ℕ) (at end k j f n s t : ℕ) → k ≡ wordAt b (at + 8) → j ≡ wordAt b (end + 8) → f ≡ wordAt b (at + 12) → n ≡ wordAt b (end + 12)
-    → s ≡ wordAt b (at + 14) → t ≡ wordAt b (end + 14)
-    → (eqb k 0 || (eqb j 0 || (leb (f + s) n || leb (n + t) f))) ≡ extentsApart (entryIn w b at) (entryIn w b end)
-unfolding extentsApart entryIn
-apart-told w b at end k j f n s t pk pj pf pn ps pt = rw (pk, pj, pf, pn, ps, pt)
+-- two words at once
+module _ (b : List ℕ) (g : (k : ℕ) → getD b k 0 < 256) (at x : ℕ) (p : x ≡ longAt b (at + 12)) where
+  low : wordAt b (at + 14) < 65536
+  unfolding wordAt
+  low = omega (arith, g (at + 14), g ((at + 14) + 1))
+
+  both : x ≡ 65536 * wordAt b (at + 12) + wordAt b (at + 14)
+  unfolding longAt
+  both = let e : (at + 12) + 2 ≡ at + 14 = omega arith in p ∙ rw e
+
+  begins : x / 65536 ≡ wordAt b (at + 12)
+  begins = omega (arith, both, low)
+
+  goes-on : x % 65536 ≡ wordAt b (at + 14)
+  goes-on = omega (arith, both, low)
+
+  -- with those of a used entry
+  module _ (w : ℕ) (e : Entry) (first behind : ℕ) (f : first ≡ e .first) (q : behind ≡ e .first + e .sectors) (used : ¬ (e .kind ≡ 0)) where
+    abbrev none-shared : Bool
+    none-shared = extentsApart (entryIn w b at) e
+
+    by-words : none-shared ≡ (eqb (wordAt b (at + 8)) 0 || (leb (x / 65536 + x % 65536) first || leb behind (x / 65536)))
+    unfolding extentsApart entryIn
+    by-words = rw (ne-eqb (e .kind) 0 used, begins, goes-on, f, q)
+
+    pub apart-before : 65536 * behind ≤ x → true ≡ none-shared
+    apart-before h = sym (by-words ∙ rw (le-leb behind (x / 65536) (omega arith), or-true (leb (x / 65536 + x % 65536) first), or-true (eqb (wordAt b (at + 8)) 0)))
+
+    pub apart-behind : x / 65536 + x % 65536 ≤ first → true ≡ none-shared
+    apart-behind h = sym (by-words ∙ rw (le-leb (x / 65536 + x % 65536) first h, or-true (eqb (wordAt b (at + 8)) 0)))
+
+    pub apart-free : x < 65536 * behind → first < x / 65536 + x % 65536 → (kind : ℕ) → kind ≡ wordAt b (at + 8) → eqb kind 0 ≡ none-shared
+    apart-free h l kind k = sym (by-words ∙ rw (sym k, lt-leb (x / 65536 + x % 65536) first l, lt-leb behind (x / 65536) (omega arith), or-false (eqb kind 0)))
 
 -- an entry ends by a sector, or is free
 abbrev pub endsBy : ℕ → Entry → Bool
@@ -209,49 +250,89 @@ ends-apart s a e h q =
     (λ (l : leb (a .first + a .sectors) s ≡ true).
     rw (le-leb (a .first + a .sectors) (e .first) (omega (arith, leb-true (a .first + a .sectors) s l)), or-true (isFree e), or-true (isFree a)))
 
-free-apart : (a e : Entry) → e .kind ≡ 0 → extentsApart a e ≡ true
-unfolding extentsApart
-free-apart a e z = rw (eq-eqb (e .kind) 0 z, or-true (isFree a))
+-- ---- both rules of two
 
--- the first i of a table are in order, and end by a sector
-pub record Ordered (t : List Entry) (i s : ℕ) : Type 0 where
-  pub apart : pairwise extentsApart (take i t) ≡ true
-  pub ended : every (endsBy s) (take i t) ≡ true
+module _ (a e : Entry) where
+  pub two-shared : extentsApart a e ≡ false → twoGood a e ≡ false
+  unfolding twoGood
+  two-shared h = rw (h, and-false (namesDiffer a e))
 
-pub order-none : (t : List Entry) → Ordered t 0 0
-unfolding pairwise every
-order-none t = record { apart = refl; ended = refl }
+  pub two-apart : extentsApart a e ≡ true → twoGood a e ≡ namesDiffer a e
+  unfolding twoGood
+  two-apart h = rw (h, and-true (namesDiffer a e))
 
-pub order-whole : (t : List Entry) (i s : ℕ) → length t ≤ i → Ordered t i s → pairwise extentsApart t ≡ true
-order-whole t i s h o = rw (take-all i t h) at (o .apart)
+pub two-told : (e : Entry) (t : List Entry) (r : Bool) → r ≡ every (λ f. namesDiffer f e) t → every (λ f. extentsApart f e) t ≡ true → r ≡ every (λ f. twoGood f e) t
+unfolding twoGood
+two-told e t r p q =
+    p ∙ sym (every-and (λ f. namesDiffer f e) (λ f. extentsApart f e) t ∙ rw (q, and-true (every (λ f. namesDiffer f e) t)))
 
-module _ (t : List Entry) (i s : ℕ) (h : i < length t) (o : Ordered t i s) where
-  on : (e : Entry) (s′ : ℕ) → getD t i freeEntry ≡ e → s ≤ s′ → endsBy s′ e ≡ true → ((a : Entry) → endsBy s a ≡ true → extentsApart a e ≡ true) → Ordered t (i + 1) s′
-  on e s′ q l m f =
-      let n : length (take i t) ≡ i = length-take-le i t (omega arith) in
-      record {
-        apart =
-            pairwise-more extentsApart t i freeEntry h
-            ∙ and-both (pairwise extentsApart (take i t)) _ (o .apart)
-            (rw q (every-from (λ a. extentsApart a e) (take i t) freeEntry λ (j : ℕ) (k : j < length (take i t)).
-            f (getD (take i t) j freeEntry) (every-getD (endsBy s) (take i t) j freeEntry (o .ended) k)));
-        ended =
-            every-more (endsBy s′) t i freeEntry h
-            ∙ and-both (every (endsBy s′) (take i t)) _
-            (every-from (endsBy s′) (take i t) freeEntry λ (j : ℕ) (k : j < length (take i t)).
-            ends-on s s′ (getD (take i t) j freeEntry) l (every-getD (endsBy s) (take i t) j freeEntry (o .ended) k))
-            (ap (endsBy s′) q ∙ m);
-      }
+-- a rule that follows from another holds where that does
+all-follow : (p q : Entry → Bool) → ((e : Entry) → p e ≡ true → q e ≡ true) → (t : List Entry) → every p t ≡ true → every q t ≡ true
+all-follow p q f t h = every-from q t freeEntry λ (i : ℕ) (l : i < length t). f (getD t i freeEntry) (every-getD p t i freeEntry h l)
 
-  module _ (w : ℕ) (b : List ℕ) (at : ℕ) (q : getD t i freeEntry ≡ entryIn w b at) (kind : ℕ) (k : kind ≡ wordAt b (at + 8)) where
-    pub order-free : kind ≡ 0 → (s′ : ℕ) → s′ ≡ s → Ordered t (i + 1) s′
+-- ---- a table tested from its front: the entries before a byte keep every rule, and end by a sector
+
+pub record Passed (w N : ℕ) (b : List ℕ) (s at : ℕ) : Type 0 where
+  pub row : ℕ
+  pub place : at ≡ w * row
+  pub good : tableGood N (entriesIn w row b) ≡ true
+  pub ended : every (endsBy s) (entriesIn w row b) ≡ true
+
+module _ (w N : ℕ) (b : List ℕ) where
+  pub passed-none : Passed w N b 0 0
+  unfolding entriesIn rowIn every pairwise
+  passed-none = record { row = 0; place = omega arith; good = grouped N []; ended = refl }
+
+  module _ (s at : ℕ) (o : Passed w N b s at) where
+    on : (s′ : ℕ) → s ≤ s′ → entryGood N (entryIn w b at) ≡ true → every (λ a. twoGood a (entryIn w b at)) (entriesIn w (o .row) b) ≡ true → endsBy s′ (entryIn w b at) ≡ true
+        → Passed w N b s′ (at + w)
+    on s′ l g t e = record {
+      row = o .row + 1;
+      place = omega (arith, o .place, one-on w (o .row));
+      good = more-good w (o .row) b N ∙ rw (sym (o .place), o .good, g, t);
+      ended = more-every w (o .row) b (endsBy s′) ∙ rw (sym (o .place), all-follow (endsBy s) (endsBy s′) (λ (x : Entry) (h : endsBy s x ≡ true). ends-on s s′ x l h) (entriesIn w (o .row) b) (o .ended), e);
+    }
+
+    pub passed-zero : isZero (entryIn w b at) ≡ true → (s′ : ℕ) → s′ ≡ s → Passed w N b s′ (at + w)
+    passed-zero z s′ q =
+        let f = zero-free N (entryIn w b at) z in
+        on s′ (omega arith) (zero-good N (entryIn w b at) z) (free-apart (entryIn w b at) f (entriesIn w (o .row) b)) (rw (eq-eqb (entryIn w b at .kind) 0 f))
+
+    pub passed-used : entryGood N (entryIn w b at) ≡ true → (r : Bool) → ((i : ℕ) → at ≡ w * i → r ≡ every (λ a. twoGood a (entryIn w b at)) (entriesIn w i b)) → r ≡ true
+        → (end s′ : ℕ) → end ≡ wordAt b (at + 12) + wordAt b (at + 14) → s′ ≡ max s end → Passed w N b s′ (at + w)
     unfolding entryIn
-    order-free z s′ r =
-        on (entryIn w b at) s′ q (omega arith) (rw (sym k, eq-eqb kind 0 z)) (λ (a : Entry) (m : endsBy s a ≡ true). free-apart a (entryIn w b at) (sym k ∙ z))
+    passed-used g r t q end s′ m n =
+        on s′ (omega arith) g (sym (t (o .row) (o .place)) ∙ q) (rw (sym m, le-leb end s′ (omega arith), or-true (isFree (entryIn w b at))))
 
-    pub order-used : (first sectors s′ : ℕ) → first ≡ wordAt b (at + 12) → sectors ≡ wordAt b (at + 14) → s ≤ first → s′ ≡ first + sectors → Ordered t (i + 1) s′
+    -- those before it share no sector with one that begins behind them
+    pub passed-behind : (i : ℕ) → at ≡ w * i → 0 < w → s ≤ wordAt b (at + 12) → every (λ a. extentsApart a (entryIn w b at)) (entriesIn w i b) ≡ true
     unfolding entryIn
-    order-used first sectors s′ f l m r =
-        on (entryIn w b at) s′ q (omega arith)
-        (rw (sym f, sym l, le-leb (first + sectors) s′ (omega arith), or-true (isFree (entryIn w b at))))
-        (λ (a : Entry) (e : endsBy s a ≡ true). ends-apart s a (entryIn w b at) (rw f at m) e)
+    passed-behind i q p h =
+        let e : o .row ≡ i = omega (arith, row-upto w (o .row) i p (omega (arith, o .place)), row-upto w i (o .row) p (omega (arith, o .place))) in
+        ap (λ (n : ℕ). every (λ a. extentsApart a (entryIn w b at)) (entriesIn w n b)) (sym e)
+        ∙ all-follow (endsBy s) (λ a. extentsApart a (entryIn w b at)) (λ (a : Entry) (m : endsBy s a ≡ true). ends-apart s a (entryIn w b at) h m) (entriesIn w (o .row) b) (o .ended)
+
+    pub passed-room : (n m : ℕ) → at < w * n → n ≤ m → at + w ≤ w * m
+    passed-room n m h l =
+        omega (arith, o .place, below w (o .row) n (row-before w (o .row) n (omega (arith, o .place))), mul-le-mul-left w l)
+
+    module _ (n : ℕ) where
+      here : at < w * n → o .row < n
+      here h = row-before w (o .row) n (omega (arith, o .place))
+
+      -- one that breaks a rule of one, and one that breaks a rule of two
+      pub passed-one : at < w * n → entryGood N (entryIn w b at) ≡ false → false ≡ tableGood N (entriesIn w n b)
+      passed-one h e =
+          sym (grouped N (entriesIn w n b) ∙ front-one (entryGood N) twoGood (entriesIn w n b) (o .row) freeEntry (omega (arith, length-entries w n b, here h))
+          (ap (entryGood N) (entry-is w n b (o .row) at (here h) (o .place)) ∙ e))
+
+      pub passed-two : at < w * n → (r : Bool) → ((i : ℕ) → at ≡ w * i → r ≡ every (λ a. twoGood a (entryIn w b at)) (entriesIn w i b)) → r ≡ false
+          → false ≡ tableGood N (entriesIn w n b)
+      passed-two h r t q =
+          sym (grouped N (entriesIn w n b) ∙ front-some (entryGood N) twoGood (entriesIn w n b) (o .row) freeEntry (omega (arith, length-entries w n b, here h))
+          (rw (entry-is w n b (o .row) at (here h) (o .place), first-entries w n b (o .row) (omega (arith, here h))) (sym (t (o .row) (o .place)) ∙ q)))
+
+      pub passed-whole : 0 < w → w * n ≤ at → at ≤ w * n → true ≡ tableGood N (entriesIn w n b)
+      passed-whole p h k =
+          let e : o .row ≡ n = omega (arith, row-upto w (o .row) n p (omega (arith, o .place)), row-upto w n (o .row) p (omega (arith, o .place))) in
+          sym (ap (λ (m : ℕ). tableGood N (entriesIn w m b)) (sym e) ∙ o .good)

@@ -1,9 +1,9 @@
 -- The two widths: what is tested of bytes before a table in them is read, and what that gives.
-use mathlib.Core.Path.{_≡_}
+use mathlib.Core.Path.{_≡_, sym, ap, _∙_}
 use mathlib.Core.Bool.{true, false, _&&_, _||_}
 use mathlib.Core.List.{List}
-use Prim.Native.Nat.{ℕ, _+_, _*_, _/_, _≤_, _<_}
-use native.Mathlib.Nat.{mul-le-mul-left, mul-suc}
+use Prim.Native.Nat.{ℕ, _+_, _-_, _*_, _/_, _≤_, _<_}
+use native.Mathlib.Nat.{mul-le-mul-left, mul-suc, lt-of-mul-lt-mul-left, le-of-mul-le-mul-left}
 use native.Mathlib.Omega.{arith}
 use native.Mathlib.Decide.{ℕ-discrete}
 use lib.Dec.{eqb, leb}
@@ -59,3 +59,16 @@ below w i n h = omega (arith, mul-le-mul-left w h, mul-suc w i)
 
 pub one-on : (w i : ℕ) → w * i + w ≡ w * (i + 1)
 one-on w i = omega (arith, mul-suc w i)
+
+-- and back
+pub one-less : (w i : ℕ) → 0 < i → w * i ≡ w * (i - 1) + w
+one-less w i h =
+    let e : i ≡ (i - 1) + 1 = omega arith in
+    ap (λ (n : ℕ). w * n) e ∙ sym (one-on w (i - 1))
+
+-- which is before which
+pub row-before : (w i j : ℕ) → w * i < w * j → i < j
+row-before w i j h = lt-of-mul-lt-mul-left w h
+
+pub row-upto : (w i j : ℕ) → 0 < w → w * i ≤ w * j → i ≤ j
+row-upto w i j p h = le-of-mul-le-mul-left h p

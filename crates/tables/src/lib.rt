@@ -9,17 +9,16 @@ use directory::used_good;
 use geometry::Geometry;
 use geometry::lay;
 ghost use mathlib.Core.Path.{_≡_};
-ghost use mathlib.Core.Bool.{true, _&&_};
+ghost use mathlib.Core.Bool.{true, false, _&&_};
 ghost use mathlib.Core.List.{[], _∷_, _++_};
-ghost use Prim.Native.Nat.{_+_, _*_, _≤_, _<_};
-ghost use lib.Dec.{eqb};
+ghost use Prim.Native.Nat.{ℕ, _+_, _*_, _/_, _%_, _≤_, max};
 ghost use lib.ListN.{length};
 ghost use Rattle.geometry.specs.Bytes.{part, padded, wordAt};
 ghost use Rattle.geometry.specs.Bytes as Bytes;
-ghost use Rattle.geometry.specs.Lists.{every, pairwise};
-ghost use Rattle.directory.specs.Entries.{entryBytes, entryAt};
+ghost use Rattle.geometry.specs.Lists.{every};
+ghost use Rattle.directory.specs.Entries.{entryAt};
 ghost use Rattle.directory.specs.Rules.{namesDiffer, extentsApart, tableGood};
-ghost use Rattle.directory.specs.Grouped.{entryGood};
+ghost use Rattle.directory.specs.Grouped.{isZero, entryGood, twoGood};
 ghost use Rattle.directory.specs.Search.{told, find};
 ghost use Rattle.tables.specs.Numbers.{longAt, numberIn};
 ghost use Rattle.tables.specs.Rows.{rowOf};
@@ -35,13 +34,58 @@ impl Width {
     pub const TWO: usize = 22;
 }
 
-// ---- numbers where they lie
+// ---- numbers where they lie: two, four or eight bytes are read low byte first, as one number, and turned where the high byte is the first
 
-// A word from its bytes.
-fn word(high: u8, low: u8) -> u16
-    ensures { λ r. ⌜ r ≡ 256 * high + low ⌝ }
+// Two bytes as a number, the first counting least.
+fn two(a: u8, b: u8) -> u16
+    ensures { λ r. ⌜ r ≡ numberIn (a ∷ b ∷ []) ⌝ }
 {
-    256 * (high as u16) + (low as u16)
+    (a as u16) + 256 * (b as u16)
+}
+
+// Four bytes.
+fn four(a: u8, b: u8, c: u8, d: u8) -> u32
+    ensures { λ r. ⌜ r ≡ numberIn (a ∷ b ∷ c ∷ d ∷ []) ⌝ }
+{
+    (a as u32) + 256 * (b as u32) + 65536 * (c as u32) + 16777216 * (d as u32)
+}
+
+// The two bytes at a place as a number.
+fn two_in(b: &[u8], at: usize) -> u16
+    requires { ⌜ at + 2 ≤ length (now b) ⌝ }
+    ensures { λ r. ⌜ r ≡ numberIn (part (now (b .entry)) at 2) ⌝ }
+{
+    two(b[at], b[at + 1])
+}
+
+// The four bytes.
+fn four_in(b: &[u8], at: usize) -> u32
+    requires { ⌜ at + 4 ≤ length (now b) ⌝ }
+    ensures { λ r. ⌜ r ≡ numberIn (part (now (b .entry)) at 4) ⌝ }
+{
+    four(b[at], b[at + 1], b[at + 2], b[at + 3])
+}
+
+// The eight bytes, to be compared with others or with zero.
+fn eight_in(b: &[u8], at: usize) -> usize
+    requires { ⌜ at + 8 ≤ length (now b) ⌝ }
+    ensures { λ r. ⌜ r ≡ numberIn (part (now (b .entry)) at 8) ⌝ }
+{
+    (four_in(b, at) as usize) + 4294967296 * (four_in(b, at + 4) as usize)
+}
+
+// A number of two bytes with its bytes the other way round.
+fn turned(x: u16) -> u16
+    ensures { λ r. ⌜ r ≡ 256 * (x % 256) + x / 256 ⌝ }
+{
+    256 * (x % 256) + x / 256
+}
+
+// One of four.
+fn turned_long(x: u32) -> u32
+    ensures { λ r. ⌜ r ≡ 16777216 * (x % 256) + 65536 * (x / 256 % 256) + 256 * (x / 65536 % 256) + x / 16777216 ⌝ }
+{
+    16777216 * (x % 256) + 65536 * (x / 256 % 256) + 256 * (x / 65536 % 256) + x / 16777216
 }
 
 // The word at a place, high byte first.
@@ -49,7 +93,7 @@ fn word_in(b: &[u8], at: usize) -> u16
     requires { ⌜ at + 2 ≤ length (now b) ⌝ }
     ensures { λ r. ⌜ r ≡ wordAt (now (b .entry)) at ⌝ }
 {
-    word(b[at], b[at + 1])
+    turned(two_in(b, at))
 }
 
 // The two words at a place, high word first.
@@ -57,38 +101,7 @@ fn long_in(b: &[u8], at: usize) -> u32
     requires { ⌜ at + 4 ≤ length (now b) ⌝ }
     ensures { λ r. ⌜ r ≡ longAt (now (b .entry)) at ⌝ }
 {
-    65536 * (word_in(b, at) as u32) + (word_in(b, at + 2) as u32)
-}
-
-// Four bytes as a number, the first counting least.
-fn four(a: u8, b: u8, c: u8, d: u8) -> u32
-    ensures { λ r. ⌜ r ≡ numberIn (a ∷ b ∷ c ∷ d ∷ []) ⌝ }
-{
-    (a as u32) + 256 * (b as u32) + 65536 * (c as u32) + 16777216 * (d as u32)
-}
-
-// Eight bytes as a number, the first counting least.
-fn eight(a: u8, b: u8, c: u8, d: u8, e: u8, f: u8, g: u8, h: u8) -> usize
-    ensures { λ r. ⌜ r ≡ numberIn (a ∷ b ∷ c ∷ d ∷ e ∷ f ∷ g ∷ h ∷ []) ⌝ }
-{
-    (four(a, b, c, d) as usize) + 4294967296 * (four(e, f, g, h) as usize)
-}
-
-// The eight bytes at a place as one number, to be compared with another or with zero.
-fn eight_in(b: &[u8], at: usize) -> usize
-    requires { ⌜ at + 8 ≤ length (now b) ⌝ }
-    ensures { λ r. ⌜ r ≡ numberIn (part (now (b .entry)) at 8) ⌝ }
-{
-    eight(
-        b[at],
-        b[at + 1],
-        b[at + 2],
-        b[at + 3],
-        b[at + 4],
-        b[at + 5],
-        b[at + 6],
-        b[at + 7],
-    )
+    turned_long(four_in(b, at))
 }
 
 // ---- an entry where it lies
@@ -154,23 +167,24 @@ fn entry_at(b: &[u8], width: usize, at: usize) -> Entry
 
 // ---- the rules of one entry
 
-// Whether all its bytes are zero: three numbers of eight are, of which the last begins in the one before.
+// Whether all its bytes are zero: three numbers of eight are, of which the last begins in the one before. A used entry has sectors,
+// which are among the last eight, so these are looked at first.
 fn is_zero(b: &[u8], width: usize, at: usize) -> bool
     requires { ⌜ Wide width × (at + width ≤ length (now b)) ⌝ }
-    ensures { λ r. ⌜ r ≡ every (λ x. eqb x 0) (entryBytes (entryIn width (now (b .entry)) at)) ⌝ }
+    ensures { λ r. ⌜ r ≡ isZero (entryIn width (now (b .entry)) at) ⌝ }
 {
-    if eight_in(b, at) != 0 {
+    if eight_in(b, at + (width - 8)) != 0 {
         return false;
     }
     if eight_in(b, at + 8) != 0 {
         return false;
     }
-    eight_in(b, at + (width - 8)) == 0
+    eight_in(b, at) == 0
 }
 
-// Whether a used one keeps the rules of one entry, in an image of n sectors.
+// Whether one that is not zero keeps the rules of one entry, in an image of n sectors.
 fn used_row(b: &[u8], width: usize, at: usize, n: u32) -> bool
-    requires { ⌜ Wide width × ((at + width ≤ length (now b)) × (¬ (wordAt (now b) (at + 8) ≡ 0))) ⌝ }
+    requires { ⌜ Wide width × ((at + width ≤ length (now b)) × (isZero (entryIn width (now b) at) ≡ false)) ⌝ }
     ensures { λ r. ⌜ r ≡ entryGood n (entryIn width (now (b .entry)) at) ⌝ }
 {
     if !is_name(&b[at..at + 8]) {
@@ -180,141 +194,155 @@ fn used_row(b: &[u8], width: usize, at: usize, n: u32) -> bool
     used_good(e, n)
 }
 
+// The sector behind its extent.
+fn end_in(b: &[u8], at: usize) -> u32
+    requires { ⌜ at + 16 ≤ length (now b) ⌝ }
+    ensures { λ r. ⌜ r ≡ wordAt (now (b .entry)) (at + 12) + wordAt (now (b .entry)) (at + 14) ⌝ }
+{
+    (word_in(b, at + 12) as u32) + (word_in(b, at + 14) as u32)
+}
+
 // ---- the rules of two entries
 
-// Whether the used entry at byte end, which is number i, has another name than each used one before it. Eight bytes are compared at once,
-// and a kind is asked for where they are the same.
-fn named_once(b: &[u8], width: usize, i: usize, end: usize) -> bool
-    requires { ⌜ Wide width × ((end ≡ width * i) × ((end + width ≤ length (now b)) × (¬ (wordAt (now b) (end + 8) ≡ 0)))) ⌝ }
-    ensures { λ r. ⌜ r ≡ every (λ f. namesDiffer f (entryIn width (now (b .entry)) end)) (entriesIn width i (now (b .entry))) ⌝ }
+// Whether an entry has another name than a used one, whose name is that number. Eight bytes are compared at once, and a kind is asked for
+// where they are the same.
+fn differs(b: &[u8], at: usize, name: usize) -> bool
+    requires { ⌜ at + 10 ≤ length (now b) ⌝ }
+    ensures { λ r. ⌜ ((w end : ℕ) → end + 8 ≤ length (now (b .entry)) → name ≡ numberIn (part (now (b .entry)) end 8) → ¬ (wordAt (now (b .entry)) (end + 8) ≡ 0)
+        → r ≡ namesDiffer (entryIn w (now (b .entry)) at) (entryIn w (now (b .entry)) end)) ⌝ }
+{
+    if eight_in(b, at) != name {
+        return true;
+    }
+    word_in(b, at + 8) == Geometry::FREE
+}
+
+// Whether it shares no sector with a used one, which has those from `first` up to `behind`. Both its words are read at once, and its kind
+// where they tell of a shared sector.
+fn apart(b: &[u8], at: usize, first: u32, behind: u32) -> bool
+    requires { ⌜ at + 16 ≤ length (now b) ⌝ }
+    ensures { λ r. ⌜ ((w : ℕ) (e : Entry) → first ≡ e .first → behind ≡ e .first + e .sectors → ¬ (e .kind ≡ 0) → r ≡ extentsApart (entryIn w (now (b .entry)) at) e) ⌝ }
+{
+    let extent = long_in(b, at + 12);
+    if 65536 * (behind as usize) <= (extent as usize) {
+        return true;
+    }
+    if extent / 65536 + extent % 65536 <= first {
+        return true;
+    }
+    word_in(b, at + 8) == Geometry::FREE
+}
+
+// Whether the used entry at byte end has another name than each before it.
+fn named_once(b: &[u8], width: usize, end: usize) -> bool
+    requires { ⌜ Wide width × ((end + width ≤ length (now b)) × (¬ (wordAt (now b) (end + 8) ≡ 0))) ⌝ }
+    ensures { λ r. ⌜ ((i : ℕ) → end ≡ width * i → r ≡ every (λ f. namesDiffer f (entryIn width (now (b .entry)) end)) (entriesIn width i (now (b .entry)))) ⌝ }
 {
     let name = eight_in(b, end);
     let mut at: usize = 0;
-    let mut j: usize = 0;
-    while j < i {
-        if eight_in(b, at) == name {
-            if word_in(b, at + 8) != Geometry::FREE {
-                return false;
-            }
-        }
-        at += width;
-        j += 1;
-    }
-    true
-}
-
-// Whether each of n rows keeps the rules of one entry, and no two have the same name.
-fn rows_good(b: &[u8], width: usize, rows: usize, n: u32) -> bool
-    requires { ⌜ Wide width × (width * rows ≤ length (now b)) ⌝ }
-    ensures { λ r. ⌜ r ≡ (every (entryGood n) (entriesIn width rows (now (b .entry))) && pairwise namesDiffer (entriesIn width rows (now (b .entry)))) ⌝ }
-{
-    let mut at: usize = 0;
-    let mut i: usize = 0;
-    while i < rows {
-        if word_in(b, at + 8) == Geometry::FREE {
-            if !is_zero(b, width, at) {
-                return false;
-            }
-        } else {
-            if !used_row(b, width, at, n) {
-                return false;
-            }
-            if !named_once(b, width, i, at) {
-                return false;
-            }
-        }
-        at += width;
-        i += 1;
-    }
-    true
-}
-
-// Whether each used entry begins behind those before it, so that no two share a sector.
-fn in_order(b: &[u8], width: usize, rows: usize) -> bool
-    requires { ⌜ Wide width × (width * rows ≤ length (now b)) ⌝ }
-    ensures { λ r. ⌜ (r ≡ true → pairwise extentsApart (entriesIn width rows (now (b .entry))) ≡ true) ⌝ }
-{
-    let mut behind: u32 = 0;
-    let mut at: usize = 0;
-    let mut i: usize = 0;
-    while i < rows {
-        if word_in(b, at + 8) != Geometry::FREE {
-            let first = word_in(b, at + 12) as u32;
-            if first < behind {
-                return false;
-            }
-            behind = first + (word_in(b, at + 14) as u32);
-        }
-        at += width;
-        i += 1;
-    }
-    true
-}
-
-// Whether the extents of two entries share no sector.
-fn apart(b: &[u8], width: usize, at: usize, end: usize) -> bool
-    requires { ⌜ Wide width × ((at + width ≤ length (now b)) × (end + width ≤ length (now b))) ⌝ }
-    ensures { λ r. ⌜ r ≡ extentsApart (entryIn width (now (b .entry)) at) (entryIn width (now (b .entry)) end) ⌝ }
-{
-    let first = word_in(b, at + 12) as u32;
-    let next = word_in(b, end + 12) as u32;
-    (word_in(b, at + 8) == Geometry::FREE)
-        | ((word_in(b, end + 8) == Geometry::FREE)
-            | ((first + (word_in(b, at + 14) as u32) <= next)
-                | (next + (word_in(b, end + 14) as u32) <= first)))
-}
-
-// Whether the entry at byte end, which is number i, shares no sector with those before it.
-fn apart_before(b: &[u8], width: usize, i: usize, end: usize) -> bool
-    requires { ⌜ Wide width × ((end ≡ width * i) × (end + width ≤ length (now b))) ⌝ }
-    ensures { λ r. ⌜ r ≡ every (λ f. extentsApart f (entryIn width (now (b .entry)) end)) (entriesIn width i (now (b .entry))) ⌝ }
-{
-    let mut at: usize = 0;
-    let mut j: usize = 0;
-    while j < i {
-        if !apart(b, width, at, end) {
+    while at < end {
+        if !differs(b, at, name) {
             return false;
         }
         at += width;
-        j += 1;
     }
     true
 }
 
-// Whether no two entries share a sector, each held against those before it.
-fn all_apart(b: &[u8], width: usize, rows: usize) -> bool
-    requires { ⌜ Wide width × (width * rows ≤ length (now b)) ⌝ }
-    ensures { λ r. ⌜ r ≡ pairwise extentsApart (entriesIn width rows (now (b .entry))) ⌝ }
+// Whether it has another name than each before it, and shares no sector with any.
+fn stands_apart(b: &[u8], width: usize, end: usize) -> bool
+    requires { ⌜ Wide width × ((end + width ≤ length (now b)) × (¬ (wordAt (now b) (end + 8) ≡ 0))) ⌝ }
+    ensures { λ r. ⌜ ((i : ℕ) → end ≡ width * i → r ≡ every (λ f. twoGood f (entryIn width (now (b .entry)) end)) (entriesIn width i (now (b .entry)))) ⌝ }
 {
+    let name = eight_in(b, end);
+    let first = word_in(b, end + 12) as u32;
+    let behind = end_in(b, end);
     let mut at: usize = 0;
-    let mut i: usize = 0;
-    while i < rows {
-        if !apart_before(b, width, i, at) {
+    while at < end {
+        if !apart(b, at, first, behind) {
+            return false;
+        }
+        if !differs(b, at, name) {
             return false;
         }
         at += width;
-        i += 1;
     }
     true
+}
+
+// The same, where those before it end by sector `behind`: if it begins there or later it shares none.
+fn two_good(b: &[u8], width: usize, end: usize, behind: u32) -> bool
+    requires { ⌜ (Wide width × ((end + width ≤ length (now b)) × (¬ (wordAt (now b) (end + 8) ≡ 0))))
+        × ((i : ℕ) → end ≡ width * i → behind ≤ wordAt (now b) (end + 12) → every (λ f. extentsApart f (entryIn width (now b) end)) (entriesIn width i (now b)) ≡ true) ⌝ }
+    ensures { λ r. ⌜ ((i : ℕ) → end ≡ width * i → r ≡ every (λ f. twoGood f (entryIn width (now (b .entry)) end)) (entriesIn width i (now (b .entry)))) ⌝ }
+{
+    if (word_in(b, end + 12) as u32) < behind {
+        stands_apart(b, width, end)
+    } else {
+        named_once(b, width, end)
+    }
 }
 
 // ---- the table
+
+// How many entries there are up to the last that is not zero: those behind it break no rule.
+fn rows_in_use(b: &[u8], width: usize, rows: usize) -> usize
+    requires { ⌜ Wide width × (width * rows ≤ length (now b)) ⌝ }
+    ensures { λ r. ⌜ (r ≤ rows) × ((N : ℕ) → tableGood N (entriesIn width rows (now (b .entry))) ≡ tableGood N (entriesIn width r (now (b .entry)))) ⌝ }
+{
+    let mut i = rows;
+    let mut at = width * rows;
+    while 0 < i {
+        at -= width;
+        if !is_zero(b, width, at) {
+            return i;
+        }
+        i -= 1;
+    }
+    0
+}
+
+// The greater of two numbers.
+fn greatest(a: u32, b: u32) -> u32
+    ensures { λ r. ⌜ r ≡ max a b ⌝ }
+{
+    if a <= b { b } else { a }
+}
+
+// Whether so many entries keep every rule of a directory but the decoding one, in an image of n sectors.
+fn rows_good(b: &[u8], width: usize, rows: usize, n: u32) -> bool
+    requires { ⌜ Wide width × (width * rows ≤ length (now b)) ⌝ }
+    ensures { λ r. ⌜ r ≡ tableGood n (entriesIn width rows (now (b .entry))) ⌝ }
+{
+    let used = rows_in_use(b, width, rows);
+    let end = width * used;
+    let mut behind: u32 = 0;
+    let mut at: usize = 0;
+    while at < end {
+        if !is_zero(b, width, at) {
+            if !used_row(b, width, at, n) {
+                return false;
+            }
+            if !two_good(b, width, at, behind) {
+                return false;
+            }
+            behind = greatest(behind, end_in(b, at));
+        }
+        at += width;
+    }
+    true
+}
 
 // Whether bytes hold a table of so many entries of that width that keeps every rule of a directory but the decoding one, in an image of so many sectors.
 // Bytes with no room for it hold none, and there is none of a width but 20 and 22.
 pub fn table_good(b: &[u8], width: usize, rows: usize, sectors: u32) -> bool
     ensures { λ r. ⌜ r ≡ (hasRows width rows (now (b .entry)) && tableGood sectors (entriesIn width rows (now (b .entry)))) ⌝ }
 {
-    if !has_rows(b, width, rows) {
-        return false;
+    if has_rows(b, width, rows) {
+        rows_good(b, width, rows, sectors)
+    } else {
+        false
     }
-    if !rows_good(b, width, rows, sectors) {
-        return false;
-    }
-    if in_order(b, width, rows) {
-        return true;
-    }
-    all_apart(b, width, rows)
 }
 
 // Entry i of the table that bytes hold; a free one where there is none.
@@ -358,7 +386,7 @@ pub fn search_in(b: &[u8], width: usize, rows: usize, name: &[u8]) -> Found
 
 // ---- laying a part of a table
 
-// A name and seven words, as 22 bytes.
+// A name and seven words, as 22 bytes. Words are turned, so that those which were read and turned are laid as they were read.
 fn twenty_two_bytes(
     name: [u8; 8],
     kind: u16,
@@ -371,6 +399,13 @@ fn twenty_two_bytes(
 ) -> [u8; 22]
     ensures { λ r. ⌜ r ≡ name ++ (Bytes.word kind ++ (Bytes.word length ++ (Bytes.word first ++ (Bytes.word sectors ++ (Bytes.word high ++ (Bytes.word low ++ Bytes.word flags)))))) ⌝ }
 {
+    let k = turned(kind);
+    let l = turned(length);
+    let f = turned(first);
+    let s = turned(sectors);
+    let h = turned(high);
+    let w = turned(low);
+    let g = turned(flags);
     [
         name[0],
         name[1],
@@ -380,20 +415,20 @@ fn twenty_two_bytes(
         name[5],
         name[6],
         name[7],
-        (kind / 256) as u8,
-        (kind % 256) as u8,
-        (length / 256) as u8,
-        (length % 256) as u8,
-        (first / 256) as u8,
-        (first % 256) as u8,
-        (sectors / 256) as u8,
-        (sectors % 256) as u8,
-        (high / 256) as u8,
-        (high % 256) as u8,
-        (low / 256) as u8,
-        (low % 256) as u8,
-        (flags / 256) as u8,
-        (flags % 256) as u8,
+        (k % 256) as u8,
+        (k / 256) as u8,
+        (l % 256) as u8,
+        (l / 256) as u8,
+        (f % 256) as u8,
+        (f / 256) as u8,
+        (s % 256) as u8,
+        (s / 256) as u8,
+        (h % 256) as u8,
+        (h / 256) as u8,
+        (w % 256) as u8,
+        (w / 256) as u8,
+        (g % 256) as u8,
+        (g / 256) as u8,
     ]
 }
 

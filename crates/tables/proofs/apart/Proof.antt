@@ -1,8 +1,38 @@
--- `tables::apart` meets its contract: the rule's own tests, each field read where it lies.
-use Rattle.tables.proofs.Tables.{apart-told}
+-- `tables::apart` meets its contract: the first of two words at once decides where the number is compared, and then their sum.
+use Prim.Native.Nat.{ℕ, _<_}
+use native.Mathlib.Omega.{arith}
+use lib.ListN.{getD}
+use Rattle.tables.proofs.Tables.{apart-before, apart-behind, apart-free}
 use borrow.Author.Needs.{needs}
 use Rattle.tables.proofs.apart.Statement.{statement}
 use Rattle.tables.proofs.apart.Tie as tie
+
+add-long-in : tie.Need-add-long-in
+add-long-in c = search needs
+
+long-in-requires : tie.Need-long-in-requires
+long-in-requires c κs = search needs
+
+mul-if1 : tie.Need-mul-if1
+mul-if1 c = search needs
+
+cast-if1 : tie.Need-cast-if1
+cast-if1 c = search needs
+
+returns : tie.Need-returns
+returns c =
+    let a = c .before .before .before .args in
+    let g : (k : ℕ) → getD (a .b .now) k 0 < 256 = λ (k : ℕ). omega (arith, c .before .before .shared-slice-known .given k) in
+    λ w e f q u. apart-before (a .b .now) g (a .at) _ (c .before .long-in .ensures) w e (a .first) (a .behind) f q u (c .if1 .taken)
+
+add-if2 : tie.Need-add-if2
+add-if2 c = search needs
+
+returns-2 : tie.Need-returns-2
+returns-2 c =
+    let a = c .before .before .before .before .args in
+    let g : (k : ℕ) → getD (a .b .now) k 0 < 256 = λ (k : ℕ). omega (arith, c .before .before .before .shared-slice-known .given k) in
+    λ w e f q u. apart-behind (a .b .now) g (a .at) _ (c .before .before .long-in .ensures) w e (a .first) (a .behind) f q u (c .if2 .taken)
 
 add-word-in : tie.Need-add-word-in
 add-word-in c = search needs
@@ -10,79 +40,23 @@ add-word-in c = search needs
 word-in-requires : tie.Need-word-in-requires
 word-in-requires c κs = search needs
 
-cast-first : tie.Need-cast-first
-cast-first c = search needs
-
-add-word-in-2 : tie.Need-add-word-in-2
-add-word-in-2 c = search needs
-
-word-in-requires-2 : tie.Need-word-in-requires-2
-word-in-requires-2 c κs = search needs
-
-cast-next : tie.Need-cast-next
-cast-next c = search needs
-
-add-word-in-3 : tie.Need-add-word-in-3
-add-word-in-3 c = search needs
-
-word-in-requires-3 : tie.Need-word-in-requires-3
-word-in-requires-3 c κs = search needs
-
-add-word-in-4 : tie.Need-add-word-in-4
-add-word-in-4 c = search needs
-
-word-in-requires-4 : tie.Need-word-in-requires-4
-word-in-requires-4 c κs = search needs
-
-add-word-in-5 : tie.Need-add-word-in-5
-add-word-in-5 c = search needs
-
-word-in-requires-5 : tie.Need-word-in-requires-5
-word-in-requires-5 c κs = search needs
-
-cast-result : tie.Need-cast-result
-cast-result c = search needs
-
-add-result : tie.Need-add-result
-add-result c = search needs
-
-add-word-in-6 : tie.Need-add-word-in-6
-add-word-in-6 c = search needs
-
-word-in-requires-6 : tie.Need-word-in-requires-6
-word-in-requires-6 c κs = search needs
-
-cast-result-2 : tie.Need-cast-result-2
-cast-result-2 c = search needs
-
-add-result-2 : tie.Need-add-result-2
-add-result-2 c = search needs
-
-returns : tie.Need-returns
-returns c =
-    let a = c .before .before .before .before .before .before .before .args in
-    apart-told (a .width) (a .b .now) (a .at) (a .end) _ _ _ _ _ _ (c .before .before .before .word-in3 .ensures) (c .before .before .word-in4 .ensures) (c .before .before .before .before .before .word-in .ensures) (c .before .before .before .before .word-in2 .ensures) (c .before .word-in5 .ensures) (c .word-in6 .ensures)
+returns-3 : tie.Need-returns-3
+returns-3 c =
+    let a = c .before .before .before .before .before .args in
+    let g : (k : ℕ) → getD (a .b .now) k 0 < 256 = λ (k : ℕ). omega (arith, c .before .before .before .before .shared-slice-known .given k) in
+    λ w e f q u. apart-free (a .b .now) g (a .at) _ (c .before .before .before .long-in .ensures) w e (a .first) (a .behind) f q u (c .before .before .if1 .left) (c .before .if2 .left) _ (c .word-in .ensures)
 
 pub apart-spec : {M : Type 1} → statement M
 apart-spec =
     tie.close
     (tie.spec
+    add-long-in
+    long-in-requires
+    mul-if1
+    cast-if1
+    returns
+    add-if2
+    returns-2
     add-word-in
     word-in-requires
-    cast-first
-    add-word-in-2
-    word-in-requires-2
-    cast-next
-    add-word-in-3
-    word-in-requires-3
-    add-word-in-4
-    word-in-requires-4
-    add-word-in-5
-    word-in-requires-5
-    cast-result
-    add-result
-    add-word-in-6
-    word-in-requires-6
-    cast-result-2
-    add-result-2
-    returns)
+    returns-3)

@@ -1,82 +1,44 @@
--- The bytes that stand there, taken together.
-use Rattle.tables.specs.Numbers.{numberIn}
-use mathlib.Core.Path.{sym, ap, _∙_}
-use Rattle.tables.proofs.Numbers.{written}
+-- `tables::eight_in` meets its contract: the number in the last four bytes, 2^32 times, and that in the first four.
+use Rattle.tables.proofs.Numbers.{eight-fours}
 use borrow.Author.Needs.{needs}
 use Rattle.tables.proofs.eight_in.Statement.{statement}
 use Rattle.tables.proofs.eight_in.Tie as tie
 
-shared-slice-read-eight : tie.Need-shared-slice-read-eight
-shared-slice-read-eight c = search needs
+four-in-requires : tie.Need-four-in-requires
+four-in-requires c κs = search needs
 
-add-eight : tie.Need-add-eight
-add-eight c = search needs
+cast-result : tie.Need-cast-result
+cast-result c = search needs
 
-shared-slice-read-eight-2 : tie.Need-shared-slice-read-eight-2
-shared-slice-read-eight-2 c = search needs
+add-four-in : tie.Need-add-four-in
+add-four-in c = search needs
 
-add-eight-2 : tie.Need-add-eight-2
-add-eight-2 c = search needs
+four-in-requires-2 : tie.Need-four-in-requires-2
+four-in-requires-2 c κs = search needs
 
-shared-slice-read-eight-3 : tie.Need-shared-slice-read-eight-3
-shared-slice-read-eight-3 c = search needs
+cast-result-2 : tie.Need-cast-result-2
+cast-result-2 c = search needs
 
-add-eight-3 : tie.Need-add-eight-3
-add-eight-3 c = search needs
+mul-result : tie.Need-mul-result
+mul-result c = search needs
 
-shared-slice-read-eight-4 : tie.Need-shared-slice-read-eight-4
-shared-slice-read-eight-4 c = search needs
-
-add-eight-4 : tie.Need-add-eight-4
-add-eight-4 c = search needs
-
-shared-slice-read-eight-5 : tie.Need-shared-slice-read-eight-5
-shared-slice-read-eight-5 c = search needs
-
-add-eight-5 : tie.Need-add-eight-5
-add-eight-5 c = search needs
-
-shared-slice-read-eight-6 : tie.Need-shared-slice-read-eight-6
-shared-slice-read-eight-6 c = search needs
-
-add-eight-6 : tie.Need-add-eight-6
-add-eight-6 c = search needs
-
-shared-slice-read-eight-7 : tie.Need-shared-slice-read-eight-7
-shared-slice-read-eight-7 c = search needs
-
-add-eight-7 : tie.Need-add-eight-7
-add-eight-7 c = search needs
-
-shared-slice-read-eight-8 : tie.Need-shared-slice-read-eight-8
-shared-slice-read-eight-8 c = search needs
-
-eight-requires : tie.Need-eight-requires
-eight-requires c κs = search needs
+add-result : tie.Need-add-result
+add-result c = search needs
 
 returns : tie.Need-returns
 returns c =
-    let a = c .before .before .before .before .before .before .before .before .before .before .args in
-    c .eight .ensures ∙ ap numberIn (sym (written (a .b .now) (a .at) 7 (search needs)))
+    let a = c .before .before .before .args in
+    rw (c .before .four-in .ensures, c .four-in2 .ensures) (eight-fours (a .b .now) (a .at) (search needs))
 
 pub eight-in-spec : {M : Type 1} → statement M
 eight-in-spec =
     tie.close
     (tie.spec
-    shared-slice-read-eight
-    add-eight
-    shared-slice-read-eight-2
-    add-eight-2
-    shared-slice-read-eight-3
-    add-eight-3
-    shared-slice-read-eight-4
-    add-eight-4
-    shared-slice-read-eight-5
-    add-eight-5
-    shared-slice-read-eight-6
-    add-eight-6
-    shared-slice-read-eight-7
-    add-eight-7
-    shared-slice-read-eight-8
-    eight-requires
+    four-in-requires
+    cast-result
+    add-four-in
+    four-in-requires-2
+    cast-result-2
+    mul-result
+    add-result
     returns)

@@ -1,43 +1,24 @@
--- `tables::long_in` meets its contract: the high word first.
-use Rattle.tables.specs.Numbers.{longAt}
+-- `tables::long_in` meets its contract: the four bytes, turned, are the two words.
+use Prim.Native.Nat.{ℕ, _<_}
+use mathlib.Core.Path.{_∙_}
+use native.Mathlib.Omega.{arith}
+use lib.ListN.{getD}
+use Rattle.tables.proofs.Numbers.{turned-four}
 use borrow.Author.Needs.{needs}
 use Rattle.tables.proofs.long_in.Statement.{statement}
 use Rattle.tables.proofs.long_in.Tie as tie
 
-word-in-requires : tie.Need-word-in-requires
-word-in-requires c κs = search needs
+four-in-requires : tie.Need-four-in-requires
+four-in-requires c κs = search needs
 
-cast-result : tie.Need-cast-result
-cast-result c = search needs
-
-mul-result : tie.Need-mul-result
-mul-result c = search needs
-
-add-word-in : tie.Need-add-word-in
-add-word-in c = search needs
-
-word-in-requires-2 : tie.Need-word-in-requires-2
-word-in-requires-2 c κs = search needs
-
-cast-result-2 : tie.Need-cast-result-2
-cast-result-2 c = search needs
-
-add-result : tie.Need-add-result
-add-result c = search needs
+turned-long-requires : tie.Need-turned-long-requires
+turned-long-requires c κs = search needs
 
 returns : tie.Need-returns
-unfolding longAt
-returns c = rw (c .before .word-in .ensures, c .word-in2 .ensures)
+returns c =
+    let a = c .before .before .before .args in
+    let g : (k : ℕ) → getD (a .b .now) k 0 < 256 = λ (k : ℕ). omega (arith, c .before .before .shared-slice-known .given k) in
+    c .turned-long .ensures ∙ rw (c .before .four-in .ensures) (turned-four (a .b .now) (a .at) g (search needs))
 
 pub long-in-spec : {M : Type 1} → statement M
-long-in-spec =
-    tie.close
-    (tie.spec
-    word-in-requires
-    cast-result
-    mul-result
-    add-word-in
-    word-in-requires-2
-    cast-result-2
-    add-result
-    returns)
+long-in-spec = tie.close (tie.spec four-in-requires turned-long-requires returns)

@@ -1,5 +1,4 @@
 -- `tables::used_row` meets its contract: it has a name, and keeps the other rules.
-use mathlib.Core.Path.{refl}
 use borrow.Author.Tests.{not-true, not-false}
 use Rattle.tables.proofs.Entries.{unnamed-told, used-told}
 use borrow.Author.Needs.{needs}
@@ -24,7 +23,8 @@ is-name-requires c κs = search needs
 returns : tie.Need-returns
 returns c =
     let a = c .before .before .before .before .args in
-    unnamed-told (a .b .now) (a .width) (a .at) (c .before .before .before .before .pre .0) (c .before .before .before .before .pre .1 .0) (a .n) _ refl (c .before .before .before .before .pre .1 .1) _ (c .before .is-name .ensures) (not-true _ (c .if1 .taken))
+    let p = c .before .before .before .before .pre in
+    unnamed-told (a .b .now) (a .width) (a .at) (p .0) (p .1 .0) (a .n) (p .1 .1) _ (c .before .is-name .ensures) (not-true _ (c .if1 .taken))
 
 entry-at-requires : tie.Need-entry-at-requires
 entry-at-requires c κs = search needs
@@ -35,7 +35,8 @@ used-good-requires c κs = search needs
 returns-2 : tie.Need-returns-2
 returns-2 c =
     let a = c .before .before .before .before .before .before .args in
-    used-told (a .b .now) (a .width) (a .at) (c .before .before .before .before .before .before .pre .0) (c .before .before .before .before .before .before .pre .1 .0) (a .n) _ refl (c .before .before .before .before .before .before .pre .1 .1) _ (c .before .before .before .is-name .ensures) (not-false _ (c .before .before .if1 .left)) _ _ (c .before .entry-at .ensures) (c .used-good .ensures)
+    let p = c .before .before .before .before .before .before .pre in
+    used-told (a .b .now) (a .width) (a .at) (p .0) (p .1 .0) (a .n) (p .1 .1) _ (c .before .before .before .is-name .ensures) (not-false _ (c .before .before .if1 .left)) _ _ (c .before .entry-at .ensures) (c .used-good .ensures)
 
 pub used-row-spec : {M : Type 1} → statement M
 used-row-spec =

@@ -1,26 +1,24 @@
--- `tables::word_in` meets its contract: the high byte first.
-use Rattle.geometry.specs.Bytes.{wordAt}
+-- `tables::word_in` meets its contract: the two bytes, turned, are the word.
+use Prim.Native.Nat.{ℕ, _<_}
+use mathlib.Core.Path.{_∙_}
+use native.Mathlib.Omega.{arith}
+use lib.ListN.{getD}
+use Rattle.tables.proofs.Numbers.{turned-two}
 use borrow.Author.Needs.{needs}
 use Rattle.tables.proofs.word_in.Statement.{statement}
 use Rattle.tables.proofs.word_in.Tie as tie
 
-shared-slice-read-word : tie.Need-shared-slice-read-word
-shared-slice-read-word c = search needs
+two-in-requires : tie.Need-two-in-requires
+two-in-requires c κs = search needs
 
-add-word : tie.Need-add-word
-add-word c = search needs
-
-shared-slice-read-word-2 : tie.Need-shared-slice-read-word-2
-shared-slice-read-word-2 c = search needs
-
-word-requires : tie.Need-word-requires
-word-requires c κs = search needs
+turned-requires : tie.Need-turned-requires
+turned-requires c κs = search needs
 
 returns : tie.Need-returns
-unfolding wordAt
-returns c = c .word .ensures
+returns c =
+    let a = c .before .before .before .args in
+    let g : (k : ℕ) → getD (a .b .now) k 0 < 256 = λ (k : ℕ). omega (arith, c .before .before .shared-slice-known .given k) in
+    c .turned .ensures ∙ rw (c .before .two-in .ensures) (turned-two (a .b .now) (a .at) g (search needs))
 
 pub word-in-spec : {M : Type 1} → statement M
-word-in-spec =
-    tie.close
-    (tie.spec shared-slice-read-word add-word shared-slice-read-word-2 word-requires returns)
+word-in-spec = tie.close (tie.spec two-in-requires turned-requires returns)
