@@ -1,26 +1,17 @@
-// Mounting an image: document 01's "Sizes and the directory".
+// Mounting an image: document 01's "Sizes and the directory". The directory is judged where it lies.
 use directory::Entry;
 use geometry::Geometry;
 use packing::Led;
-use requests::Answer;
-use requests::Refusal;
-use sessions::BufferedSession;
-use sessions::Session;
+use tables::Width;
+use tables::entry_in;
+use tables::table_good;
 ghost use mathlib.Core.Path.{_≡_};
+ghost use Prim.Native.Nat.{_≤_};
+ghost use lib.ListN.{length};
 ghost use Rattle.geometry.specs.Lists.{every};
-ghost use Rattle.mounting.specs.Mounting.{countDecodes, mounts, startWith, plainMount, bufferedMount};
-
-// What mounting an image hands out, for the engine with no buffer.
-pub struct PlainMounted {
-    pub answer: Answer,
-    pub session: Session,
-}
-
-// And for the engine with a blocking buffer for each open file.
-pub struct BufferedMounted {
-    pub answer: Answer,
-    pub session: BufferedSession,
-}
+ghost use Rattle.geometry.specs.Sizes.{sector};
+ghost use Rattle.directory.specs.Entries.{entryAt, tableOf};
+ghost use Rattle.mounting.specs.Mounting.{countDecodes, mounts};
 
 // Whether a compressed file's first count records decode one after another inside the extent; any other entry has none to decode.
 fn count_decodes(image: &[u8], e: Entry) -> bool
@@ -38,13 +29,22 @@ fn count_decodes(image: &[u8], e: Entry) -> bool
     }
 }
 
-// Whether every entry of a table keeps the decoding rule.
-fn all_decode(image: &[u8], t: [Entry; 18]) -> bool
-    ensures { λ r. ⌜ r ≡ every (countDecodes (now (image .entry))) t ⌝ }
+// Entry i of the directory.
+fn entry_of(image: &[u8], i: usize) -> Entry
+    requires { ⌜ sector ≤ length (now image) ⌝ }
+    ensures { λ r. ⌜ r ≡ entryAt (tableOf (now (image .entry))) i ⌝ }
+{
+    entry_in(image, Width::ONE, Geometry::ENTRIES, i)
+}
+
+// Whether every entry of the directory keeps the decoding rule.
+fn all_decode(image: &[u8]) -> bool
+    requires { ⌜ sector ≤ length (now image) ⌝ }
+    ensures { λ r. ⌜ r ≡ every (countDecodes (now (image .entry))) (tableOf (now (image .entry))) ⌝ }
 {
     let mut i: usize = 0;
-    while i < 18 {
-        let e = directory::entry_of(t, i);
+    while i < Geometry::ENTRIES {
+        let e = entry_of(image, i);
         if !count_decodes(image, e) {
             return false;
         }
@@ -59,58 +59,12 @@ pub fn mounts(image: &[u8]) -> bool
 {
     if Geometry::lawful_length(image) {
         let n = Geometry::sectors_of(image) as u32;
-        let t = directory::table_of(image);
-        if directory::is_good(t, n) {
-            all_decode(image, t)
+        if table_good(image, Width::ONE, Geometry::ENTRIES, n) {
+            all_decode(image)
         } else {
             false
         }
     } else {
         false
-    }
-}
-
-// A session with that table and nothing open.
-fn start_with(table: [Entry; 18]) -> Session
-    ensures { λ r. ⌜ r ≡ startWith table ⌝ }
-{
-    let f = sessions::idle();
-    Session {
-        table: table,
-        files: [f; 4],
-    }
-}
-
-// Mounts an image: its table, with nothing open; or 11, and a table with no used entry.
-pub fn mount(image: &[u8]) -> PlainMounted
-    ensures answer { λ r. ⌜ r .answer ≡ plainMount (now (image .entry)) .answer ⌝ }
-    ensures session { λ r. ⌜ r .session ≡ plainMount (now (image .entry)) .session ⌝ }
-{
-    if mounts(image) {
-        let t = directory::table_of(image);
-        PlainMounted {
-            answer: Answer::Done,
-            session: start_with(t),
-        }
-    } else {
-        let t = directory::empty_table();
-        PlainMounted {
-            answer: Answer::Refused(Refusal::BadImage),
-            session: start_with(t),
-        }
-    }
-}
-
-// The same for the engine with a blocking buffer for each open file.
-pub fn mount_buffered(image: &[u8]) -> BufferedMounted
-    ensures answer { λ r. ⌜ r .answer ≡ bufferedMount (now (image .entry)) .answer ⌝ }
-    ensures session { λ r. ⌜ r .session ≡ bufferedMount (now (image .entry)) .session ⌝ }
-{
-    let m = mount(image);
-    let a = m.answer;
-    let s = m.session;
-    BufferedMounted {
-        answer: a,
-        session: sessions::with_buffers(s),
     }
 }

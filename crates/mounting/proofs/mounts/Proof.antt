@@ -1,8 +1,9 @@
--- `mounting::mounts` meets its contract: the length, then the rules of the table, then the decoding rule.
+-- The length, then the rules of the table, then the decoding rule.
 use mathlib.Core.Path.{sym, _∙_}
 use native.Mathlib.Omega.{arith}
 use Rattle.geometry.proofs.Places.{lawful-most}
 use Rattle.mounting.specs.Mounting.{mounts}
+use Rattle.mounting.proofs.Directory.{sector-there, table-tested}
 use borrow.Author.Needs.{needs}
 use Rattle.mounting.proofs.mounts.Statement.{statement}
 use Rattle.mounting.proofs.mounts.Tie as tie
@@ -16,30 +17,29 @@ sectors-of-requires c κs = search needs
 cast-n : tie.Need-cast-n
 cast-n c = omega (arith, lawful-most (c .before .before .before .before .args .image .now) (rw (c .before .before .lawful-length .ensures) at (c .before .if1 .taken)), c .sectors-of .ensures)
 
-table-of-requires : tie.Need-table-of-requires
-table-of-requires c κs = search needs
-
-is-good-requires : tie.Need-is-good-requires
-is-good-requires c κs = search needs
+table-good-requires : tie.Need-table-good-requires
+table-good-requires c κs = search needs
 
 all-decode-requires : tie.Need-all-decode-requires
-all-decode-requires c κs = search needs
+all-decode-requires c κs =
+    let d = c .before .before in
+    sector-there (d .before .before .before .before .args .image .now) (sym (d .before .before .lawful-length .ensures) ∙ d .before .if1 .taken)
 
 returns : tie.Need-returns
 unfolding mounts
 returns c =
-    let b = c .before .before .before .before in
-    let l = sym (b .before .before .lawful-length .ensures) ∙ b .before .if1 .taken in
-    let g = rw (c .before .before .is-good .ensures, c .before .before .before .table-of .ensures, b .sectors-of .ensures) at (c .before .if2 .taken) in
-    rw (l, g, c .all-decode .ensures, c .before .before .before .table-of .ensures)
+    let d = c .before .before .before in
+    let image = d .before .before .before .before .args .image .now in
+    let l = sym (d .before .before .lawful-length .ensures) ∙ d .before .if1 .taken in
+    rw (l, table-tested image l (d .sectors-of .result) (d .sectors-of .ensures) _ (c .before .before .table-good .ensures) ∙ c .before .if2 .taken, c .all-decode .ensures)
 
 returns-2 : tie.Need-returns-2
 unfolding mounts
 returns-2 c =
-    let b = c .before .before .before in
-    let l = sym (b .before .before .lawful-length .ensures) ∙ b .before .if1 .taken in
-    let g = rw (c .before .is-good .ensures, c .before .before .table-of .ensures, b .sectors-of .ensures) at (c .if2 .left) in
-    rw (l, g)
+    let d = c .before .before in
+    let image = d .before .before .before .before .args .image .now in
+    let l = sym (d .before .before .lawful-length .ensures) ∙ d .before .if1 .taken in
+    rw (l, table-tested image l (d .sectors-of .result) (d .sectors-of .ensures) _ (c .before .table-good .ensures) ∙ c .if2 .left)
 
 returns-3 : tie.Need-returns-3
 unfolding mounts
@@ -52,8 +52,7 @@ mounts-spec =
     lawful-length-requires
     sectors-of-requires
     cast-n
-    table-of-requires
-    is-good-requires
+    table-good-requires
     all-decode-requires
     returns
     returns-2
