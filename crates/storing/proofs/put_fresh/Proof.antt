@@ -56,7 +56,7 @@ same-length c = search needs
 
 -- src/lib.rt:198:1
 returns : tie.Need-returns
-returns c = 
+returns c =
     let a = c .before .before .before .before .before .before .before .before .before .before .before .before .before .before .before .before .before .before .args in
     fresh-put (a .b .now) (a .k) (a .f) _ (c .before .before .before .before .before .before .before .before .before .before .before .before .before .before .put-state .ensures ∙ ap (layState (hasBuffers (a .b .now)) (a .b .now) (a .k) (a .f)) (c .before .before .before .before .before .before .before .before .before .before .before .before .before .before .before .no-hold .ensures)) (c .before .before .before .before .before .before .before .before .before .before .has-buffers .result) (c .before .before .before .before .before .before .before .before .before .before .has-buffers .ensures) (c .before .before .before .before .before .before .before .before .before .if1 .taken) (c .before .before .before .before .before .before .before .before .if2 .taken) (c .before .before .before .before .state-place .result) (c .before .before .before .before .state-place .ensures .0) _ (c .before .before .lay .ensures ∙ ap (λ (x : BufferedFile). lay (c .before .before .before .before .before .before .before .before .before .before .before .before .before .before .put-state .last .0) (c .before .before .before .before .state-place .result + 36) (x .buffer)) (c .before .before .before .before .before .before .before .fresh .ensures))
 
@@ -66,7 +66,7 @@ same-length-2 c = search needs
 
 -- src/lib.rt:198:1
 returns-2 : tie.Need-returns-2
-returns-2 c = 
+returns-2 c =
     let a = c .before .before .before .before .before .before .before .before .before .before .args in
     past-fresh (a .b .now) (a .k) (a .f) _ (c .before .before .before .before .before .before .put-state .ensures ∙ ap (layState (hasBuffers (a .b .now)) (a .b .now) (a .k) (a .f)) (c .before .before .before .before .before .before .before .no-hold .ensures)) (c .before .before .has-buffers .result) (c .before .before .has-buffers .ensures) (c .if2 .left)
 
@@ -76,7 +76,7 @@ same-length-3 c = search needs
 
 -- src/lib.rt:198:1
 returns-3 : tie.Need-returns-3
-returns-3 c = 
+returns-3 c =
     let a = c .before .before .before .before .before .before .before .before .before .args in
     plain-fresh (a .b .now) (a .k) (a .f) _ (c .before .before .before .before .before .put-state .ensures ∙ ap (layState (hasBuffers (a .b .now)) (a .b .now) (a .k) (a .f)) (c .before .before .before .before .before .before .no-hold .ensures)) (c .before .has-buffers .result) (c .before .has-buffers .ensures) (c .if1 .left)
 
