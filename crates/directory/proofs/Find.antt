@@ -12,8 +12,8 @@ use Rattle.geometry.proofs.Tests.{first-is}
 use Rattle.directory.specs.declared.Entry.{Entry}
 use Rattle.directory.specs.declared.Found.{Found}
 use Rattle.directory.specs.declared.Found.the-variants.{Number, Nothing}
-use Rattle.directory.specs.Entries.{tableOf, isFree}
-use Rattle.directory.specs.Search.{matches, told, find, search}
+use Rattle.directory.specs.Entries.{isFree}
+use Rattle.directory.specs.Search.{matches, told, find}
 
 module _ (table : List Entry) (name : List ℕ) where
   abbrev answer : ℕ → ℕ × List ℕ
@@ -49,8 +49,3 @@ module _ (name : List ℕ) (e : Entry) where
   pub match-refused : (eqb (length name) 8 && not (isFree e)) ≡ false → matches name e ≡ false
   unfolding matches
   match-refused h = join (eqb (length name) 8) (not (isFree e)) (same (e .name) name) ∙ rw h
-
--- over the directory's bytes it is the same as over the entries that they hold
-pub search-finds : (image name : List ℕ) → search image name ≡ find (tableOf image) name
-unfolding search
-search-finds image name = refl

@@ -1,17 +1,17 @@
 -- The rules of a directory are those of each entry and those of every two: a rule of both sorts holds where each of its parts does.
-use mathlib.Core.Path.{_≡_, refl, sym, _∙_}
+use mathlib.Core.Path.{_≡_, refl, sym}
 use mathlib.Core.Bool.{Bool, true, false, _&&_, _||_, not, and-true, and-false, or-true}
 use mathlib.Core.List.{List, [], _∷_}
-use Prim.Native.Nat.{ℕ, zero, suc, _+_, _*_, _/_, _%_, _≤_, _<_}
+use Prim.Native.Nat.{ℕ, zero, suc, _*_, _/_, _%_, _≤_, _<_}
 use native.Mathlib.Nat.{le-div-iff-mul-le}
 use native.Mathlib.Omega.{arith}
 use native.Mathlib.Decide.{ℕ-discrete}
 use lib.Dec.{leb, eqb}
 use borrow.Author.Tests.{le-leb, lt-leb, leb-true, eq-eqb, ne-eqb}
-use Rattle.geometry.specs.Lists.{all, every, pairwise, same}
+use Rattle.geometry.specs.Lists.{all, every, pairwise}
 use Rattle.geometry.specs.Places.{sectorsFor, capacity}
 use Rattle.geometry.specs.Sizes.{unblocked, blocked, compressed, random, mostRecords}
-use Rattle.geometry.proofs.Tests.{alike, and-left, and-right, or-either, every-and, pairwise-and, neither-left, neither-right}
+use Rattle.geometry.proofs.Tests.{alike, and-left, and-right, or-either, every-and, pairwise-and}
 use Rattle.directory.specs.Entries.{isFree, isMarked}
 use Rattle.directory.specs.Rules.{kindKnown, freeIsZero, isName, nameGood, namesDiffer, extentFits, extentInside, extentsApart, flagsKnown, longest, lengthGood, countGood, randomBare, tableRules, tableGood}
 use Rattle.directory.specs.Grouped.{entryGood, lengthUpTo, sizesGood, usedGood, twoGood}
@@ -63,12 +63,6 @@ module _ (N : ℕ) (e : Entry) where
     pub used-good : entryGood N e ≡ (isName (e .name) && usedGood N e)
     unfolding entryGood freeIsZero nameGood extentInside lengthGood usedGood sizesGood
     used-good = rw (ne-eqb (e .kind) 0 used) (swap (kindKnown e) (isName (e .name)) _)
-
-    pub used-unnamed : isName (e .name) ≡ false → entryGood N e ≡ false
-    used-unnamed n = used-good ∙ rw n
-
-    pub used-named : isName (e .name) ≡ true → entryGood N e ≡ usedGood N e
-    used-named n = used-good ∙ rw n
 
   pub used-outside : extentFits N e ≡ false → usedGood N e ≡ false
   unfolding usedGood
@@ -130,34 +124,11 @@ module _ (e : Entry) where
       none zero m = refl
       none (suc n) m = rw (ne-eqb (suc n) 0 (omega arith)) (and-false (leb (suc n) mostRecords))
 
--- two entries of which one is free, and two used ones, the extents first
+-- two entries of which one is free
 module _ (a b : Entry) where
-  abbrev apart : Bool
-  apart = leb (a .first + a .sectors) (b .first) || leb (b .first + b .sectors) (a .first)
-
-  abbrev differ : Bool
-  differ = not (same (a .name) (b .name))
-
   pub two-free : (isFree a || isFree b) ≡ true → twoGood a b ≡ true
   unfolding twoGood namesDiffer extentsApart
   two-free h = or-either (isFree a) (isFree b) h (λ (p : isFree a ≡ true). rw p) (λ (p : isFree b ≡ true). rw (p, or-true (isFree a)))
-
-  module _ (used : (isFree a || isFree b) ≡ false) where
-    two-used : twoGood a b ≡ (differ && apart)
-    unfolding twoGood namesDiffer extentsApart
-    two-used = rw (neither-left (isFree a) (isFree b) used, neither-right (isFree a) (isFree b) used)
-
-    two-apart : apart ≡ true → twoGood a b ≡ differ
-    two-apart h = two-used ∙ rw (h, and-true differ)
-
-    pub two-before : a .first + a .sectors ≤ b .first → twoGood a b ≡ differ
-    two-before h = two-apart (rw (le-leb (a .first + a .sectors) (b .first) h))
-
-    pub two-behind : b .first + b .sectors ≤ a .first → twoGood a b ≡ differ
-    two-behind h = two-apart (rw (le-leb (b .first + b .sectors) (a .first) h, or-true (leb (a .first + a .sectors) (b .first))))
-
-    pub two-shared : b .first < a .first + a .sectors → a .first < b .first + b .sectors → twoGood a b ≡ false
-    two-shared h k = two-used ∙ rw (lt-leb (a .first + a .sectors) (b .first) h, lt-leb (b .first + b .sectors) (a .first) k, and-false differ)
 
 -- any entries and a free one
 pub free-apart : (b : Entry) → b .kind ≡ 0 → (xs : List Entry) → every (λ a. twoGood a b) xs ≡ true

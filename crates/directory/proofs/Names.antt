@@ -5,7 +5,6 @@ use mathlib.Core.List.{List, [], _∷_}
 use Prim.Native.Nat.{ℕ, suc, _+_, _-_, _<_, _≤_}
 use native.Mathlib.Nat.{suc-ne-zero}
 use native.Mathlib.Numerals.{add-one}
-use native.Mathlib.Omega.{arith}
 use lib.ListN.{length, drop, getD, drop-of-length-le}
 use lib.Seq.{drop-cons}
 use lib.Dec.{eqb}
@@ -78,12 +77,3 @@ pub name-none : (x : List ℕ) → length x ≡ 0 → isName x ≡ false
 unfolding isName
 name-none [] h = refl
 name-none (c ∷ x) h = absurd (suc-ne-zero (length x) h)
-
--- a test of bytes from the last one back
-pub every-back : (x : List ℕ) (k : ℕ) → 1 ≤ k → k ≤ length x → (b : ℕ)
-    → every (λ d. eqb d b) (drop (k - 1) x) ≡ (eqb (getD x (k - 1) 0) b && every (λ d. eqb d b) (drop k x))
-unfolding every
-every-back x k l h b =
-    let e : suc (k - 1) ≡ k = omega arith in
-    let i : k - 1 < length x = omega arith in
-    ap (every (λ d. eqb d b)) (rw e at (drop-cons x (k - 1) 0 i))

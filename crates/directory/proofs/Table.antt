@@ -65,13 +65,6 @@ pub table-at : (image : List ℕ) (i : ℕ) → i < 18 → entryAt (tableOf imag
 unfolding tableOf
 table-at image i h = entries-at entries image i h
 
--- a turn of the loop that reads the table
-pub table-more : (image : List ℕ) (i : ℕ) (v : Entry) → i < 18 → v ≡ entryAt (tableOf image) i
-    → set (take i (tableOf image) ++ drop i (replicate 18 freeEntry)) i v ≡ take (i + 1) (tableOf image) ++ drop (i + 1) (replicate 18 freeEntry)
-table-more image i v h e =
-    let l : length (tableOf image) ≡ 18 = length-table image in
-    front-more (tableOf image) (replicate 18 freeEntry) i freeEntry v (omega arith) h e
-
 -- ---- what the table depends on
 
 -- parts that are the same make the same table

@@ -5,7 +5,7 @@ use Prim.Native.Nat.{ℕ}
 use lib.ListN.{length}
 use lib.Dec.{eqb, ltb}
 use Rattle.geometry.specs.Lists.{same, firstWith}
-use Rattle.directory.specs.Entries.{tableOf, isFree}
+use Rattle.directory.specs.Entries.{isFree}
 use Rattle.directory.specs.declared.Entry.{Entry}
 use Rattle.directory.specs.declared.Found.{Found}
 use Rattle.directory.specs.declared.Found.the-variants.{Number, Nothing}
@@ -24,7 +24,3 @@ unfoldable pub find : List Entry → List ℕ → ℕ × List ℕ
 find table name =
     let i : ℕ = firstWith (matches name) table in
     elim (ltb i (length table)) [ true ↦ (0, i ∷ []) | false ↦ (8, []) ]
-
--- the same over the directory's bytes
-unfoldable pub search : List ℕ → List ℕ → ℕ × List ℕ
-search image name = find (tableOf image) name

@@ -116,14 +116,6 @@ pub fn entry_bytes(e: Entry) -> [u8; 20]
     twenty_bytes(name, e.kind, e.length, e.first, e.sectors, count, e.flags)
 }
 
-// Lays an entry's 20 bytes over those from byte at on, if they fit there.
-pub fn put_entry(out: &mut [u8], at: usize, e: Entry)
-    ensures { λ _. ⌜ now (out .exit) ≡ Bytes.lay (now (out .entry)) at (entryBytes (oneWord e)) ⌝ }
-{
-    let b = entry_bytes(e);
-    lay(out, at, &b);
-}
-
 // ---- the table
 
 // An entry of 20 zero bytes.
@@ -141,25 +133,6 @@ pub fn free_entry() -> Entry
     }
 }
 
-// A table with no used entry.
-pub fn empty_table() -> [Entry; 18]
-    ensures { λ r. ⌜ r ≡ replicate 18 freeEntry ⌝ }
-{
-    let e = free_entry();
-    [e; 18]
-}
-
-// The entry of that number in a table; a free one where there is none.
-pub fn entry_of(t: [Entry; 18], i: usize) -> Entry
-    ensures { λ r. ⌜ r ≡ entryAt t i ⌝ }
-{
-    if i < Geometry::ENTRIES {
-        t[i]
-    } else {
-        free_entry()
-    }
-}
-
 // Entry i of an image's directory; a free one where there is none.
 pub fn entry_at(image: &[u8], i: usize) -> Entry
     ensures { λ r. ⌜ r ≡ entryAt (tableOf (now (image .entry))) i ⌝ }
@@ -169,20 +142,6 @@ pub fn entry_at(image: &[u8], i: usize) -> Entry
     } else {
         free_entry()
     }
-}
-
-// The 18 entries of an image's directory.
-pub fn table_of(image: &[u8]) -> [Entry; 18]
-    ensures { λ r. ⌜ r ≡ tableOf (now (image .entry)) ⌝ }
-{
-    let mut t = empty_table();
-    let mut i: usize = 0;
-    while i < Geometry::ENTRIES {
-        let e = entry_at(image, i);
-        t[i] = e;
-        i += 1;
-    }
-    t
 }
 
 // Whether an entry's file is marked.
@@ -248,30 +207,6 @@ pub fn is_name(x: &[u8]) -> bool
         k += 1;
     }
     is_capital(x[0])
-}
-
-// Whether the eight bytes are zero.
-fn is_zero_name(x: [u8; 8]) -> bool
-    ensures { λ r. ⌜ r ≡ every (λ b. eqb b 0) x ⌝ }
-{
-    let mut ok = true;
-    let mut k: usize = 8;
-    while 0 < k {
-        k -= 1;
-        ok = (x[k] == 0) & ok;
-    }
-    ok
-}
-
-// Whether an entry is 20 zero bytes.
-fn is_zero(e: Entry) -> bool
-    ensures { λ r. ⌜ r ≡ every (λ b. eqb b 0) (entryBytes e) ⌝ }
-{
-    let x = e.name;
-    is_zero_name(x)
-        & ((e.kind == Geometry::FREE)
-            & ((e.length == 0)
-                & ((e.first == 0) & ((e.sectors == 0) & ((e.count == 0) & (e.flags == 0))))))
 }
 
 // An entry's extent lies in an image of n sectors, behind the directory.
@@ -355,76 +290,6 @@ pub fn used_good(e: Entry, n: u32) -> bool
     }
 }
 
-// Whether an entry keeps the rules of one entry, in an image of n sectors.
-fn entry_good(e: Entry, n: u32) -> bool
-    ensures { λ r. ⌜ r ≡ entryGood n e ⌝ }
-{
-    if e.kind == Geometry::FREE {
-        is_zero(e)
-    } else {
-        let x = e.name;
-        if !is_name(&x) {
-            return false;
-        }
-        used_good(e, n)
-    }
-}
-
-// ---- the rules of two entries, and of the table
-
-// Whether two names are the same.
-fn same_name(x: [u8; 8], y: [u8; 8]) -> bool
-    ensures { λ r. ⌜ r ≡ Lists.same x y ⌝ }
-{
-    same(&x, &y)
-}
-
-// Whether two entries keep the rules of two. The extents are looked at before the names, since that is quick:
-// they share a sector where each starts before the other ends.
-fn two_good(a: Entry, b: Entry) -> bool
-    ensures { λ r. ⌜ r ≡ twoGood a b ⌝ }
-{
-    if (a.kind == Geometry::FREE) | (b.kind == Geometry::FREE) {
-        return true;
-    }
-    let a_end = (a.first as u32) + (a.sectors as u32);
-    let b_end = (b.first as u32) + (b.sectors as u32);
-    if (b.first as u32) < a_end {
-        if (a.first as u32) < b_end {
-            return false;
-        }
-    }
-    let x = a.name;
-    let y = b.name;
-    !same_name(x, y)
-}
-
-// Whether a table keeps every rule of a directory but the decoding one, in an image of n sectors.
-// A used entry is held against those before it, j < i: used entries stand at the front as a rule, so few are read again.
-pub fn is_good(t: [Entry; 18], n: u32) -> bool
-    ensures { λ r. ⌜ r ≡ tableGood n t ⌝ }
-{
-    let mut i: usize = 0;
-    while i < Geometry::ENTRIES {
-        let e = t[i];
-        if !entry_good(e, n) {
-            return false;
-        }
-        if e.kind != Geometry::FREE {
-            let mut j = 0;
-            while j < i {
-                let f = t[j];
-                if !two_good(f, e) {
-                    return false;
-                }
-                j += 1;
-            }
-        }
-        i += 1;
-    }
-    true
-}
-
 // ---- an entry found by name
 
 // Whether a used entry has that name.
@@ -437,21 +302,6 @@ pub fn is_named(e: Entry, name: &[u8]) -> bool
     } else {
         false
     }
-}
-
-// The number of the lowest entry of an image's directory that has that name.
-pub fn search(image: &[u8], name: &[u8]) -> Found
-    ensures { λ r. ⌜ told r ≡ Search.search (now (image .entry)) (now (name .entry)) ⌝ }
-{
-    let mut i = 0;
-    while i < Geometry::ENTRIES {
-        let e = entry_at(image, i);
-        if is_named(e, name) {
-            return Found::Number(i);
-        }
-        i += 1;
-    }
-    Found::Nothing
 }
 
 // ---- what closing a file writes

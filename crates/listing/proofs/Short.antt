@@ -1,10 +1,10 @@
 -- A listing has at most 1,596 bytes: a number has at most ten digits, a name eight letters, and there are 18 entries.
 use mathlib.Core.Bool.{Bool, true, false, _&&_}
-use mathlib.Core.List.{List, [], _∷_, _++_}
-use Prim.Native.Nat.{ℕ, zero, suc, _≤_, _+_, _*_, _/_, _%_}
+use mathlib.Core.List.{List, [], _∷_}
+use Prim.Native.Nat.{ℕ, zero, suc, _≤_, _+_, _*_, _/_}
 use native.Mathlib.Omega.{arith}
 use lib.Dec.{eqb, leb, ltb}
-use lib.ListN.{length, take, drop, replicate, length-append, length-replicate}
+use lib.ListN.{length, take, drop, length-append, length-replicate}
 use Rattle.geometry.specs.Sizes.{sectorsOf, blank, entries, entrySize}
 use Rattle.geometry.specs.Bytes.{padded}
 use Rattle.geometry.proofs.Bytes.{length-part-min}
@@ -12,7 +12,7 @@ use Rattle.directory.specs.declared.Entry.{Entry}
 use Rattle.directory.specs.Entries.{entryFrom, entriesFrom, tableOf, isFree}
 use Rattle.mounting.specs.Mounting.{mounts}
 use Rattle.texts.specs.Texts.{spelled, decimalIn, decimal, spaced}
-use Rattle.listing.specs.Listing.{header, badImage, ascii, nameText, line, linesFrom, listing}
+use Rattle.listing.specs.Listing.{header, badImage, nameText, line, linesFrom, listing}
 
 either-short : (b : Bool) (xs ys : List ℕ) (n : ℕ) → length xs ≤ n → length ys ≤ n → length {A = ℕ} (elim b [ true ↦ xs | false ↦ ys ]) ≤ n
 either-short true xs ys n h k = h

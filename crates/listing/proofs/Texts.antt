@@ -3,13 +3,12 @@ use mathlib.Core.Path.{_≡_, refl}
 use mathlib.Core.Logic.{_≢_}
 use mathlib.Core.Bool.{Bool, true, false, _&&_}
 use mathlib.Core.List.{List, [], _∷_, _++_, append-nil}
-use Prim.Native.Nat.{ℕ, zero, suc, _<_, _≤_, _+_, _-_, _/_, _%_}
-use native.Mathlib.Numerals.{add-one, sub-one}
-use native.Mathlib.Omega.{arith}
+use Prim.Native.Nat.{ℕ, _<_, _≤_, _+_, _-_}
+use native.Mathlib.Numerals.{add-one}
 use lib.ListN.{length, drop, getD, drop-of-length-le}
 use lib.Seq.{drop-cons}
 use lib.Dec.{leb}
-use borrow.Author.Tests.{lt-ltb, le-ltb, eq-eqb, ne-eqb}
+use borrow.Author.Tests.{eq-eqb, ne-eqb}
 use Rattle.geometry.specs.Sizes.{sectorsOf, blank, free}
 use Rattle.directory.specs.declared.Entry.{Entry}
 use Rattle.directory.specs.Entries.{tableOf, isFree}

@@ -9,6 +9,7 @@ ghost use mathlib.Core.List.{[], _∷_, _++_};
 ghost use Prim.Native.Nat.{_<_, min};
 ghost use lib.ListN.{length};
 ghost use lib.Seq.{sets};
+ghost use Rattle.directory.specs.Entries.{tableOf};
 ghost use Rattle.texts.specs.Texts.{decimal, spaced, Wrote};
 ghost use Rattle.listing.specs.Listing.{ascii, nameText, line, linesFrom, listing};
 
@@ -91,13 +92,13 @@ fn put_entry(out: &mut [u8], at: usize, i: usize, e: Entry) -> usize
 }
 
 // Puts a line for each used entry, in entry order.
-fn put_lines(out: &mut [u8], at: usize, t: [Entry; 18]) -> usize
-    ensures { λ r. ⌜ Wrote (now (out .entry)) at (linesFrom 0 t) (now (out .exit)) r ⌝ }
+fn put_lines(out: &mut [u8], at: usize, image: &[u8]) -> usize
+    ensures { λ r. ⌜ Wrote (now (out .entry)) at (linesFrom 0 (tableOf (now (image .entry)))) (now (out .exit)) r ⌝ }
 {
     let mut a = at;
     let mut i: usize = 0;
     while i < Geometry::ENTRIES {
-        let e = directory::entry_of(t, i);
+        let e = directory::entry_at(image, i);
         a = put_entry(out, a, i, e);
         i += 1;
     }
@@ -113,9 +114,8 @@ pub fn write_listing(image: &[u8], out: &mut [u8]) -> usize
     ensures puts { λ _. ⌜ now (out .exit) ≡ sets (now (out .entry)) 0 (listing (now (image .entry))) ⌝ }
 {
     if (Geometry::sectors_of(image) <= MOST_LISTED) & mounting::mounts(image) {
-        let t = directory::table_of(image);
         let a = put_all(out, 0, b"FILE NAME KIND RECORD FIRST SECTORS COUNT FLAGS\n");
-        put_lines(out, a, t)
+        put_lines(out, a, image)
     } else {
         put_all(out, 0, b"BAD IMAGE\n")
     }

@@ -1,9 +1,9 @@
 -- Document 01, "Sizes and the directory": mounting. Definitions only.
 use mathlib.Core.Bool.{Bool, true, false, _&&_, _||_, not}
-use mathlib.Core.List.{List, [], _∷_}
+use mathlib.Core.List.{List}
 use Prim.Native.Nat.{ℕ}
 use lib.ListN.{replicate}
-use Rattle.geometry.specs.Lists.{all, every}
+use Rattle.geometry.specs.Lists.{every}
 use Rattle.geometry.specs.Places.{origin}
 use Rattle.geometry.specs.Sizes.{entries, mostOpen, compressed, sectorsOf, lawfulLength}
 use Rattle.directory.specs.Entries.{tableOf, isKind, freeEntry}

@@ -1,6 +1,5 @@
 -- `listing::put_entry` meets its contract: a free entry has no line.
 use borrow.Author.Needs.{needs}
-use native.Mathlib.Omega.{arith}
 use Rattle.texts.proofs.Writing.{wrote-none}
 use Rattle.listing.proofs.Texts.{free-line, used-line}
 use Rattle.listing.proofs.put_entry.Statement.{statement}

@@ -1,11 +1,12 @@
--- `listing::put_lines` meets its contract: behind the first i entries the rest of the table is to be listed.
+-- Behind the first i entries the rest of the table is to be listed.
 use mathlib.Core.Path.{_≡_, refl, _∙_}
 use mathlib.Core.List.{[], _∷_, _++_}
-use Prim.Native.Nat.{_≤_, _-_, _+_, _*_}
+use Prim.Native.Nat.{_≤_, _-_, _+_}
 use native.Mathlib.Omega.{arith}
 use borrow.Author.Needs.{needs}
 use lib.ListN.{length, drop}
-use Rattle.directory.specs.Entries.{entryAt, freeEntry}
+use Rattle.directory.specs.Entries.{entryAt, freeEntry, tableOf}
+use Rattle.directory.proofs.Table.{length-table}
 use Rattle.listing.specs.Listing.{linesFrom}
 use Rattle.texts.proofs.Writing.{Leads, leads-on, leads-end}
 use Rattle.listing.proofs.Texts.{lines-more, lines-end}
@@ -13,16 +14,16 @@ use Rattle.listing.proofs.put_lines.Statement.{statement}
 use Rattle.listing.proofs.put_lines.Tie as tie
 
 abbrev Inv-loop : tie.InvT-loop
-Inv-loop out₀ at t a₀ i₀ out a i = Leads out₀ at (linesFrom 0 t) out a (linesFrom i (drop i t)) × (i ≤ 18) × (length out ≡ length out₀)
+Inv-loop out₀ at image a₀ i₀ out a i = Leads out₀ at (linesFrom 0 (tableOf image)) out a (linesFrom i (drop i (tableOf image))) × (i ≤ 18) × (length out ≡ length out₀)
 
 abbrev μ-loop : tie.MeasureT-loop
-μ-loop out₀ at t a₀ i₀ out a i = 18 - i
+μ-loop out₀ at image a₀ i₀ out a i = 18 - i
 
 loop-holds : tie.Need-loop-holds Inv-loop μ-loop
 loop-holds c = (λ new b w. w, omega arith, refl)
 
-entry-of-requires : tie.Need-entry-of-requires Inv-loop μ-loop
-entry-of-requires c κs = search needs
+entry-at-requires : tie.Need-entry-at-requires Inv-loop μ-loop
+entry-at-requires c κs = search needs
 
 put-entry-requires : tie.Need-put-entry-requires Inv-loop μ-loop
 put-entry-requires c κs = search needs
@@ -37,11 +38,11 @@ loop-again : tie.Need-loop-again Inv-loop μ-loop
 loop-again c =
     let l = c .before .before .before .before .before .before .loop in
     let p = c .before .before .put-entry in
-    let t = c .before .before .before .before .before .before .before .before .args .t in
-    let s : length t ≡ 18 = search needs in
+    let t = tableOf (c .before .before .before .before .before .before .before .before .before .args .image .now) in
+    let s : length t ≡ 18 = length-table _ in
     let e : linesFrom (l .i) (drop (l .i) t) ≡ linesFrom (l .i) (entryAt t (l .i) ∷ []) ++ linesFrom (l .i + 1) (drop (l .i + 1) t) =
     lines-more t (l .i) freeEntry (omega arith) in
-    (leads-on (rw (e, ← c .before .before .before .before .entry-of .ensures) at (l .inv .0)) (p .ensures), omega arith, p .kept .0 ∙ l .inv .2)
+    (leads-on (rw (e, ← c .before .before .before .before .entry-at .ensures) at (l .inv .0)) (p .ensures), omega arith, p .kept .0 ∙ l .inv .2)
 
 same-length : tie.Need-same-length Inv-loop μ-loop
 same-length c = c .before .loop .inv .2
@@ -49,8 +50,8 @@ same-length c = c .before .loop .inv .2
 returns : tie.Need-returns Inv-loop μ-loop
 returns c =
     let l = c .before .loop in
-    let t = c .before .before .before .args .t in
-    let s : length t ≡ 18 = search needs in
+    let t = tableOf (c .before .before .before .before .args .image .now) in
+    let s : length t ≡ 18 = length-table _ in
     let e : linesFrom (l .i) (drop (l .i) t) ≡ [] = lines-end t (l .i) (omega arith) in
     leads-end (rw e at (l .inv .0))
 
@@ -61,7 +62,7 @@ put-lines-spec =
     Inv-loop
     μ-loop
     loop-holds
-    entry-of-requires
+    entry-at-requires
     put-entry-requires
     add-i
     loop-less

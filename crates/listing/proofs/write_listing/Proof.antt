@@ -1,4 +1,4 @@
--- `listing::write_listing` meets its contract: the header and the lines, or that the image is bad.
+-- The header and the lines, or that the image is bad.
 use mathlib.Core.Path.{_≡_}
 use mathlib.Core.Bool.{true, false, _&&_}
 use lib.Dec.{leb}
@@ -17,9 +17,6 @@ sectors-of-requires c κs = search needs
 
 mounts-requires : tie.Need-mounts-requires
 mounts-requires c κs = search needs
-
-table-of-requires : tie.Need-table-of-requires
-table-of-requires c κs = search needs
 
 slice-aggregate-put-all : tie.Need-slice-aggregate-put-all
 slice-aggregate-put-all c = search needs
@@ -43,11 +40,11 @@ returns : tie.Need-returns
 unfolding header spelled
 returns c =
     let p = c .before .before .before .before .before .before in
-    let i = p .before .before .before .before in
+    let i = p .before .before .before in
     let image = i .before .before .before .before .before .args .image .now in
     let g : (leb (sectorsOf image) 180 && mounts image) ≡ true = rw (i .before .before .sectors-of .ensures, i .before .mounts .ensures) at (i .if1 .taken) in
     let w = then (p .put-all .ensures) (c .before .before .put-lines .ensures) in
-    rw (good-listing image g, ← p .before .before .before .table-of .ensures) (ends-at w, w .puts)
+    rw (good-listing image g) (ends-at w, w .puts)
 
 same-length-2 : tie.Need-same-length-2
 same-length-2 c = search needs
@@ -67,7 +64,6 @@ write-listing-spec =
     (tie.spec
     sectors-of-requires
     mounts-requires
-    table-of-requires
     slice-aggregate-put-all
     put-all-requires
     put-lines-requires
