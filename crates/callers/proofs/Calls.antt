@@ -48,7 +48,7 @@ module _ (u : Bool) where
 
     told-is : (g : ℕ) → toldBy (w .image) (w .session) (a .entry) g ≡ E .look (w .image) (w .session) (a .entry) g
     told-is g =
-        called .places (w .image) (w .session) (a .entry) g 0
+        called .places (w .image) (w .session) (a .entry) g _
         ∙ called .shows (w .image) (w .session) (a .entry) g
         ∙ ap (λ (v : Bool). lentEngine v .look (w .image) (w .session) (a .entry) g) t
 
