@@ -1,58 +1,104 @@
--- A run of the calls from C is the run of the engine in lent bytes, and so that of the tapes and rows.
-use mathlib.Core.Path.{_≡_, refl, ap, ap₂, _∙_}
-use mathlib.Core.Bool.{true}
-use mathlib.Core.List.{List, [], _∷_}
+-- A run of the calls from C is the run of the engine in lent bytes that their number says, and so that of the tapes and rows: a request leaves as many bytes.
+use mathlib.Core.Path.{_≡_, refl, ap, ap₂, _∙_, fun-ext}
+use mathlib.Core.Bool.{Bool, true}
+use mathlib.Core.List.{List, [], _∷_, map}
 use Prim.Native.Nat.{ℕ}
 use lib.ListN.{length}
-use Rattle.mounting.specs.Mounting.{mounts, plainMount, bufferedMount}
+use Rattle.geometry.specs.Lists.{numbersFrom}
+use Rattle.geometry.specs.Sizes.{entries}
+use Rattle.mounting.specs.Mounting.{mounts, plainMount}
 use Rattle.requests.specs.Codes.{codes, askedFor}
 use Rattle.requests.specs.declared.Asked.the-variants.{For}
 use Rattle.requests.specs.declared.Order.the-variants.{WriteMark, RewindOnline, RewindOffline, RecordForward, RecordBack, FileForward, FileBack}
 use Rattle.requests.specs.Numbers.{numberOf}
-use Rattle.sessions.specs.Session.{unheld}
+use Rattle.sessions.specs.Session.{bare, spotOf}
+use Rattle.sessions.specs.declared.Spot.{Spot}
 use Rattle.tapes.specs.Model.{Asked, Report}
-use Rattle.judging.specs.Lent.{lentAfter}
-use Rattle.board.specs.Board as board
-use Rattle.demands.specs.Engine.{Standing, spotsOf, answered, stepOf, reportOf, reports, mounted}
-use Rattle.demands.specs.Demand2.{Faithful}
-use Rattle.callers.specs.Lent.{lentEngine, Called}
-use Rattle.callers.specs.Calls.{call, callReport, callReports, Calling, Coded}
-use Rattle.callers.proofs.Lent.{lent-plain-faithful, lent-buffered-faithful, called-plain, called-buffered}
+use Rattle.storing.specs.Stored.{sizeOf, hasBuffers, lentSession}
+use Rattle.storing.proofs.Read.{told-by-size, session-size}
+use Rattle.lleuadrys.specs.Calls.{Left, mountBytes}
+use Rattle.demands.specs.Engine.{Engine, Standing, ifLook, shownBy, spotsOf, answered, stepOf, reportOf, reports, mounted, areBytes, giveBytes}
+use Rattle.demands.proofs.Answers.{bytes-image, bytes-given}
+use Rattle.callers.specs.Lent.{lentEngine, leftOf}
+use Rattle.callers.specs.Calls.{call, toldBy, callReport, callReports, Calling, Coded}
+use Rattle.callers.proofs.Called.{called}
+use Rattle.callers.proofs.Demands.{lent-faithful}
+use Rattle.callers.proofs.Kept.{starts}
+use Rattle.callers.proofs.Runs.{step-bytes, size-then, first-gives, rest-gives}
 use Rattle.requests.specs.declared.Answer.the-variants.{Done}
 use Rattle.requests.specs.declared.Request.{Request}
 use Rattle.requests.specs.declared.Request.the-variants.{Open, Read, Write, GranuleRead, GranuleWrite, GranuleLook, Position}
-use Rattle.sessions.specs.declared.BufferedSession.{BufferedSession}
 
-module _ {S : Type 0} (seen : S → BufferedSession) (B : board.Engine S) where
-  report-is : (w : Standing (List ℕ)) (a : Asked) → callReport B w a ≡ reportOf (lentEngine seen B) w a
-  unfolding callReport reportOf answered spotsOf board.requested board.kept lentAfter
-  report-is w a = refl
+module _ (u : Bool) where
+  abbrev E : Engine
+  E = lentEngine u
 
-  step-is : (w : Standing (List ℕ)) (a : Asked) → record { image = call B w a .image; session = call B w a .session } ≡ stepOf (lentEngine seen B) w a
-  unfolding stepOf answered board.requested board.kept lentAfter
-  step-is w a = refl
+  -- ---- one call, on bytes whose number says this engine
 
-  reports-are : (asked : List Asked) (w : Standing (List ℕ)) → callReports B w asked ≡ reports (lentEngine seen B) w asked
+  spots-are : (b : List ℕ) → hasBuffers b ≡ u → map (spotOf (bare (lentSession b))) (numbersFrom 0 entries) ≡ spotsOf E b
+  unfolding spotsOf
+  spots-are b t = ap (λ (f : ℕ → Spot). map f (numbersFrom 0 entries)) (fun-ext (called .positions b) ∙ ap (λ (v : Bool). lentEngine v .position b) t)
+
+  module _ (w : Standing (List ℕ)) (a : Asked) (t : hasBuffers (w .session) ≡ u) where
+    call-is : call w a ≡ leftOf (answered E w a)
+    unfolding answered
+    call-is =
+        called .requests (w .image) (w .session) (a .entry) (a .request) (a .given) (a .buffer)
+        ∙ ap (λ (v : Bool). leftOf (lentEngine v .request (w .image) (w .session) (a .entry) (a .request) (a .given) (a .buffer))) t
+
+    told-is : (g : ℕ) → toldBy (w .image) (w .session) (a .entry) g ≡ E .look (w .image) (w .session) (a .entry) g
+    told-is g =
+        called .places (w .image) (w .session) (a .entry) g _
+        ∙ called .shows (w .image) (w .session) (a .entry) g
+        ∙ ap (λ (v : Bool). lentEngine v .look (w .image) (w .session) (a .entry) g) t
+
+    shown-is : ifLook (toldBy (w .image) (w .session) (a .entry)) (a .request) ≡ shownBy E (w .image) (w .session) (a .entry) (a .request)
+    shown-is = ap (λ (look : ℕ → List ℕ). ifLook look (a .request)) (fun-ext told-is)
+
+    report-is : hasBuffers (stepOf E w a .session) ≡ u → callReport w a ≡ reportOf E w a
+    unfolding callReport reportOf stepOf
+    report-is n =
+        let spots = ap (λ (x : Left). map (spotOf (bare (lentSession (x .session)))) (numbersFrom 0 entries)) call-is ∙ spots-are (answered E w a .session) n in
+        λ j. record { number = call-is j .number; buffer = call-is j .buffer; shown = shown-is j; spots = spots j }
+
+    step-is : record { image = call w a .image; session = call w a .session } ≡ stepOf E w a
+    unfolding stepOf
+    step-is = ap (λ (x : Left). record { image = x .image; session = x .session }) call-is
+
+  -- ---- a run of them
+
+  reports-are : (asked : List Asked) (w : Standing (List ℕ)) → hasBuffers (w .session) ≡ u → areBytes (w .image) ≡ true → giveBytes asked ≡ true
+      → callReports w asked ≡ reports E w asked
   unfolding callReports reports
-  reports-are [] w = refl
-  reports-are (a ∷ rest) w =
-      ap₂ (λ (x : Report) (xs : List Report). x ∷ xs) (report-is w a)
-      (ap (λ (v : Standing (List ℕ)). callReports B v rest) (step-is w a) ∙ reports-are rest (stepOf (lentEngine seen B) w a))
+  reports-are [] w t bytes h = refl
+  reports-are (a ∷ rest) w t bytes h =
+      let gives : areBytes (a .given) ≡ true = first-gives u a rest h in
+      let n : hasBuffers (stepOf E w a .session) ≡ u = size-then u w a bytes gives t in
+      ap₂ (λ (x : Report) (xs : List Report). x ∷ xs) (report-is w a t n)
+      (ap (λ (v : Standing (List ℕ)). callReports v rest) (step-is w a t)
+      ∙ reports-are rest (stepOf E w a) n (step-bytes u w a bytes gives) (rest-gives u a rest h))
 
-  module _ (called : Called seen B) (faithful : Faithful (lentEngine seen B)) (done : (image : List ℕ) → mounts image ≡ true → B .mount image .answer ≡ Done) where
-    start-is : (image b : List ℕ) → length b ≡ B .size → mounts image ≡ true
-        → record { image = image; session = board.mountBytes B image b } ≡ mounted (lentEngine seen B) image
-    unfolding mounted
-    start-is image b l ok = ap (λ (x : List ℕ). record { image = image; session = x }) (called .session image b l (done image ok))
+  -- ---- from a mounting
 
-    pub calling : Calling B
-    calling = record {
-      mounting = λ image b l ok. called .number image b l ∙ ap numberOf (done image ok);
-      serves = λ image b l ok asked fit.
-          reports-are asked (record { image = image; session = board.mountBytes B image b })
-          ∙ ap (λ (v : Standing (List ℕ)). reports (lentEngine seen B) v asked) (start-is image b l ok)
-          ∙ faithful .serves image ok asked fit;
-    }
+  start-told : (image : List ℕ) → hasBuffers (mounted E image .session) ≡ u
+  unfolding mounted
+  start-told image = told-by-size u _ (session-size u _ (starts u image .0))
+
+  start-is : (image b : List ℕ) → length b ≡ sizeOf u → record { image = image; session = mountBytes image b } ≡ mounted E image
+  unfolding mounted
+  start-is image b l = ap (λ (x : List ℕ). record { image = image; session = x }) (called .session u image b l)
+
+  mount-done : (image : List ℕ) → mounts image ≡ true → E .mount image .answer ≡ Done
+  mount-done image ok = lent-faithful u .mounting image ∙ (unfold plainMount in rw (ok, plainMount))
+
+pub calling : Calling
+calling = record {
+  mounting = λ u image b l ok. called .number u image b l ∙ ap numberOf (mount-done u image ok);
+  serves = λ u image b l ok asked fit.
+      ap (λ (v : Standing (List ℕ)). callReports v asked) (start-is u image b l)
+      ∙ reports-are u asked (mounted (lentEngine u) image) (start-told u image) (unfold mounted in bytes-image image asked fit) (bytes-given image asked fit)
+      ∙ lent-faithful u .serves image ok asked fit;
+}
 
 pub coded : Coded
 unfolding askedFor codes
@@ -72,14 +118,3 @@ coded = record { named = name }
     name (Position RecordBack) = (11, 0, refl)
     name (Position FileForward) = (12, 0, refl)
     name (Position FileBack) = (13, 0, refl)
-
-mount-done : (image : List ℕ) → mounts image ≡ true → plainMount image .answer ≡ Done
-unfolding plainMount
-mount-done image ok = rw (ok, plainMount)
-
-pub plain-calling : Calling board.plainEngine
-plain-calling = calling unheld board.plainEngine called-plain lent-plain-faithful mount-done
-
-pub buffered-calling : Calling board.bufferedEngine
-unfolding bufferedMount
-buffered-calling = calling (λ s. s) board.bufferedEngine called-buffered lent-buffered-faithful mount-done

@@ -1,6 +1,6 @@
 -- What is proved of an engine on sessions as values holds of it on lent bytes. One argument for both engines.
 use mathlib.Core.Path.{_≡_, refl, sym, ap, subst, _∙_}
-use mathlib.Core.Bool.{true, false}
+use mathlib.Core.Bool.{Bool, true, false}
 use mathlib.Core.List.{List}
 use Prim.Native.Nat.{ℕ}
 use lib.Dec.{eqb}
@@ -12,54 +12,57 @@ use Rattle.sessions.specs.Session.{bufferedLegal}
 use Rattle.steps.specs.Step.{After}
 use Rattle.tapes.specs.Model.{Asked, Report}
 use Rattle.judging.specs.Lent.{lentAfter}
-use Rattle.board.specs.Board as board
+use Rattle.storing.specs.Stored.{isSession}
 use Rattle.demands.specs.Engine.{Engine, Standing, answered, stepOf, mounted, areBytes, sound}
 use Rattle.demands.specs.Demand1.{Proper, Orderly, Passes, Passing}
 use Rattle.demands.specs.Demand2.{closing, Faithful, CountsStored}
 use Rattle.demands.specs.Buffer.{deskAt, Buffered, Buffering}
 use Rattle.demands.specs.Writes.{plainCount, bufferedCount, inRun, allDone, Counted, Writing}
 use Rattle.demands.proofs.Sound.{sound-image}
-use Rattle.callers.specs.Lent.{lentEngine}
-use Rattle.callers.proofs.Runs.{valueEngine, Keeps, opened, read-left, opened-then, run-reports, run-sum, then-reports, then-answer, then-image-of}
+use Rattle.callers.specs.Lent.{engineOf, readBy, storedBy, lentEngine}
+use Rattle.callers.proofs.Kept.{orderly, passing, faithful, counts, same, starts, meets}
+use Rattle.callers.proofs.Runs.{opened, read-left, opened-then, run-reports, run-sum, then-reports, then-answer, then-image-of}
 use Rattle.requests.specs.declared.Request.{Request}
-use Rattle.sessions.specs.declared.BufferedSession.{BufferedSession}
 
-module _ {S : Type 0} {seen : S → BufferedSession} {B : board.Engine S} {look : List ℕ → S → ℕ → ℕ → List ℕ} (keeps : Keeps seen B look) where
+module _ (u : Bool) where
   abbrev E : Engine
-  E = lentEngine seen B
+  E = lentEngine u
 
   abbrev F : Engine
-  F = valueEngine seen B look
+  F = engineOf u
+
+  abbrev S : Type 0
+  S = F .Session
 
   -- ---- one request
 
   module _ (image b : List ℕ) (i : ℕ) (q : Request) (given buffer : List ℕ) where
     abbrev r : After S
-    r = B .step image (B .read b) i q given buffer
+    r = F .request image (readBy u b) i q given buffer
 
     abbrev l : After (List ℕ)
     l = E .request image b i q given buffer
 
-    told-stored : B .isSession b ≡ true → l .session ≡ B .stored (r .session)
+    told-stored : isSession u b ≡ true → l .session ≡ storedBy u (r .session)
     unfolding lentAfter
-    told-stored h = chosen (B .isSession b) (B .stored (r .session)) b h
+    told-stored h = chosen (isSession u b) (storedBy u (r .session)) b h
 
-    told-not : B .isSession b ≡ false → l .session ≡ b
+    told-not : isSession u b ≡ false → l .session ≡ b
     unfolding lentAfter
-    told-not h = not-chosen (B .isSession b) (B .stored (r .session)) b h
+    told-not h = not-chosen (isSession u b) (storedBy u (r .session)) b h
 
     -- nothing changed
-    kept : r .session ≡ B .read b → l .session ≡ b
-    kept e = either (B .isSession b) (λ h. told-stored h ∙ ap (B .stored) e ∙ keeps .same b h) told-not
+    kept : r .session ≡ readBy u b → l .session ≡ b
+    kept e = either (isSession u b) (λ h. told-stored h ∙ ap (storedBy u) e ∙ same u b h) told-not
 
     lent-proper : Proper E image b i q given buffer l
     unfolding lentAfter
     lent-proper =
-        let p : Proper F image (B .read b) i q given buffer r = keeps .orderly .every-request image (B .read b) i q given buffer in
+        let p : Proper F image (readBy u b) i q given buffer r = orderly u .every-request image (readBy u b) i q given buffer in
         record {
           ordered = p .ordered;
           refused = λ x e. let n = p .refused x e in (n .0, kept (n .1), n .2);
-          met = λ x e. let n = p .met x e in (n .0, ap seen (read-left keeps image b i q given buffer (keeps .meets image b i q given buffer x e)) ∙ n .1, n .2);
+          met = λ x e. let n = p .met x e in (n .0, ap (F .seen) (read-left u image b i q given buffer (meets u image b i q given buffer x e)) ∙ n .1, n .2);
           bufferRest = p .bufferRest;
           bufferSize = p .bufferSize;
         }
@@ -67,85 +70,85 @@ module _ {S : Type 0} {seen : S → BufferedSession} {B : board.Engine S} {look 
   pub lent-orderly : Orderly E
   unfolding lentAfter
   lent-orderly = record {
-    line = keeps .orderly .line;
+    line = orderly u .line;
     every-request = lent-proper;
     every-look = λ image b i g given buffer.
-        let p = keeps .orderly .every-look image (B .read b) i g given buffer in
-        record { inPlace = λ d. keeps .shows image b i g ∙ p .inPlace d; empty = λ x e. keeps .shows image b i g ∙ p .empty x e };
+        let p = orderly u .every-look image (readBy u b) i g given buffer in
+        record { inPlace = p .inPlace; empty = p .empty };
   }
 
   pub lent-passing : Passing E
   unfolding mounted
   lent-passing = record {
     mounting = λ image b ok.
-        let p : Passes F (mounted F image) = keeps .passing .mounting image b ok in
+        let p : Passes F (mounted F image) = passing u .mounting image b ok in
         record {
-          isSound = ap (λ (s : S). sound image (seen s)) (keeps .starts image) ∙ p .isSound;
-          isLegal = ap (λ (s : S). bufferedLegal image (seen s)) (keeps .starts image) ∙ p .isLegal;
+          isSound = ap (λ (s : S). sound image (F .seen s)) (starts u image .1) ∙ p .isSound;
+          isLegal = ap (λ (s : S). bufferedLegal image (F .seen s)) (starts u image .1) ∙ p .isLegal;
         };
     requests = λ w p a gives.
-        let q : Passes F (opened keeps (stepOf E w a)) =
-        subst (λ (v : Standing S). Passes F v) (sym (opened-then keeps w a (sound-image (w .image) (seen (B .read (w .session))) (p .isSound)) gives))
-        (keeps .passing .requests (opened keeps w) (record { isSound = p .isSound; isLegal = p .isLegal }) a gives) in
+        let q : Passes F (opened u (stepOf E w a)) =
+        subst (λ (v : Standing S). Passes F v) (sym (opened-then u w a (sound-image (w .image) (F .seen (readBy u (w .session))) (p .isSound)) gives))
+        (passing u .requests (opened u w) (record { isSound = p .isSound; isLegal = p .isLegal }) a gives) in
         record { isSound = q .isSound; isLegal = q .isLegal };
   }
 
   -- ---- a run
 
-  pub lent-faithful : Faithful F → Faithful E
-  lent-faithful faithful = record {
-    mounting = faithful .mounting;
-    refusedMounting = λ image e. ap seen (keeps .starts image) ∙ faithful .refusedMounting image e;
-    serves = λ image ok asked fit. then-reports keeps image asked fit ∙ faithful .serves image ok asked fit;
+  pub lent-faithful : Faithful E
+  lent-faithful = record {
+    mounting = faithful u .mounting;
+    refusedMounting = λ image e. ap (F .seen) (starts u image .1) ∙ faithful u .refusedMounting image e;
+    serves = λ image ok asked fit. then-reports u image asked fit ∙ faithful u .serves image ok asked fit;
   }
 
-  pub lent-counts : CountsStored F → CountsStored E
-  lent-counts counts = record {
+  pub lent-counts : CountsStored E
+  lent-counts = record {
     stored = λ image ok asked i fit m here done.
-        let p = counts .stored image ok asked i fit m here (sym (then-answer keeps image asked fit (closing i)) ∙ done) in
-        let e = then-image-of keeps image asked fit (closing i) in
+        let p = counts u .stored image ok asked i fit m here (sym (then-answer u image asked fit (closing i)) ∙ done) in
+        let e = then-image-of u image asked fit (closing i) in
         (ap (λ (x : List ℕ). entryAt (tableOf x) i .count) e ∙ p .0, ap (λ (x : List ℕ). entryAt (tableOf x) i .flags) e ∙ p .1);
   }
 
   -- ---- the blocking buffer
 
-  value-buffered : (w : Standing (List ℕ)) (a : Asked) (i : ℕ) (e : Entry) → Buffered E w a i e → Buffered F (opened keeps w) a i e
+  value-buffered : (w : Standing (List ℕ)) (a : Asked) (i : ℕ) (e : Entry) → Buffered E w a i e → Buffered F (opened u w) a i e
   value-buffered w a i e b = record { isSound = b .isSound; bytes = b .bytes; its = b .its; kind = b .kind }
 
-  desk-then : (w : Standing (List ℕ)) (a : Asked) (i : ℕ) (e : Entry) → Buffered E w a i e → deskAt E (stepOf E w a) e i ≡ deskAt F (stepOf F (opened keeps w) a) e i
+  desk-then : (w : Standing (List ℕ)) (a : Asked) (i : ℕ) (e : Entry) → Buffered E w a i e → deskAt E (stepOf E w a) e i ≡ deskAt F (stepOf F (opened u w) a) e i
   desk-then w a i e b =
-      ap (λ (v : Standing S). deskAt F v e i) (opened-then keeps w a (sound-image (w .image) (seen (B .read (w .session))) (b .isSound)) (b .bytes))
+      ap (λ (v : Standing S). deskAt F v e i) (opened-then u w a (sound-image (w .image) (F .seen (readBy u (w .session))) (b .isSound)) (b .bytes))
 
   pub lent-buffering : Buffering F → Buffering E
   unfolding answered lentAfter
   lent-buffering buffering = record {
-    own = λ w a e b. desk-then w a (a .entry) e b ∙ buffering .own (opened keeps w) a e (value-buffered w a (a .entry) e b);
-    others = λ w a i e b n. desk-then w a i e b ∙ buffering .others (opened keeps w) a i e (value-buffered w a i e b) n;
-    inside = λ w a e b. buffering .inside (opened keeps w) a e (value-buffered w a (a .entry) e b);
+    own = λ w a e b. desk-then w a (a .entry) e b ∙ buffering .own (opened u w) a e (value-buffered w a (a .entry) e b);
+    others = λ w a i e b n. desk-then w a i e b ∙ buffering .others (opened u w) a i e (value-buffered w a i e b) n;
+    inside = λ w a e b. buffering .inside (opened u w) a e (value-buffered w a (a .entry) e b);
   }
 
   -- ---- the sectors written
 
-  pub plain-same : (w : Standing (List ℕ)) (a : Asked) → plainCount E w a ≡ plainCount F (opened keeps w) a
+  pub plain-same : (w : Standing (List ℕ)) (a : Asked) → plainCount E w a ≡ plainCount F (opened u w) a
   unfolding answered lentAfter plainCount
   plain-same w a = refl
 
-  pub buffered-same : (w : Standing (List ℕ)) (a : Asked) → bufferedCount E w a ≡ bufferedCount F (opened keeps w) a
+  pub buffered-same : (w : Standing (List ℕ)) (a : Asked) → bufferedCount E w a ≡ bufferedCount F (opened u w) a
   unfolding answered lentAfter bufferedCount
   buffered-same w a = refl
 
-  pub lent-counted : (c : Standing (List ℕ) → Asked → ℕ) (d : Standing S → Asked → ℕ) → ((w : Standing (List ℕ)) (a : Asked) → c w a ≡ d (opened keeps w) a)
+  pub lent-counted : (c : Standing (List ℕ) → Asked → ℕ) (d : Standing S → Asked → ℕ) → ((w : Standing (List ℕ)) (a : Asked) → c w a ≡ d (opened u w) a)
       → Counted F d → Counted E c
   unfolding answered lentAfter
-  lent-counted c d same counted = record { none = λ w a h. counted .none (opened keeps w) a (sym (same w a) ∙ h) }
+  lent-counted c d same counted = record { none = λ w a h. counted .none (opened u w) a (sym (same w a) ∙ h) }
 
   -- a run from bytes that are given bytes
   module _ (w : Standing (List ℕ)) (i p q : ℕ) (asked : List Asked) (b : Writing E w i p q asked) where
     abbrev v : Standing S
-    v = opened keeps w
+    v = opened u w
 
     bytes : areBytes (w .image) ≡ true
-    bytes = sound-image (w .image) (seen (B .read (w .session))) (b .isSound)
+    bytes = sound-image (w .image) (F .seen (readBy u (w .session))) (b .isSound)
 
     pub value-writing : Writing F v i p q asked
     unfolding allDone
@@ -153,9 +156,9 @@ module _ {S : Type 0} {seen : S → BufferedSession} {B : board.Engine S} {look 
       isSound = b .isSound;
       standing = b .standing;
       bytes = b .bytes;
-      done = ap (every (λ (r : Report). eqb (r .number) 0)) (sym (run-reports keeps w bytes asked (b .bytes))) ∙ b .done;
+      done = ap (every (λ (r : Report). eqb (r .number) 0)) (sym (run-reports u w bytes asked (b .bytes))) ∙ b .done;
     }
 
-    pub lent-sum : (c : Standing (List ℕ) → Asked → ℕ) (d : Standing S → Asked → ℕ) → ((w : Standing (List ℕ)) (a : Asked) → c w a ≡ d (opened keeps w) a)
+    pub lent-sum : (c : Standing (List ℕ) → Asked → ℕ) (d : Standing S → Asked → ℕ) → ((w : Standing (List ℕ)) (a : Asked) → c w a ≡ d (opened u w) a)
         → inRun E c w asked ≡ inRun F d v asked
-    lent-sum c d same = run-sum keeps c d same w bytes asked (b .bytes)
+    lent-sum c d same = run-sum u c d same w bytes asked (b .bytes)

@@ -46,9 +46,10 @@ use Rattle.demands.proofs.Illegal.{nothing-changed}
 use Rattle.demands.proofs.Passing.{start}
 use Rattle.demands.proofs.Sound.{sound-of, SoundBench, all-sound}
 use Rattle.storing.specs.Fits.{fits, areBytes, areAll, entryFits, fileFits, heldFits, sessionFits, bufferedFits}
-use Rattle.storing.specs.Numbers.{isByte}
+use Rattle.tables.specs.Numbers.{isByte}
 use Rattle.callers.proofs.Next.{below, are-every, are-many, set-are, entry-parts, entry-then, file-then-fits}
-use Rattle.callers.proofs.Start.{every-weaker, fresh-fits}
+use Rattle.callers.proofs.Read.{fresh-fits}
+use Rattle.callers.proofs.Start.{every-weaker}
 
 -- ---- an array of bytes
 

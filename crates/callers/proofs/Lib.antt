@@ -2,6 +2,7 @@ pub mod Read
 pub mod Next
 pub mod Start
 pub mod Held
+pub mod Kept
 pub mod Called
 pub mod Runs
 pub mod Demands

@@ -1,25 +1,28 @@
 -- A session that is read from bytes fits them: a number of n bytes is less than 256 to the n.
 use mathlib.Core.Path.{_≡_, refl}
-use mathlib.Core.Bool.{Bool, true}
+use mathlib.Core.Bool.{Bool, true, false}
 use mathlib.Core.List.{List, [], _∷_}
 use Prim.Native.Nat.{ℕ, zero, suc, _+_, _*_, _^_, _≤_, _<_}
 use native.Mathlib.Nat.{pow-succ', mul-suc}
 use native.Mathlib.Omega.{arith}
-use lib.ListN.{length}
+use lib.ListN.{length, getD}
 use borrow.Author.Tests.{ltb-true, lt-ltb, eq-eqb}
-use Rattle.geometry.specs.Bytes.{part}
+use Rattle.geometry.specs.Bytes.{part, wordAt}
 use Rattle.geometry.specs.Lists.{all, every}
 use Rattle.geometry.specs.Sizes.{sector, entries, mostOpen}
-use Rattle.geometry.proofs.Bytes.{length-part-min, length-part}
-use Rattle.geometry.proofs.Tests.{and-left, and-right, and-both, either}
-use Rattle.sessions.specs.Session.{unheld}
-use Rattle.storing.specs.Fits.{fits, areBytes, areAll, entryFits, fileFits, heldFits, sessionFits, bufferedFits}
-use Rattle.storing.specs.Numbers.{numberIn, isByte}
-use Rattle.storing.specs.Rows.{rowIn}
-use Rattle.storing.specs.Stored.{entryWidth, fileWidth, heldWidth, filesAt, sessionSize, bufferedSize, entryIn, placeIn, fileIn, fileFlags, heldIn, heldFlags, tableIn, isStored, isBufferedStored, sessionIn, bufferedIn, unlawful}
+use Rattle.geometry.proofs.Bytes.{length-part-min, length-part, wordAt-small}
+use Rattle.geometry.proofs.Tests.{and-left, and-right, and-both, either, every-any}
+use Rattle.tables.specs.Numbers.{numberIn, isByte, longAt}
+use Rattle.tables.specs.Rows.{rowIn}
+use Rattle.tables.specs.Tables.{twoWordsWide, countAt, entryIn, entriesIn}
+use Rattle.tables.proofs.Entries.{name-is}
+use Rattle.tables.proofs.Rows.{length-row}
+use Rattle.sessions.specs.Session.{fresh}
+use Rattle.sessions.specs.declared.OpenFile.{OpenFile}
+use Rattle.storing.specs.Fits.{fits, areBytes, areAll, entryFits, fileFits, heldFits, bufferedFits}
+use Rattle.storing.specs.Stored.{heldWidth, filesAt, width, sizeOf, placeIn, fileIn, heldIn, stateIn, isSession, tableIn, statesIn, sessionIn, unlawful}
 use Rattle.storing.proofs.Parts.{part-bytes}
-use Rattle.storing.proofs.Read.{session-is, session-none, buffered-is, buffered-none, formed-bytes, formed-size}
-use Rattle.storing.proofs.Rows.{length-row}
+use Rattle.storing.proofs.Read.{session-is, session-none, session-bytes, session-size}
 
 -- ---- numbers
 
@@ -38,6 +41,11 @@ number-small (suc n) (x ∷ xs) l h =
     let k : numberIn xs < 256 ^ n = number-small n xs m (and-right (isByte x) (every isByte xs) h) in
     omega arith
 
+-- with a buffer that holds nothing
+pub fresh-fits : (f : OpenFile) → fileFits f ≡ true → heldFits (fresh f) ≡ true
+unfolding heldFits all fits areBytes every
+fresh-fits f h = rw h
+
 module _ (b : List ℕ) (bytes : every isByte b ≡ true) where
   part-fits : (at n : ℕ) → fits n (numberIn (part b at n)) ≡ true
   unfolding fits
@@ -48,11 +56,35 @@ module _ (b : List ℕ) (bytes : every isByte b ≡ true) where
   unfolding areBytes
   part-are at n l = and-both _ _ (eq-eqb (length (part b at n)) n (length-part b at n l)) (part-bytes b bytes at n)
 
+  byte-small : (k : ℕ) → getD b k 0 < 256
+  byte-small k = ltb-true (getD b k 0) 256 (every-any isByte b k 0 bytes refl)
+
+  word-small : (at : ℕ) → wordAt b at < 65536
+  word-small at = wordAt-small b at (byte-small at) (byte-small (at + 1))
+
+  word-fits : (at : ℕ) → fits 2 (wordAt b at) ≡ true
+  unfolding fits
+  word-fits at = lt-ltb (wordAt b at) (256 ^ 2) (omega (arith, word-small at))
+
+  long-fits : (at : ℕ) → fits 4 (longAt b at) ≡ true
+  unfolding fits longAt
+  long-fits at = lt-ltb (65536 * wordAt b at + wordAt b (at + 2)) (256 ^ 4) (omega (arith, word-small at, word-small (at + 2)))
+
   -- ---- entries and states
 
-  entry-fits : (at : ℕ) → at + entryWidth ≤ length b → entryFits (entryIn b at) ≡ true
-  unfolding entryFits entryIn all
-  entry-fits at l = rw (part-are at 8 (omega arith), part-fits (at + 8) 2, part-fits (at + 10) 2, part-fits (at + 12) 2, part-fits (at + 14) 2, part-fits (at + 16) 4, part-fits (at + 20) 2)
+  entry-fits : (at : ℕ) → at + twoWordsWide ≤ length b → entryFits (entryIn twoWordsWide b at) ≡ true
+  unfolding entryFits entryIn countAt all
+  entry-fits at l =
+      rw (
+        name-is b at (omega arith),
+        part-are at 8 (omega arith),
+        word-fits (at + 8),
+        word-fits (at + 10),
+        word-fits (at + 12),
+        word-fits (at + 14),
+        long-fits (at + 16),
+        word-fits (at + 20),
+      )
 
   file-fits : (at : ℕ) → fileFits (fileIn b at) ≡ true
   unfolding fileFits fileIn placeIn all
@@ -61,6 +93,11 @@ module _ (b : List ℕ) (bytes : every isByte b ≡ true) where
   held-fits : (at : ℕ) → at + heldWidth ≤ length b → heldFits (heldIn b at) ≡ true
   unfolding heldFits heldIn all
   held-fits at l = rw (file-fits at, part-fits (at + 31) 4, part-are (at + 36) sector (omega arith))
+
+  state-fits : (u : Bool) (at : ℕ) → at + width u ≤ length b → heldFits (stateIn u b at) ≡ true
+  unfolding stateIn width
+  state-fits true at l = held-fits at l
+  state-fits false at l = fresh-fits (fileIn b at) (file-fits at)
 
 -- ---- rows of them
 
@@ -79,33 +116,18 @@ row-are g p w b one n at l = and-both _ _ (eq-eqb (length (rowIn g w n b at)) n 
 
 -- ---- sessions
 
-none-fits : sessionFits unlawful ≡ true
-unfolding sessionFits unlawful areAll every entryFits fileFits all areBytes fits
+none-fits : bufferedFits unlawful ≡ true
+unfolding bufferedFits unlawful areAll every entryFits fileFits heldFits all areBytes fits
 none-fits = refl
 
-none-fits-buffered : bufferedFits (unheld unlawful) ≡ true
-unfolding bufferedFits unheld unlawful areAll every entryFits fileFits heldFits all areBytes fits
-none-fits-buffered = refl
-
-module _ (b : List ℕ) where
-  told-fits : isStored b ≡ true → sessionFits (record { table = tableIn b; files = rowIn fileIn fileWidth mostOpen b filesAt }) ≡ true
-  unfolding sessionFits tableIn
+module _ (u : Bool) (b : List ℕ) where
+  told-fits : isSession u b ≡ true → bufferedFits (record { table = tableIn b; files = statesIn u b }) ≡ true
+  unfolding bufferedFits entriesIn statesIn sizeOf
   told-fits h =
-      let l : length b ≡ sessionSize = formed-size fileFlags fileWidth sessionSize b h in
-      let y : every isByte b ≡ true = formed-bytes fileFlags fileWidth sessionSize b h in
-      and-both _ _ (row-are entryIn entryFits entryWidth b (entry-fits b y) entries 0 (omega arith))
-      (row-are fileIn fileFits fileWidth b (λ at q. file-fits b y at) mostOpen filesAt (omega arith))
+      let l : length b ≡ filesAt + width u * mostOpen = session-size u b h in
+      let y : every isByte b ≡ true = session-bytes u b h in
+      and-both _ _ (row-are (entryIn twoWordsWide) entryFits twoWordsWide b (entry-fits b y) entries 0 (omega arith))
+      (row-are (stateIn u) heldFits (width u) b (state-fits b y u) mostOpen filesAt (omega arith))
 
-  pub read-fits : sessionFits (sessionIn b) ≡ true
-  read-fits = either (isStored b) (λ h. rw (session-is b h) (told-fits h)) (λ h. rw (session-none b h) none-fits)
-
-  told-fits-buffered : isBufferedStored b ≡ true → bufferedFits (record { table = tableIn b; files = rowIn heldIn heldWidth mostOpen b filesAt }) ≡ true
-  unfolding bufferedFits tableIn
-  told-fits-buffered h =
-      let l : length b ≡ bufferedSize = formed-size heldFlags heldWidth bufferedSize b h in
-      let y : every isByte b ≡ true = formed-bytes heldFlags heldWidth bufferedSize b h in
-      and-both _ _ (row-are entryIn entryFits entryWidth b (entry-fits b y) entries 0 (omega arith))
-      (row-are heldIn heldFits heldWidth b (held-fits b y) mostOpen filesAt (omega arith))
-
-  pub read-fits-buffered : bufferedFits (bufferedIn b) ≡ true
-  read-fits-buffered = either (isBufferedStored b) (λ h. rw (buffered-is b h) (told-fits-buffered h)) (λ h. rw (buffered-none b h) none-fits-buffered)
+  pub read-fits : bufferedFits (sessionIn u b) ≡ true
+  read-fits = either (isSession u b) (λ h. rw (session-is u b h) (told-fits h)) (λ h. rw (session-none u b h) none-fits)

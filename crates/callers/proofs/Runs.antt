@@ -1,9 +1,8 @@
 -- A run on lent bytes is the run on the session that they are: each step leaves bytes that are the next session. One argument for both engines.
-use mathlib.Core.Path.{_≡_, refl, sym, ap, ap₂, _∙_, fun-ext}
-use mathlib.Core.Bool.{true, false}
+use mathlib.Core.Path.{_≡_, refl, sym, ap, ap₂, _∙_}
+use mathlib.Core.Bool.{Bool, true}
 use mathlib.Core.List.{List, [], _∷_, map}
 use Prim.Native.Nat.{ℕ, _+_}
-use Rattle.geometry.specs.Bytes.{part}
 use Rattle.geometry.specs.Lists.{every, numbersFrom}
 use Rattle.geometry.specs.Sizes.{entries}
 use Rattle.geometry.proofs.Tests.{either, and-left, and-right, chosen, not-chosen}
@@ -11,61 +10,48 @@ use Rattle.requests.specs.Numbers.{numberOf}
 use Rattle.sessions.specs.Session.{bufferedLegal}
 use Rattle.tapes.specs.Model.{Asked, Report}
 use Rattle.judging.specs.Lent.{lentAfter}
-use Rattle.board.specs.Board as board
-use Rattle.demands.specs.Engine.{Engine, Standing, spotsOf, ifLook, shownBy, answered, stepOf, reportOf, reports, run, mounted, areBytes, giveBytes, inBytes, sound}
-use Rattle.demands.specs.Demand1.{Orderly, Passing}
+use Rattle.storing.specs.Stored.{hasBuffers, isSession}
+use Rattle.storing.proofs.Read.{session-size, told-by-size}
+use Rattle.demands.specs.Engine.{Engine, Standing, spotsOf, shownBy, answered, stepOf, reportOf, reports, run, mounted, areBytes, giveBytes, inBytes}
 use Rattle.demands.specs.Writes.{inRun}
 use Rattle.demands.proofs.Answers.{bytes-image, bytes-given}
 use Rattle.demands.proofs.Illegal.{nothing-changed}
 use Rattle.demands.proofs.Sound.{sound-image}
-use Rattle.callers.specs.Lent.{lentEngine}
-use Rattle.requests.specs.declared.Answer.the-variants.{Met}
-use Rattle.requests.specs.declared.Edge.{Edge}
+use Rattle.callers.specs.Lent.{engineOf, readBy, lentEngine}
+use Rattle.callers.proofs.Kept.{orderly, passing, reads, refuses, Back, starts, goes}
 use Rattle.requests.specs.declared.Request.{Request}
-use Rattle.sessions.specs.declared.BufferedSession.{BufferedSession}
 
--- the engine on sessions as values
-abbrev pub valueEngine : {S : Type 0} → (S → BufferedSession) → board.Engine S → (List ℕ → S → ℕ → ℕ → List ℕ) → Engine
-valueEngine {S} seen B look = record { Session = S; seen = seen; mount = B .mount; request = B .step; position = B .spot; look = look }
-
--- a session is read back from the bytes that it is stored in
-abbrev pub Back : {S : Type 0} → board.Engine S → S → Type 0
-Back B s = B .read (B .stored s) ≡ s
-
--- what is known of the engine on values, and what the bytes keep of its sessions
-pub record Keeps {S : Type 0} (seen : S → BufferedSession) (B : board.Engine S) (look : List ℕ → S → ℕ → ℕ → List ℕ) : Type 0 where
-  pub orderly : Orderly (valueEngine seen B look)
-  pub passing : Passing (valueEngine seen B look)
-  pub shows : (image b : List ℕ) (i g : ℕ) → part image (board.lookPlace B image b i g 0) (board.lookSize B image b i g) ≡ look image (B .read b) i g
-  pub same : (b : List ℕ) → B .isSession b ≡ true → B .stored (B .read b) ≡ b
-  pub reads : (image b : List ℕ) → areBytes image ≡ true → sound image (seen (B .read b)) ≡ true
-  pub refuses : (image b : List ℕ) → B .isSession b ≡ false → bufferedLegal image (seen (B .read b)) ≡ false
-  pub starts : (image : List ℕ) → Back B (B .mount image .session)
-  pub goes : (image b : List ℕ) (i : ℕ) (q : Request) (given buffer : List ℕ) → areBytes image ≡ true → areBytes given ≡ true
-      → Back B (B .step image (B .read b) i q given buffer .session)
-  pub meets : (image b : List ℕ) (i : ℕ) (q : Request) (given buffer : List ℕ) (x : Edge) → B .step image (B .read b) i q given buffer .answer ≡ Met x
-      → Back B (B .step image (B .read b) i q given buffer .session)
-
-module _ {S : Type 0} {seen : S → BufferedSession} {B : board.Engine S} {look : List ℕ → S → ℕ → ℕ → List ℕ} (keeps : Keeps seen B look) where
+module _ (u : Bool) where
   abbrev E : Engine
-  E = lentEngine seen B
+  E = lentEngine u
 
   abbrev F : Engine
-  F = valueEngine seen B look
+  F = engineOf u
+
+  abbrev S : Type 0
+  S = F .Session
 
   -- the image, and the session that the bytes are
   abbrev pub opened : Standing (List ℕ) → Standing S
-  opened w = record { image = w .image; session = B .read (w .session) }
+  opened w = record { image = w .image; session = readBy u (w .session) }
 
   -- ---- one request
 
   -- the bytes that are left are the session that is left; bytes that are none stay, and so does what is read from them
-  pub read-left : (image b : List ℕ) (i : ℕ) (q : Request) (given buffer : List ℕ) → Back B (B .step image (B .read b) i q given buffer .session)
-      → B .read (E .request image b i q given buffer .session) ≡ B .step image (B .read b) i q given buffer .session
+  pub read-left : (image b : List ℕ) (i : ℕ) (q : Request) (given buffer : List ℕ) → Back u (F .request image (readBy u b) i q given buffer .session)
+      → readBy u (E .request image b i q given buffer .session) ≡ F .request image (readBy u b) i q given buffer .session
   unfolding lentAfter
-  read-left image b i q given buffer k = either (B .isSession b)
-      (λ h. ap (B .read) (chosen (B .isSession b) _ _ h) ∙ k)
-      (λ h. ap (B .read) (not-chosen (B .isSession b) _ _ h) ∙ sym (nothing-changed F (keeps .orderly) image (B .read b) i q given buffer (keeps .refuses image b h) .1))
+  read-left image b i q given buffer k = either (isSession u b)
+      (λ h. ap (readBy u) (chosen (isSession u b) _ _ h) ∙ k .1)
+      (λ h. ap (readBy u) (not-chosen (isSession u b) _ _ h) ∙ sym (nothing-changed F (orderly u) image (readBy u b) i q given buffer (refuses u image b h) .1))
+
+  -- and they are as many as the bytes were
+  size-left : (image b : List ℕ) (i : ℕ) (q : Request) (given buffer : List ℕ) → Back u (F .request image (readBy u b) i q given buffer .session)
+      → hasBuffers b ≡ u → hasBuffers (E .request image b i q given buffer .session) ≡ u
+  unfolding lentAfter
+  size-left image b i q given buffer k t = either (isSession u b)
+      (λ h. ap hasBuffers (chosen (isSession u b) _ _ h) ∙ told-by-size u _ (session-size u _ (k .0)))
+      (λ h. ap hasBuffers (not-chosen (isSession u b) _ _ h) ∙ t)
 
   module _ (w : Standing (List ℕ)) (a : Asked) where
     pub same-answer : answered E w a .answer ≡ answered F (opened w) a .answer
@@ -81,21 +67,27 @@ module _ {S : Type 0} {seen : S → BufferedSession} {B : board.Engine S} {look 
     same-buffer = refl
 
     same-shown : shownBy E (w .image) (w .session) (a .entry) (a .request) ≡ shownBy F (opened w .image) (opened w .session) (a .entry) (a .request)
-    same-shown = ap (λ (look : ℕ → List ℕ). ifLook look (a .request)) (fun-ext (keeps .shows (w .image) (w .session) (a .entry)))
+    same-shown = refl
 
     module _ (bytes : areBytes (w .image) ≡ true) (gives : areBytes (a .given) ≡ true) where
       -- the image stays one of bytes
       pub step-bytes : areBytes (stepOf E w a .image) ≡ true
       unfolding stepOf answered lentAfter
-      step-bytes = either (bufferedLegal (w .image) (seen (B .read (w .session))))
-          (λ ok. sound-image _ _ (keeps .passing .requests (opened w) (record { isSound = keeps .reads (w .image) (w .session) bytes; isLegal = ok }) a gives .isSound))
-          (λ l. rw (nothing-changed F (keeps .orderly) (w .image) (B .read (w .session)) (a .entry) (a .request) (a .given) (a .buffer) l .0) bytes)
+      step-bytes = either (bufferedLegal (w .image) (F .seen (readBy u (w .session))))
+          (λ ok. sound-image _ _ (passing u .requests (opened w) (record { isSound = reads u (w .image) (w .session) bytes; isLegal = ok }) a gives .isSound))
+          (λ l. rw (nothing-changed F (orderly u) (w .image) (readBy u (w .session)) (a .entry) (a .request) (a .given) (a .buffer) l .0) bytes)
 
-      read-then : B .read (answered E w a .session) ≡ answered F (opened w) a .session
+      read-then : readBy u (answered E w a .session) ≡ answered F (opened w) a .session
       unfolding answered
       read-then =
           read-left (w .image) (w .session) (a .entry) (a .request) (a .given) (a .buffer)
-          (keeps .goes (w .image) (w .session) (a .entry) (a .request) (a .given) (a .buffer) bytes gives)
+          (goes u (w .image) (w .session) (a .entry) (a .request) (a .given) (a .buffer) bytes gives)
+
+      pub size-then : hasBuffers (w .session) ≡ u → hasBuffers (stepOf E w a .session) ≡ u
+      unfolding stepOf answered
+      size-then =
+          size-left (w .image) (w .session) (a .entry) (a .request) (a .given) (a .buffer)
+          (goes u (w .image) (w .session) (a .entry) (a .request) (a .given) (a .buffer) bytes gives)
 
       pub opened-then : opened (stepOf E w a) ≡ stepOf F (opened w) a
       unfolding stepOf
@@ -103,7 +95,7 @@ module _ {S : Type 0} {seen : S → BufferedSession} {B : board.Engine S} {look 
 
       same-spots : spotsOf E (answered E w a .session) ≡ spotsOf F (answered F (opened w) a .session)
       unfolding spotsOf
-      same-spots = ap (λ (s : S). map (B .spot s) (numbersFrom 0 entries)) read-then
+      same-spots = ap (λ (s : S). map (F .position s) (numbersFrom 0 entries)) read-then
 
       same-report : reportOf E w a ≡ reportOf F (opened w) a
       unfolding reportOf
@@ -116,11 +108,11 @@ module _ {S : Type 0} {seen : S → BufferedSession} {B : board.Engine S} {look 
 
   -- ---- a run
 
-  first-gives : (a : Asked) (asked : List Asked) → giveBytes (a ∷ asked) ≡ true → areBytes (a .given) ≡ true
+  pub first-gives : (a : Asked) (asked : List Asked) → giveBytes (a ∷ asked) ≡ true → areBytes (a .given) ≡ true
   unfolding every
   first-gives a asked h = and-left (areBytes (a .given)) (giveBytes asked) h
 
-  rest-gives : (a : Asked) (asked : List Asked) → giveBytes (a ∷ asked) ≡ true → giveBytes asked ≡ true
+  pub rest-gives : (a : Asked) (asked : List Asked) → giveBytes (a ∷ asked) ≡ true → giveBytes asked ≡ true
   unfolding every
   rest-gives a asked h = and-right (areBytes (a .given)) (giveBytes asked) h
 
@@ -154,7 +146,7 @@ module _ {S : Type 0} {seen : S → BufferedSession} {B : board.Engine S} {look 
   module _ (image : List ℕ) (asked : List Asked) (fit : inBytes image asked ≡ true) where
     start-opened : opened (mounted E image) ≡ mounted F image
     unfolding mounted
-    start-opened = ap (λ (s : S). record { image = image; session = s }) (keeps .starts image)
+    start-opened = ap (λ (s : S). record { image = image; session = s }) (starts u image .1)
 
     start-bytes : areBytes (mounted E image .image) ≡ true
     unfolding mounted

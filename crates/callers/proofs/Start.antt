@@ -24,8 +24,8 @@ use Rattle.sessions.specs.declared.Session.{Session}
 use Rattle.mounting.specs.Mounting.{mounts, startWith, plainMount, bufferedMount}
 use Rattle.mounting.proofs.Mounted.{mounts-length, mounts-good}
 use Rattle.storing.specs.Fits.{fits, areBytes, areAll, entryFits, fileFits, heldFits, sessionFits, bufferedFits}
-use Rattle.storing.specs.Numbers.{isByte}
-use Rattle.callers.proofs.Read.{pow-some}
+use Rattle.tables.specs.Numbers.{isByte}
+use Rattle.callers.proofs.Read.{pow-some, fresh-fits}
 use Rattle.callers.proofs.Next.{below, entry-whole, table-every, table-many, files-every, files-four}
 
 -- ---- bytes
@@ -152,10 +152,6 @@ mount-fits image = either (mounts image)
     (λ (m : mounts image ≡ false). rw (m, plainMount) (start-fits (replicate entries freeEntry) frees-fit))
 
 -- ---- and with buffers that hold nothing
-
-pub fresh-fits : (f : OpenFile) → fileFits f ≡ true → heldFits (fresh f) ≡ true
-unfolding heldFits all fits areBytes every
-fresh-fits f h = rw h
 
 freshes-fit : (fs : List OpenFile) → every fileFits fs ≡ true → every heldFits (map fresh fs) ≡ true
 unfolding every

@@ -1,55 +1,74 @@
 -- The engines as a caller calls them, with the session in lent bytes: each of the demands' engines over what the contracts of the calls cite. And that
--- the calls from C are these engines. Definitions only.
+-- the calls are these engines. Definitions only.
 use mathlib.Core.Path.{_≡_}
+use mathlib.Core.Bool.{Bool, true, false}
 use mathlib.Core.List.{List}
 use Prim.Native.Nat.{ℕ}
 use lib.ListN.{length}
 use Rattle.geometry.specs.Bytes.{part}
 use Rattle.requests.specs.Numbers.{numberOf}
-use Rattle.sessions.specs.Session.{unheld}
+use Rattle.sessions.specs.Session.{bare, spotOf}
 use Rattle.steps.specs.Step.{After}
+use Rattle.storing.specs.Stored.{sizeOf, hasBuffers, isSession, sessionIn, stored, lentSession, plainIn, plainStored}
 use Rattle.judging.specs.Lent.{lentAfter}
-use Rattle.plain.specs.Plain as plain
-use Rattle.buffered.specs.Buffered as buffered
-use Rattle.board.specs.Board as board
-use Rattle.demands.specs.Engine.{Engine}
-use Rattle.requests.specs.declared.Answer.the-variants.{Done}
+use Rattle.engines.specs.Engines as Engines
+use Rattle.looking.specs.Looking.{lookIn}
+use Rattle.lleuadrys.specs.Calls.{Left, left, requested, mountNumber, mountBytes, lookPlace}
+use Rattle.demands.specs.Engine.{Engine, plainEngine, bufferedEngine}
 use Rattle.requests.specs.declared.Asked.the-variants.{For}
 use Rattle.requests.specs.declared.Request.{Request}
-use Rattle.sessions.specs.declared.BufferedSession.{BufferedSession}
+
+-- "Two engines": the one with buffers, and the one with none
+abbrev pub engineOf : Bool → Engine
+engineOf true = bufferedEngine
+engineOf false = plainEngine
+
+-- the session that bytes are
+abbrev pub readBy : (u : Bool) → List ℕ → engineOf u .Session
+readBy true b = sessionIn true b
+readBy false b = plainIn b
+
+-- and its bytes
+abbrev pub storedBy : (u : Bool) → engineOf u .Session → List ℕ
+storedBy true s = stored true s
+storedBy false s = plainStored s
 
 -- an engine whose session is the lent bytes: a request does its step on the session that the bytes are, and leaves the bytes of the next one. A mounting
--- writes the session that it hands out, one that is refused too. What a look shows is the part of the image that C is told
-abbrev pub lentEngine : {S : Type 0} → (S → BufferedSession) → board.Engine S → Engine
-lentEngine seen B = record {
+-- writes the session that it hands out, one that is refused too
+abbrev pub lentEngine : Bool → Engine
+lentEngine u = record {
   Session = List ℕ;
-  seen = λ b. seen (B .read b);
-  mount = λ image. record { answer = B .mount image .answer; session = B .stored (B .mount image .session) };
-  request = λ image b i q given buffer. lentAfter (B .isSession b) (B .stored) b (B .step image (B .read b) i q given buffer);
-  position = λ b. B .spot (B .read b);
-  look = λ image b i g. part image (board.lookPlace B image b i g 0) (board.lookSize B image b i g);
+  seen = λ b. engineOf u .seen (readBy u b);
+  mount = λ image. record { answer = engineOf u .mount image .answer; session = storedBy u (engineOf u .mount image .session) };
+  request = λ image b i q given buffer. lentAfter (isSession u b) (storedBy u) b (engineOf u .request image (readBy u b) i q given buffer);
+  position = λ b. engineOf u .position (readBy u b);
+  look = λ image b. engineOf u .look image (readBy u b);
 }
 
 -- with no buffer
 abbrev pub lentPlain : Engine
-lentPlain = lentEngine unheld board.plainEngine
+lentPlain = lentEngine false
 
 -- with a blocking buffer for each open file, in the session's bytes
 abbrev pub lentBuffered : Engine
-lentBuffered = lentEngine (λ s. s) board.bufferedEngine
+lentBuffered = lentEngine true
 
 -- ---- the calls
 
--- a request in Rattle is that engine's
-pub record Requests : Type 0 where
-  pub plain : (image b : List ℕ) (i : ℕ) (q : Request) (given buffer : List ℕ) → plain.requested image b i q given buffer ≡ lentPlain .request image b i q given buffer
-  pub buffered : (image b : List ℕ) (i : ℕ) (q : Request) (given buffer : List ℕ)
-      → buffered.requested image b i q given buffer ≡ lentBuffered .request image b i q given buffer
+-- what C is told of what a request comes to
+abbrev pub leftOf : After (List ℕ) → Left
+leftOf r = left (numberOf (r .answer)) (r .image) (r .session) (r .buffer)
 
--- and so are the calls from C, with a number for the answer, on as many bytes as a session takes; a refused mounting leaves them as they were
-pub record Called {S : Type 0} (seen : S → BufferedSession) (B : board.Engine S) : Type 0 where
-  pub requests : (image b : List ℕ) (i : ℕ) (q : Request) (given buffer : List ℕ) (r : After (List ℕ)) → r ≡ lentEngine seen B .request image b i q given buffer
-      → board.requested B image b i (For q) given buffer ≡ board.left (numberOf (r .answer)) (r .image) (r .session) (r .buffer)
-  pub number : (image b : List ℕ) → length b ≡ B .size → board.mountNumber B image b ≡ numberOf (lentEngine seen B .mount image .answer)
-  pub session : (image b : List ℕ) → length b ≡ B .size → lentEngine seen B .mount image .answer ≡ Done
-      → board.mountBytes B image b ≡ lentEngine seen B .mount image .session
+-- a request in Rattle is that of the engine that the number of the bytes says, on all bytes; and so are the calls from C, with a number for the answer
+pub record Called : Type 0 where
+  pub inRattle : (image b : List ℕ) (i : ℕ) (q : Request) (given buffer : List ℕ)
+      → Engines.requested image b i q given buffer ≡ lentEngine (hasBuffers b) .request image b i q given buffer
+  pub requests : (image b : List ℕ) (i : ℕ) (q : Request) (given buffer : List ℕ)
+      → requested image b i (For q) given buffer ≡ leftOf (lentEngine (hasBuffers b) .request image b i q given buffer)
+  pub positions : (b : List ℕ) (i : ℕ) → spotOf (bare (lentSession b)) i ≡ lentEngine (hasBuffers b) .position b i
+  -- what is shown, and that C is told its place and size
+  pub shows : (image b : List ℕ) (i g : ℕ) → lookIn image b i g ≡ lentEngine (hasBuffers b) .look image b i g
+  pub places : (image b : List ℕ) (i g old : ℕ) → part image (lookPlace image b i g old) (length (lookIn image b i g)) ≡ lookIn image b i g
+  -- a mounting on as many bytes as a session takes, whatever it answers
+  pub number : (u : Bool) (image b : List ℕ) → length b ≡ sizeOf u → mountNumber image b ≡ numberOf (lentEngine u .mount image .answer)
+  pub session : (u : Bool) (image b : List ℕ) → length b ≡ sizeOf u → mountBytes image b ≡ lentEngine u .mount image .session
