@@ -4,8 +4,7 @@ use directory::is_marked;
 use geometry::Geometry;
 use geometry::Place;
 ghost use mathlib.Core.Path.{_≡_};
-ghost use mathlib.Core.List.{map};
-ghost use Rattle.sessions.specs.Session.{idle, fresh, unheld, stand, placeGood};
+ghost use Rattle.sessions.specs.Session.{idle, fresh, stand, placeGood};
 ghost use Rattle.sessions.specs.Grouped.{openGood, holdGood};
 
 // An open file: its entry, its position, and for a compressed file the current place and the end place.
@@ -34,7 +33,7 @@ pub struct Holding {
     pub changed: bool,
 }
 
-// A session of the engine with no buffer.
+// A session of the engine with no buffer. In memory a session stands in lent bytes (storing); this is what they are read as.
 pub struct Session {
     pub table: [Entry; 18],
     pub files: [OpenFile; 4],
@@ -79,30 +78,6 @@ pub fn fresh(f: OpenFile) -> BufferedFile
         held: 0,
         changed: false,
         buffer: [0; 360],
-    }
-}
-
-// The open files with a fresh buffer each.
-fn fresh_files(files: [OpenFile; 4]) -> [BufferedFile; 4]
-    ensures { λ r. ⌜ r ≡ map fresh files ⌝ }
-{
-    let a = fresh(files[0]);
-    let b = fresh(files[1]);
-    let c = fresh(files[2]);
-    let d = fresh(files[3]);
-    [a, b, c, d]
-}
-
-// A session with no buffers as one with a fresh buffer for each state.
-pub fn with_buffers(s: Session) -> BufferedSession
-    ensures { λ r. ⌜ r ≡ unheld s ⌝ }
-{
-    let table = s.table;
-    let files = s.files;
-    let held = fresh_files(files);
-    BufferedSession {
-        table: table,
-        files: held,
     }
 }
 
