@@ -277,17 +277,22 @@ pub fn used_good(e: Entry, n: u32) -> bool
     if 3 < e.flags {
         return false;
     }
-    if e.kind == Geometry::UNBLOCKED {
-        unblocked_good(e)
-    } else if e.kind == Geometry::BLOCKED {
-        blocked_good(e)
-    } else if e.kind == Geometry::COMPRESSED {
-        compressed_good(e)
-    } else if e.kind == Geometry::RANDOM {
-        random_good(e)
-    } else {
-        false
+    if Geometry::BLOCKED < e.kind {
+        if e.kind == Geometry::COMPRESSED {
+            return compressed_good(e);
+        }
+        if e.kind == Geometry::RANDOM {
+            return random_good(e);
+        }
+        return false;
     }
+    if e.kind == Geometry::BLOCKED {
+        return blocked_good(e);
+    }
+    if e.kind == Geometry::UNBLOCKED {
+        return unblocked_good(e);
+    }
+    false
 }
 
 // ---- an entry found by name
