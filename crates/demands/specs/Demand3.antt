@@ -9,7 +9,7 @@ use lib.ListN.{length, getD}
 use lib.Dec.{leb, ltb}
 use Rattle.geometry.specs.Bytes.{part}
 use Rattle.geometry.specs.Lists.{every}
-use Rattle.geometry.specs.Sizes.{sector, entrySize, blocked, compressed}
+use Rattle.geometry.specs.Sizes.{sector, entrySize}
 use Rattle.directory.specs.Entries.{tableOf, entryAt}
 use Rattle.sessions.specs.Session.{hasBuffer, extent}
 use Rattle.mounting.specs.Mounting.{mounts}

@@ -1,13 +1,12 @@
 -- The table of a directory: entry i is read from the 20 bytes at 20·i, and so only the first 360 bytes matter.
 use mathlib.Core.Path.{_≡_, refl, sym, ap, _∙_, subst}
-use mathlib.Core.List.{List, [], _∷_, _++_}
+use mathlib.Core.List.{List, [], _∷_}
 use Prim.Native.Nat.{ℕ, zero, suc, _+_, _*_, _-_, _≤_, _<_, min}
 use native.Mathlib.Nat.{not-suc-le-zero, le-of-suc-le-suc}
-use native.Mathlib.Numerals.{add-one}
 use native.Mathlib.Omega.{arith}
 use native.Mathlib.Decide.{decLt}
-use lib.ListN.{length, take, drop, getD, set, replicate, length-replicate, getD-replicate, List·getD-eq-default}
-use lib.Seq.{drop-drop, length-take-le, take-suc, drop-cons, set-at, append-snoc, ext-getD}
+use lib.ListN.{length, take, drop, getD, replicate, length-replicate, getD-replicate, List·getD-eq-default}
+use lib.Seq.{drop-drop, ext-getD}
 use Rattle.geometry.specs.Bytes.{part, lay, padded}
 use Rattle.geometry.proofs.Bytes.{where-is, same-bytes, length-lay, length-part-min, length-padded, getD-lay-in, getD-lay-behind, getD-padded-in, getD-padded-behind, part-lay-apart, part-part}
 use Rattle.geometry.specs.Sizes.{entries, entrySize}
@@ -19,14 +18,6 @@ pub getD-any : {A : Type 0} (l : List A) (i : ℕ) (a b : A) → i < length l �
 getD-any [] i a b h = absurd (not-suc-le-zero h)
 getD-any (x ∷ l) zero a b h = refl
 getD-any (x ∷ l) (suc i) a b h = getD-any l i a b (le-of-suc-le-suc h)
-
--- a turn of a loop that writes f over d from the front
-pub front-more : {A : Type 0} (f d : List A) (i : ℕ) (z v : A) → i < length f → i < length d → v ≡ getD f i z
-    → set (take i f ++ drop i d) i v ≡ take (i + 1) f ++ drop (i + 1) d
-front-more {A} f d i z v hf hd e =
-    ap (λ (r : List A). set (take i f ++ r) i v) (drop-cons d i z hd)
-    ∙ set-at (take i f) (getD d i z) (drop (suc i) d) v i (length-take-le i f (omega arith))
-    ∙ rw (add-one, take-suc f i z hf, e) (sym (append-snoc (take i f) (getD f i z) (drop (suc i) d)))
 
 -- bytes laid over as many of one byte as they shall be padded to
 pub lay-over : (b n : ℕ) (xs : List ℕ) → length xs ≤ n → lay (replicate n b) 0 xs ≡ padded b n xs

@@ -306,9 +306,6 @@ pub bare-is : (u : Bool) (b : List ℕ) → isSession u b ≡ true → bare (ses
 unfolding bare filesIn
 bare-is u b h = ap bare (session-is u b h) ∙ ap (λ (fs : List OpenFile). record { table = tableIn b; files = fs }) (bare-states u b)
 
-pub bare-none : (u : Bool) (b : List ℕ) → isSession u b ≡ false → bare (sessionIn u b) ≡ bare unlawful
-bare-none u b h = ap bare (session-none u b h)
-
 -- with the rule of held sectors
 legal-is : (u : Bool) (image b : List ℕ) → isSession u b ≡ true
     → bufferedLegal image (sessionIn u b) ≡ (legal image (bareIn (width u) b) && every (heldGood (tableIn b)) (statesIn u b))

@@ -1,5 +1,5 @@
 -- A list tested from its front, by a rule of one member and a rule of two, the later member against each before it: what is done of it keeps both rules, and one member or two that break one break the whole.
-use mathlib.Core.Path.{_≡_, refl, _∙_}
+use mathlib.Core.Path.{_≡_, refl}
 use mathlib.Core.Bool.{Bool, true, false, _&&_, and-false}
 use mathlib.Core.List.{List}
 use Prim.Native.Nat.{ℕ, _+_, _≤_, _<_}
@@ -7,12 +7,7 @@ use lib.ListN.{length, take, getD}
 use lib.Seq.{take-all, length-take-le, getD-take}
 use native.Mathlib.Omega.{arith}
 use Rattle.geometry.specs.Lists.{every, pairwise}
-use Rattle.geometry.proofs.Tests.{denied, and-left, and-right, and-both, every-from, every-getD, every-more, pairwise-getD, pairwise-more}
-
--- a rule of one member, of the first i
-pub front-every-on : {A : Type 0} (p : A → Bool) (xs : List A) (i : ℕ) (d : A) → i < length xs
-    → every p (take i xs) ≡ true → p (getD xs i d) ≡ true → every p (take (i + 1) xs) ≡ true
-front-every-on p xs i d h done e = every-more p xs i d h ∙ and-both (every p (take i xs)) (p (getD xs i d)) done e
+use Rattle.geometry.proofs.Tests.{denied, and-left, and-right, every-from, every-getD, every-more, pairwise-getD, pairwise-more}
 
 module _ {A : Type 0} (one : A → Bool) (two : A → A → Bool) (xs : List A) where
   -- both rules, of the first i members
@@ -42,10 +37,6 @@ module _ {A : Type 0} (one : A → Bool) (two : A → A → Bool) (xs : List A) 
 
     pub front-one : one x ≡ false → every one xs && pairwise two xs ≡ false
     front-one a = rw (denied (every one xs) (one x) (λ e. every-getD one xs i d e h) a)
-
-    pub front-two : (j : ℕ) → j < i → two (getD xs j d) x ≡ false → every one xs && pairwise two xs ≡ false
-    front-two j l b =
-        rw (denied (pairwise two xs) (two (getD xs j d) x) (λ p. pairwise-getD two xs j i d p l h) b, and-false (every one xs))
 
     -- one that breaks the rule of two with some member before it
     pub front-some : every (λ a. two a x) (take i xs) ≡ false → (every one xs && pairwise two xs) ≡ false

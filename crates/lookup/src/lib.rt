@@ -18,10 +18,3 @@ pub fn lookup(entries: &[Entry], name: &[u8]) -> Found
     }
     Found::Nothing
 }
-
-// The same in a table held by value, for callers that lend nothing.
-pub fn lookup_in(table: [Entry; 18], name: &[u8]) -> Found
-    ensures { λ r. ⌜ told r ≡ find table (now (name .entry)) ⌝ }
-{
-    lookup(&table, name)
-}

@@ -5,12 +5,11 @@ use mathlib.Core.List.{List}
 use Prim.Native.Nat.{ℕ, _≤_, _<_}
 use native.Mathlib.Omega.{arith}
 use native.Mathlib.Decide.{decLt}
-use lib.ListN.{length, getD, set, List·getD-eq-default, length-set}
-use lib.Seq.{getD-set-same, getD-set-other}
+use lib.ListN.{length, getD, List·getD-eq-default}
 use lib.Dec.{eqb}
 use borrow.Author.Tests.{lt-ltb, le-ltb, eqb-true, eq-eqb}
 use Rattle.geometry.specs.Lists.{firstWith}
-use Rattle.geometry.proofs.Tests.{and-left, and-right, and-both, first-holds, first-below, first-is}
+use Rattle.geometry.proofs.Tests.{and-left, and-right, and-both, first-holds, first-below}
 use Rattle.sessions.specs.Session.{idle, isOf, fileOf, slotOf}
 use Rattle.sessions.specs.declared.OpenFile.{OpenFile}
 
@@ -57,14 +56,3 @@ finds files i = go (decLt (firstWith (isOf i) files) (length files))
         none : (k : ℕ) → Dec (k < length files) → isOf i (getD files k idle) ≡ false
         none k (yes l) = first-below (isOf i) files k idle (omega arith)
         none k (no l) = ap (isOf i) (List·getD-eq-default files idle (omega arith))
-
--- a state of entry i put where its file is, or is to be, is the one that is found
-pub slot-set : (files : List OpenFile) (i k : ℕ) (f : OpenFile) → k < length files → isOf i f ≡ true → ((j : ℕ) → j < k → isOf i (getD files j idle) ≡ false)
-    → (slotOf (set files k f) i ≡ k) × (fileOf (set files k f) i ≡ f)
-unfolding slotOf fileOf
-slot-set files i k f h e none =
-    let l : length (set files k f) ≡ length files = length-set files k f in
-    let g : getD (set files k f) k idle ≡ f = getD-set-same files k f idle h in
-    let w : firstWith (isOf i) (set files k f) ≡ k =
-    first-is (isOf i) (set files k f) k idle (omega arith) (λ j b. rw (getD-set-other files k j f idle (omega arith)) (none j b)) (λ b. rw g e) in
-    (rw (w, lt-ltb k (length (set files k f)) (omega arith), slotOf) w, rw w g)

@@ -5,13 +5,11 @@ use mathlib.Core.List.{List, [], _∷_, map}
 use Prim.Native.Nat.{ℕ, zero, suc, _<_}
 use native.Mathlib.Omega.{arith}
 use lib.ListN.{length, getD, set, length-map, List·getD-map}
-use lib.Seq.{getD-set-same}
 use Rattle.geometry.specs.Lists.{firstWith}
 use Rattle.geometry.proofs.Tests.{either, both-ways, chosen, not-chosen}
 use Rattle.sessions.specs.Session.{idle, fresh, bare, isOf, fileOf, slotOf}
-use Rattle.sessions.proofs.Files.{is-of, Finds, opened, closed, finds, slot-set}
+use Rattle.sessions.proofs.Files.{is-of, Finds, opened, closed, finds}
 use Rattle.steps.specs.Step.{heldOf, kept}
-use Rattle.directory.specs.declared.Entry.{Entry}
 use Rattle.sessions.specs.declared.BufferedFile.{BufferedFile}
 use Rattle.sessions.specs.declared.BufferedSession.{BufferedSession}
 use Rattle.sessions.specs.declared.OpenFile.{OpenFile}
@@ -84,20 +82,6 @@ held-file s i = go (standing s i)
 -- where it is not open, no state in use is entry i's
 pub shut-others : (s : BufferedSession) (i : ℕ) → Shut s i → (j : ℕ) → heldAt s j .file .used ≡ true → ¬ (heldAt s j .file .entry ≡ i)
 shut-others s i h j u e = both-ways (isOf i (heldAt s j .file)) (is-of i (heldAt s j .file) u e) (ap (isOf i) (sym (bare-at s j)) ∙ h .none j)
-
--- a state put in its place is the one that is found
-pub held-set : (s : BufferedSession) (i k : ℕ) → Opened s i k → (table : List Entry) (b : BufferedFile) → b .file .used ≡ true → b .file .entry ≡ i
-    → heldOf (record { table = table; files = set (s .files) k b }) i ≡ b
-unfolding heldOf
-held-set s i k o table b u e =
-    let t : BufferedSession = record { table = table; files = set (s .files) k b } in
-    let z : (slotOf (bare t .files) i ≡ k) × (fileOf (bare t .files) i ≡ b .file) = found in
-    chosen (fileOf (bare t .files) i .used) _ (fresh idle) (ap (λ (f : OpenFile). f .used) (z .1) ∙ u)
-    ∙ ap (heldAt t) (z .0)
-    ∙ getD-set-same (s .files) k b (fresh idle) (o .inside)
-  where
-    found : (slotOf (bare (record { table = table; files = set (s .files) k b }) .files) i ≡ k) × (fileOf (bare (record { table = table; files = set (s .files) k b }) .files) i ≡ b .file)
-    found = unfold bare in rw (map-set (λ x. x .file) (s .files) k b) (slot-set (bare s .files) i k (b .file) (rw (length-map (s .files) (λ x. x .file)) (o .inside)) (is-of i (b .file) u e) (o .before))
 
 -- ---- the file's next state, with the buffer that it then has
 

@@ -1,20 +1,19 @@
 -- What a request comes to, judged once for both engines: the answer, the next entry and the next state of the file, and the caller's buffer.
 -- Document 01, "The tape a file is" and "Answer numbers". Definitions only.
-use mathlib.Core.Bool.{Bool, true, false, _&&_, _||_}
+use mathlib.Core.Bool.{Bool, true, false, _&&_}
 use mathlib.Core.List.{List}
 use Prim.Native.Nat.{ℕ, _+_}
 use Rattle.geometry.specs.Bytes.{lay}
 use Rattle.geometry.specs.Sizes.{compressed}
-use Rattle.directory.specs.Entries.{entryAt, isKind}
+use Rattle.directory.specs.Entries.{isKind}
 use Rattle.packing.specs.Placing.{behindNew}
 use Rattle.packing.specs.Reading.{overlaid}
 use Rattle.requests.specs.Judge.{judge}
-use Rattle.sessions.specs.Session.{extent, fileOf, hasBuffer}
+use Rattle.sessions.specs.Session.{hasBuffer}
 use Rattle.steps.specs.Next.{Scene, factsWith, moved, fileDone, fileMet, entryDone, intoBuffer}
 use Rattle.geometry.specs.declared.Place.{Place}
 use Rattle.directory.specs.declared.Entry.{Entry}
 use Rattle.sessions.specs.declared.OpenFile.{OpenFile}
-use Rattle.sessions.specs.declared.Session.{Session}
 use Rattle.requests.specs.declared.Request.{Request}
 use Rattle.requests.specs.declared.Request.the-variants.{Open, Read, Write, GranuleRead, GranuleWrite, GranuleLook, Position}
 use Rattle.requests.specs.declared.Answer.{Answer}
@@ -24,13 +23,6 @@ use Rattle.steps.specs.declared.Verdict.{Verdict}
 -- the bytes of a file's extent as the file has them: of an open one that has a buffer the held sector, if 360 bytes are lent for it, in place of its own
 unfoldable pub seenBytes : Entry → OpenFile → List ℕ → ℕ → List ℕ → List ℕ
 seenBytes e f bytes held over = elim (f .used && hasBuffer e) [ true ↦ overlaid bytes held over | false ↦ bytes ]
-
--- what a request on entry i finds in either engine
-unfoldable pub seenScene : List ℕ → Session → ℕ → List ℕ → ℕ → List ℕ → Scene
-seenScene image s held over i given =
-    let e : Entry = entryAt (s .table) i in
-    let f : OpenFile = fileOf (s .files) i in
-    record { number = i; entry = e; file = f; bytes = seenBytes e f (extent e image) held over; given = given }
 
 -- a request answered 0 changes entry and state; one answered 1 or 2 the position; any other nothing
 unfoldable pub entryNext : Answer → Request → Scene → Entry

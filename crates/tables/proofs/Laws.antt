@@ -9,9 +9,9 @@ use lib.Dec.{eqb}
 use lib.ListN.{length, take, length-append}
 use lib.Seq.{take-at, drop-at, take-length, ext-getD}
 use borrow.Author.Tests.{eq-eqb, eqb-true}
-use Rattle.geometry.specs.Bytes.{part, lay, padded, word, wordAt}
+use Rattle.geometry.specs.Bytes.{part, padded, word, wordAt}
 use Rattle.geometry.specs.Lists.{every}
-use Rattle.geometry.proofs.Bytes.{length-part-min, part-part, part-lay-same, length-padded, padded-long, wordAt-part}
+use Rattle.geometry.proofs.Bytes.{length-part-min, part-part, length-padded, padded-long, wordAt-part}
 use Rattle.geometry.proofs.Tests.{and-left, and-right, every-from}
 use Rattle.directory.specs.Entries.{entryFrom, tableOf, freeEntry}
 use Rattle.directory.specs.declared.Entry.{Entry}
@@ -19,10 +19,9 @@ use Rattle.directory.proofs.Back.{eight}
 use Rattle.directory.proofs.Table.{length-table, table-at}
 use Rattle.tables.specs.Numbers.{longAt, long}
 use Rattle.tables.specs.Rows.{rowOf, rowIn}
-use Rattle.tables.specs.Tables.{hasRows, countAt, countOf, entryIn, entryOf, entriesIn, copied}
-use Rattle.tables.proofs.Widths.{rows-fit}
+use Rattle.tables.specs.Tables.{countAt, countOf, entryIn, entryOf, entriesIn}
 use Rattle.tables.proofs.Tables.{length-entries, entry-is}
-use Rattle.tables.proofs.Laid.{length-entry, copied-there}
+use Rattle.tables.proofs.Laid.{length-entry}
 
 -- ---- edition one
 
@@ -131,17 +130,3 @@ pub all-named : (w n : ℕ) (b : List ℕ) → every isNamed (entriesIn w n b) �
 all-named w n b =
     every-from isNamed (entriesIn w n b) freeEntry λ (i : ℕ) (q : i < length (entriesIn w n b)).
     ap isNamed (entry-is w n b i (w * i) (omega (arith, length-entries w n b)) refl) ∙ in-named w b (w * i)
-
--- it is the same table
-pub copied-same : (out : List ℕ) (w : ℕ) (b : List ℕ) (n : ℕ) → hasRows 22 n out ≡ true → hasRows w n b ≡ true
-    → entriesIn 22 n (copied 22 out w b n) ≡ entriesIn w n b
-unfolding entriesIn
-copied-same out w b n h k =
-    let t : List Entry = entriesIn w n b in
-    let l : length (entriesIn w n b) ≡ n = length-entries w n b in
-    let x : List ℕ = rowOf (entryOf 22) (entriesIn w n b) in
-    let s : length (rowOf (entryOf 22) (entriesIn w n b)) ≡ 22 * length (entriesIn w n b) = row-size (entriesIn w n b) (all-named w n b) in
-    let r : 22 * n ≤ length out = rows-fit 22 n out h in
-    ap (λ (z : List ℕ). rowIn (entryIn 22) 22 n z 0) (copied-there 22 out w b n h k)
-    ∙ ap (λ (m : ℕ). rowIn (entryIn 22) 22 m (lay out 0 x) 0) (sym l)
-    ∙ row-back (entriesIn w n b) (all-named w n b) (lay out 0 x) 0 (part-lay-same out 0 x (length x) refl (omega arith))

@@ -5,4 +5,3 @@ pub mod Entries
 pub mod Tables
 pub mod Laid
 pub mod Laws
-pub mod Changed

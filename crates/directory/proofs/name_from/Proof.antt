@@ -1,3 +1,4 @@
+-- Eight zeros, with the first 8 bytes laid over them: what is past the end stays zero.
 use mathlib.Core.Path.{_≡_, ap, _∙_}
 use mathlib.Core.List.{List}
 use Prim.Native.Nat.{ℕ, min, _-_}

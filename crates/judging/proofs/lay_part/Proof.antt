@@ -8,31 +8,22 @@ use mathlib.Core.Path.{_≡_, ap, _∙_}
 use borrow.Author.Needs.{needs}
 use Rattle.judging.proofs.lay_part.Statement.{statement}
 use Rattle.judging.proofs.lay_part.Tie as tie
-use Rattle.judging.proofs.lay_part.Reads as reads
-use Rattle.judging.proofs.lay_part.Lts as lts
-use Rattle.judging.proofs.read_record.Reads as read-record-reads
 
--- src/lib.rt:283:17
 sub-read-record : tie.Need-sub-read-record
 sub-read-record c = search needs
 
--- src/lib.rt:283:17
 part-read-record-start : tie.Need-part-read-record-start
 part-read-record-start c = search needs
 
--- src/lib.rt:283:17
 part-read-record-end : tie.Need-part-read-record-end
 part-read-record-end c = search needs
 
--- src/lib.rt:283:5
 read-record-requires : tie.Need-read-record-requires
 read-record-requires c κs = search needs
 
--- src/lib.rt:279:1
 same-length : tie.Need-same-length
 same-length c = search needs
 
--- src/lib.rt:279:1
 returns : tie.Need-returns
 unfolding part
 returns c =

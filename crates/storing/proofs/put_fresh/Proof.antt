@@ -1,7 +1,6 @@
 -- The state, and a fresh buffer, if it has one.
 use mathlib.Core.Path.{ap, _∙_}
-use mathlib.Core.List.{List}
-use Prim.Native.Nat.{ℕ, _+_}
+use Prim.Native.Nat.{_+_}
 use Rattle.geometry.specs.Bytes.{lay}
 use Rattle.storing.specs.Stored.{hasBuffers, layState}
 use Rattle.sessions.specs.declared.BufferedFile.{BufferedFile}
@@ -9,72 +8,50 @@ use Rattle.storing.proofs.Laid.{fresh-put, plain-fresh, past-fresh}
 use borrow.Author.Needs.{needs}
 use Rattle.storing.proofs.put_fresh.Statement.{statement}
 use Rattle.storing.proofs.put_fresh.Tie as tie
-use Rattle.storing.proofs.put_fresh.Reads as reads
-use Rattle.storing.proofs.put_fresh.Lts as lts
-use Rattle.geometry.proofs.lay.Reads as lay-reads
-use Rattle.sessions.proofs.fresh.Reads as fresh-reads
-use Rattle.storing.proofs.has_buffers.Reads as has-buffers-reads
-use Rattle.storing.proofs.no_hold.Reads as no-hold-reads
-use Rattle.storing.proofs.put_state.Reads as put-state-reads
-use Rattle.storing.proofs.state_place.Reads as state-place-reads
 
--- src/lib.rt:201:24
 no-hold-requires : tie.Need-no-hold-requires
 no-hold-requires c κs = search needs
 
--- src/lib.rt:201:5
 put-state-requires : tie.Need-put-state-requires
 put-state-requires c κs = search needs
 
--- src/lib.rt:202:8
 has-buffers-requires : tie.Need-has-buffers-requires
 has-buffers-requires c κs = search needs
 
--- src/lib.rt:204:17
 fresh-requires : tie.Need-fresh-requires
 fresh-requires c κs = search needs
 
--- src/lib.rt:206:20
 state-place-requires : tie.Need-state-place-requires
 state-place-requires c κs = search needs
 
--- src/lib.rt:206:20
 add-lay : tie.Need-add-lay
 add-lay c = search needs
 
--- src/lib.rt:206:57
 slice-aggregate-lay : tie.Need-slice-aggregate-lay
 slice-aggregate-lay c = search needs
 
--- src/lib.rt:206:13
 lay-requires : tie.Need-lay-requires
 lay-requires c κs = search needs
 
--- src/lib.rt:198:1
 same-length : tie.Need-same-length
 same-length c = search needs
 
--- src/lib.rt:198:1
 returns : tie.Need-returns
 returns c =
     let a = c .before .before .before .before .before .before .before .before .before .before .before .before .before .before .before .before .before .before .args in
     fresh-put (a .b .now) (a .k) (a .f) _ (c .before .before .before .before .before .before .before .before .before .before .before .before .before .before .put-state .ensures ∙ ap (layState (hasBuffers (a .b .now)) (a .b .now) (a .k) (a .f)) (c .before .before .before .before .before .before .before .before .before .before .before .before .before .before .before .no-hold .ensures)) (c .before .before .before .before .before .before .before .before .before .before .has-buffers .result) (c .before .before .before .before .before .before .before .before .before .before .has-buffers .ensures) (c .before .before .before .before .before .before .before .before .before .if1 .taken) (c .before .before .before .before .before .before .before .before .if2 .taken) (c .before .before .before .before .state-place .result) (c .before .before .before .before .state-place .ensures .0) _ (c .before .before .lay .ensures ∙ ap (λ (x : BufferedFile). lay (c .before .before .before .before .before .before .before .before .before .before .before .before .before .before .put-state .last .0) (c .before .before .before .before .state-place .result + 36) (x .buffer)) (c .before .before .before .before .before .before .before .fresh .ensures))
 
--- src/lib.rt:198:1
 same-length-2 : tie.Need-same-length-2
 same-length-2 c = search needs
 
--- src/lib.rt:198:1
 returns-2 : tie.Need-returns-2
 returns-2 c =
     let a = c .before .before .before .before .before .before .before .before .before .before .args in
     past-fresh (a .b .now) (a .k) (a .f) _ (c .before .before .before .before .before .before .put-state .ensures ∙ ap (layState (hasBuffers (a .b .now)) (a .b .now) (a .k) (a .f)) (c .before .before .before .before .before .before .before .no-hold .ensures)) (c .before .before .has-buffers .result) (c .before .before .has-buffers .ensures) (c .if2 .left)
 
--- src/lib.rt:198:1
 same-length-3 : tie.Need-same-length-3
 same-length-3 c = search needs
 
--- src/lib.rt:198:1
 returns-3 : tie.Need-returns-3
 returns-3 c =
     let a = c .before .before .before .before .before .before .before .before .before .args in
