@@ -9,6 +9,7 @@ use lib.Dec.{eqb}
 use lib.ListN.{length, getD, set, length-map}
 use lib.Seq.{set-getD}
 use borrow.Author.Tests.{eqb-true, eq-eqb}
+use Rattle.geometry.specs.Bytes.{isByte}
 use Rattle.geometry.specs.Lists.{all, every}
 use Rattle.geometry.specs.Sizes.{sector, entries, mostOpen, mostSectors}
 use Rattle.geometry.proofs.Tests.{and-left, and-right, and-both, all-getD, either, every-any}
@@ -46,7 +47,6 @@ use Rattle.demands.proofs.Illegal.{nothing-changed}
 use Rattle.demands.proofs.Passing.{start}
 use Rattle.demands.proofs.Sound.{sound-of, SoundBench, all-sound}
 use Rattle.storing.specs.Fits.{fits, areBytes, areAll, entryFits, fileFits, heldFits, sessionFits, bufferedFits}
-use Rattle.tables.specs.Numbers.{isByte}
 use Rattle.callers.proofs.Next.{below, are-every, are-many, set-are, entry-parts, entry-then, file-then-fits}
 use Rattle.callers.proofs.Read.{fresh-fits}
 use Rattle.callers.proofs.Start.{every-weaker}

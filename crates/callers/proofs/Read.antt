@@ -7,12 +7,12 @@ use native.Mathlib.Nat.{pow-succ', mul-suc}
 use native.Mathlib.Omega.{arith}
 use lib.ListN.{length, getD}
 use borrow.Author.Tests.{ltb-true, lt-ltb, eq-eqb}
-use Rattle.geometry.specs.Bytes.{part, wordAt}
+use Rattle.geometry.specs.Bytes.{part, wordAt, isByte}
 use Rattle.geometry.specs.Lists.{all, every}
 use Rattle.geometry.specs.Sizes.{sector, entries, mostOpen}
 use Rattle.geometry.proofs.Bytes.{length-part-min, length-part, wordAt-small}
 use Rattle.geometry.proofs.Tests.{and-left, and-right, and-both, either, every-any}
-use Rattle.tables.specs.Numbers.{numberIn, isByte, longAt}
+use Rattle.tables.specs.Numbers.{numberIn, longAt}
 use Rattle.tables.specs.Rows.{rowIn}
 use Rattle.tables.specs.Tables.{twoWordsWide, countAt, entryIn, entriesIn}
 use Rattle.tables.proofs.Entries.{name-is}

@@ -7,7 +7,7 @@ use native.Mathlib.Omega.{arith}
 use lib.Dec.{eqb, leb}
 use lib.ListN.{length, replicate, length-map}
 use borrow.Author.Tests.{lt-ltb, leb-true, eqb-true, eqb-false, eq-eqb}
-use Rattle.geometry.specs.Bytes.{word}
+use Rattle.geometry.specs.Bytes.{word, isByte}
 use Rattle.geometry.specs.Lists.{all, every}
 use Rattle.geometry.specs.Sizes.{entries, mostOpen, mostSectors, blocked, compressed, blank, sectorsOf}
 use Rattle.geometry.proofs.Places.{lawful-most}
@@ -24,7 +24,6 @@ use Rattle.sessions.specs.declared.Session.{Session}
 use Rattle.mounting.specs.Mounting.{mounts, startWith, plainMount, bufferedMount}
 use Rattle.mounting.proofs.Mounted.{mounts-length, mounts-good}
 use Rattle.storing.specs.Fits.{fits, areBytes, areAll, entryFits, fileFits, heldFits, sessionFits, bufferedFits}
-use Rattle.tables.specs.Numbers.{isByte}
 use Rattle.callers.proofs.Read.{pow-some, fresh-fits}
 use Rattle.callers.proofs.Next.{below, entry-whole, table-every, table-many, files-every, files-four}
 

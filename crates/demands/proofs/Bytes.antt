@@ -8,7 +8,7 @@ use lib.Dec.{leb, ltb}
 use lib.ListN.{length, take, drop, replicate}
 use lib.Seq.{length-take-le}
 use borrow.Author.Tests.{lt-ltb}
-use Rattle.geometry.specs.Bytes.{part, lay, padded, word}
+use Rattle.geometry.specs.Bytes.{part, lay, padded, word, isByte}
 use Rattle.geometry.specs.Lists.{every}
 use Rattle.geometry.specs.Sizes.{sector, blocked, compressed, blank}
 use Rattle.geometry.proofs.Bytes.{fits-or, lay-fits}
@@ -27,7 +27,7 @@ use Rattle.requests.specs.declared.Order.the-variants.{WriteMark, RewindOnline,
 use Rattle.requests.specs.declared.Request.{Request}
 use Rattle.requests.specs.declared.Request.the-variants.{Open, Read, Write, GranuleRead, GranuleWrite, GranuleLook, Position}
 use Rattle.steps.proofs.Frame.{choice}
-use Rattle.demands.specs.Engine.{isByte, areBytes}
+use Rattle.demands.specs.Engine.{areBytes}
 
 abbrev pub Bytes : List ℕ → Type 0
 Bytes xs = areBytes xs ≡ true

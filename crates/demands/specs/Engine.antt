@@ -2,7 +2,7 @@
 use mathlib.Core.Bool.{Bool, _&&_}
 use mathlib.Core.List.{List, [], _∷_, map}
 use Prim.Native.Nat.{ℕ}
-use lib.Dec.{ltb}
+use Rattle.geometry.specs.Bytes.{isByte}
 use Rattle.geometry.specs.Lists.{every, numbersFrom}
 use Rattle.geometry.specs.Sizes.{entries}
 use Rattle.requests.specs.Numbers.{numberOf}
@@ -92,10 +92,6 @@ unfoldable pub mounted : (E : Engine) → List ℕ → Standing (E .Session)
 mounted E image = record { image = image; session = E .mount image .session }
 
 -- ---- what is lent are bytes, and a session is as its type says
-
--- a byte is a number below 256
-abbrev pub isByte : ℕ → Bool
-isByte x = ltb x 256
 
 abbrev pub areBytes : List ℕ → Bool
 areBytes b = every isByte b

@@ -228,7 +228,7 @@ fn unblocked_good(e: Entry) -> bool
     requires { ⌜ e .kind ≡ unblocked ⌝ }
     ensures { λ r. ⌜ r ≡ sizesGood e ⌝ }
 {
-    if !length_good(e, 3600) {
+    if !length_good(e, Geometry::LONGEST) {
         return false;
     }
     (e.count as usize) * (Geometry::sectors_for(e.length) as usize) <= (e.sectors as usize)
@@ -239,7 +239,7 @@ fn blocked_good(e: Entry) -> bool
     requires { ⌜ e .kind ≡ blocked ⌝ }
     ensures { λ r. ⌜ r ≡ sizesGood e ⌝ }
 {
-    if !length_good(e, 360) {
+    if !length_good(e, Geometry::LONGEST_BLOCKED) {
         return false;
     }
     e.count <= Geometry::capacity(e.kind, e.length, e.sectors)
@@ -250,7 +250,7 @@ fn compressed_good(e: Entry) -> bool
     requires { ⌜ e .kind ≡ compressed ⌝ }
     ensures { λ r. ⌜ r ≡ sizesGood e ⌝ }
 {
-    if !length_good(e, 132) {
+    if !length_good(e, Geometry::LONGEST_COMPRESSED) {
         return false;
     }
     e.count <= Geometry::MOST_RECORDS
@@ -261,7 +261,7 @@ fn random_good(e: Entry) -> bool
     requires { ⌜ e .kind ≡ random ⌝ }
     ensures { λ r. ⌜ r ≡ sizesGood e ⌝ }
 {
-    if !length_good(e, 3600) {
+    if !length_good(e, Geometry::LONGEST) {
         return false;
     }
     (e.count == 0) & !is_marked(e)

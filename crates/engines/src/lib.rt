@@ -105,7 +105,7 @@ fn request_in(
     i: usize,
     q: Request,
     given: &[u8],
-    code: &mut [u8; 135],
+    code: &mut [u8; Geometry::LONGEST_CODE],
     buffer: &mut [u8],
 ) -> Answer
     ensures { λ r. ⌜ afterIn r (now (image .exit)) (now (session .exit)) (now (buffer .exit))
@@ -152,6 +152,6 @@ pub fn request(
     ensures { λ r. ⌜ afterIn r (now (image .exit)) (now (session .exit)) (now (buffer .exit))
         ≡ requested (now (image .entry)) (now (session .entry)) i q (now (given .entry)) (now (buffer .entry)) ⌝ }
 {
-    let mut code = [0u8; 135];
+    let mut code = [0u8; Geometry::LONGEST_CODE];
     request_in(image, session, i, q, given, &mut code, buffer)
 }

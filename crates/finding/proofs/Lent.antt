@@ -9,7 +9,7 @@ use lib.Dec.{eqb, ltb}
 use lib.ListN.{length, take, drop, getD, List·getD-eq-default}
 use lib.Seq.{length-take-le, getD-take}
 use borrow.Author.Tests.{eq-eqb, eqb-true, lt-ltb, not-true}
-use Rattle.geometry.specs.Bytes.{part}
+use Rattle.geometry.specs.Bytes.{part, isByte}
 use Rattle.geometry.specs.Lists.{every, firstWith, howMany}
 use Rattle.geometry.specs.Sizes.{sector, entries, mostOpen}
 use Rattle.geometry.proofs.Left.{every-on, every-off, every-end}
@@ -25,7 +25,7 @@ use Rattle.sessions.specs.declared.BufferedSession.{BufferedSession}
 use Rattle.sessions.specs.declared.Holding.{Holding}
 use Rattle.sessions.specs.declared.OpenFile.{OpenFile}
 use Rattle.sessions.specs.declared.Spot.the-variants.{Closed}
-use Rattle.tables.specs.Numbers.{numberIn, isByte}
+use Rattle.tables.specs.Numbers.{numberIn}
 use Rattle.tables.specs.Tables.{twoWordsWide, hasRows}
 use Rattle.tables.specs.Tables as Tables
 use Rattle.tables.proofs.Rows.{length-row, getD-row}

@@ -3,7 +3,11 @@ use mathlib.Core.Bool.{Bool, true, false}
 use mathlib.Core.List.{List, [], _∷_, _++_}
 use Prim.Native.Nat.{ℕ, _+_, _-_, _*_, _/_, _%_}
 use lib.ListN.{length, take, drop, getD, replicate}
-use lib.Dec.{leb}
+use lib.Dec.{leb, ltb}
+
+-- a byte is a number below 256
+abbrev pub isByte : ℕ → Bool
+isByte b = ltb b 256
 
 -- the n bytes from byte `at` on, as far as there are any
 unfoldable pub part : List ℕ → ℕ → ℕ → List ℕ

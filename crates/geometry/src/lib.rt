@@ -62,6 +62,18 @@ impl Geometry {
     pub const MOST_OPEN: usize = 4;
     // The most records that a file has.
     pub const MOST_RECORDS: u32 = 65535;
+    // The byte behind a sector's last, where a place may stand.
+    pub const SECTOR_END: u32 = 360;
+    // The longest record, that of a blocked file, and that of a compressed file, with its code.
+    pub const LONGEST: u16 = 3600;
+
+    pub const LONGEST_BLOCKED: u16 = 360;
+
+    pub const LONGEST_COMPRESSED: u16 = 132;
+
+    pub const LONGEST_CODE: usize = 135;
+    // The control byte that says: go on in the next sector.
+    pub const GO_ON: u8 = 128;
     // A blank in EBCDIC.
     pub const BLANK: u8 = 0x40;
     // The kinds of entries.

@@ -204,12 +204,12 @@ fn write_coded(
     let k = p.sector as usize;
     let byte = p.byte as usize;
     if fits_here(p, code.len()) {
-        change(image, e, h, buffer, k, byte, code, 128)
+        change(image, e, h, buffer, k, byte, code, Geometry::GO_ON)
     } else if Geometry::SECTOR <= byte {
-        change(image, e, h, buffer, k + 1, 0, code, 128)
+        change(image, e, h, buffer, k + 1, 0, code, Geometry::GO_ON)
     } else {
-        let old = change(image, e, h, buffer, k, byte, &code[..0], 128);
-        change(image, e, old, buffer, k + 1, 0, code, 128)
+        let old = change(image, e, h, buffer, k, byte, &code[..0], Geometry::GO_ON);
+        change(image, e, old, buffer, k + 1, 0, code, Geometry::GO_ON)
     }
 }
 

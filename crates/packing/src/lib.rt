@@ -16,6 +16,7 @@ ghost use lib.ListN.{length, drop};
 ghost use lib.ListN as ListN;
 ghost use Rattle.geometry.specs.Bytes as Bytes;
 ghost use Rattle.geometry.specs.Sizes.{sector};
+ghost use Rattle.geometry.specs.Sizes as Sizes;
 ghost use Rattle.geometry.specs.Places.{origin};
 ghost use Rattle.coding.specs.Decode.{Decoded, answer};
 ghost use Rattle.coding.specs.Decode as Decode;
@@ -60,7 +61,7 @@ fn from_byte(sector: &[u8], o: u32) -> &[u8]
 fn goes_on(bytes: &[u8], held: u32, over: &[u8], p: Place) -> bool
     ensures { λ r. ⌜ r ≡ goesOn (overlaid (now (bytes .entry)) held (now (over .entry))) p ⌝ }
 {
-    if 360 <= p.byte {
+    if Geometry::SECTOR_END <= p.byte {
         return true;
     }
     let o = p.byte as usize;
@@ -69,7 +70,7 @@ fn goes_on(bytes: &[u8], held: u32, over: &[u8], p: Place) -> bool
     } else {
         byte_at(bytes, Geometry::SECTOR * (p.sector as usize) + o)
     };
-    (1 <= o) & (c == 128)
+    (1 <= o) & (c == Geometry::GO_ON)
 }
 
 // The end of an extent of so many sectors: byte 360 of its last.
@@ -80,7 +81,7 @@ fn extent_end(sectors: u16) -> Place
     let last = if n == 0 { 0 } else { n - 1 };
     Place {
         sector: last,
-        byte: 360,
+        byte: Geometry::SECTOR_END,
     }
 }
 
@@ -126,7 +127,7 @@ fn leads(q: Place, c: Coded) -> Led
 
 // Reads the record that starts at the place q into out; sector is that place's. A bad code leaves out as it was.
 fn read_at(sector: &[u8], q: Place, out: &mut [u8]) -> Led
-    requires { ⌜ (q .byte ≤ 360) × (length (now sector) ≤ 360) ⌝ }
+    requires { ⌜ (q .byte ≤ Sizes.sector) × (length (now sector) ≤ Sizes.sector) ⌝ }
     ensures { λ r. ⌜ (r ≡ ledTo (gotFrom q (Decode.decode (length (now (out .entry))) (drop (q .byte) (now (sector .entry))))))
         × (now (out .exit) ≡ into (gotFrom q (Decode.decode (length (now (out .entry))) (drop (q .byte) (now (sector .entry))))) (now (out .entry))) ⌝ }
 {
@@ -136,7 +137,7 @@ fn read_at(sector: &[u8], q: Place, out: &mut [u8]) -> Led
 
 // Passes over the record of that length that starts at the place q; sector is that place's.
 fn skip_at(sector: &[u8], q: Place, length: u16) -> Led
-    requires { ⌜ (q .byte ≤ 360) × (ListN.length (now sector) ≤ 360) ⌝ }
+    requires { ⌜ (q .byte ≤ Sizes.sector) × (ListN.length (now sector) ≤ Sizes.sector) ⌝ }
     ensures { λ r. ⌜ r ≡ ledTo (gotFrom q (Decode.decode length (drop (q .byte) (now (sector .entry))))) ⌝ }
 {
     let c = measure(from_byte(sector, q.byte), length as usize);
@@ -199,10 +200,10 @@ pub fn walk(bytes: &[u8], sectors: u16, length: u16, count: u32) -> Led
 pub fn fits_here(p: Place, e: usize) -> bool
     ensures { λ r. ⌜ r ≡ fitsHere p e ⌝ }
 {
-    if 360 < e {
+    if Geometry::SECTOR < e {
         return false;
     }
-    (p.byte as usize) + e <= 360
+    (p.byte as usize) + e <= Geometry::SECTOR
 }
 
 // Whether a coded record of e bytes has room at the place p of an extent of so many sectors.

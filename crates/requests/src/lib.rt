@@ -150,7 +150,7 @@ fn meet(hit: bool, x: Edge, later: Answer) -> Answer
 fn entered(f: Facts, later: Answer) -> Answer
     ensures { λ r. ⌜ r ≡ orElse (notLegal ∷ noEntry ∷ []) f later ⌝ }
 {
-    let a = refuse(f.kind == 0, Refusal::NotThere, later);
+    let a = refuse(f.kind == Geometry::FREE, Refusal::NotThere, later);
     refuse(!f.legal, Refusal::NotLegal, a)
 }
 
@@ -166,7 +166,7 @@ fn running(f: Facts, later: Answer) -> Answer
 fn sequential(f: Facts, later: Answer) -> Answer
     ensures { λ r. ⌜ r ≡ orElse (notLegal ∷ noEntry ∷ notOpen ∷ notSequential ∷ []) f later ⌝ }
 {
-    let a = refuse(f.kind == 4, Refusal::WrongSequence, later);
+    let a = refuse(f.kind == Geometry::RANDOM, Refusal::WrongSequence, later);
     running(f, a)
 }
 
@@ -211,7 +211,7 @@ fn full(f: Facts) -> bool
     let capacity = Geometry::capacity(f.kind, f.length, f.sectors);
     let here = f.here;
     let room = packing::has_room(f.sectors, here, f.code);
-    if f.kind == 3 {
+    if f.kind == Geometry::COMPRESSED {
         !room
     } else {
         capacity <= f.position
@@ -248,11 +248,11 @@ fn judge_write(f: Facts) -> Answer
     ensures { λ r. ⌜ r ≡ judge Write f ⌝ }
 {
     let room = refuse(
-        (65535 <= f.position) | full(f),
+        (Geometry::MOST_RECORDS <= f.position) | full(f),
         Refusal::NoRoom,
         Answer::Done,
     );
-    let code = refuse((f.kind == 3) & (360 < f.code), Refusal::BadSize, room);
+    let code = refuse((f.kind == Geometry::COMPRESSED) & (Geometry::SECTOR < f.code), Refusal::BadSize, room);
     let size = measured(f, code);
     let beyond = refuse(f.beyond, Refusal::WrongSequence, size);
     let protected = refuse(f.protected, Refusal::Protected, beyond);
@@ -305,7 +305,7 @@ fn judge_record_back(f: Facts) -> Answer
 {
     let start = meet(f.position == 0, Edge::BeginningOfTape, Answer::Done);
     let mark = meet(f.beyond, Edge::EndOfFile, start);
-    let kind = refuse((f.kind == 4) | (f.kind == 3), Refusal::WrongSequence, mark);
+    let kind = refuse((f.kind == Geometry::RANDOM) | (f.kind == Geometry::COMPRESSED), Refusal::WrongSequence, mark);
     running(f, kind)
 }
 

@@ -23,7 +23,7 @@ pub struct BufferedFile {
     pub holds: bool,
     pub held: u32,
     pub changed: bool,
-    pub buffer: [u8; 360],
+    pub buffer: [u8; Geometry::SECTOR],
 }
 
 // What an open file holds, without the bytes: a sector of its extent, if it holds one, and whether that is changed.
@@ -77,7 +77,7 @@ pub fn fresh(f: OpenFile) -> BufferedFile
         holds: false,
         held: 0,
         changed: false,
-        buffer: [0; 360],
+        buffer: [0; Geometry::SECTOR],
     }
 }
 

@@ -7,7 +7,7 @@ use native.Mathlib.Omega.{arith}
 use lib.Dec.{eqb}
 use lib.ListN.{length, getD}
 use borrow.Author.Tests.{eqb-true}
-use Rattle.geometry.specs.Bytes.{part}
+use Rattle.geometry.specs.Bytes.{part, isByte}
 use Rattle.geometry.specs.Lists.{every}
 use Rattle.geometry.specs.Sizes.{sector}
 use Rattle.geometry.proofs.Tests.{and-left, and-right, all-getD}
@@ -16,7 +16,6 @@ use Rattle.sessions.specs.Session.{fresh}
 use Rattle.sessions.specs.declared.BufferedFile.{BufferedFile}
 use Rattle.sessions.specs.declared.OpenFile.{OpenFile}
 use Rattle.storing.specs.Fits.{fits, areBytes, fileFits, heldFits}
-use Rattle.tables.specs.Numbers.{isByte}
 use Rattle.storing.specs.Numbers.{bytesOf, flagOf, isFlag}
 use Rattle.storing.specs.Stored.{fileWidth, heldWidth, width, placeStored, placeIn, fileStored, fileIn, fileFlags, holdStored, holdOf, heldStored, heldIn, heldFlags, stateStored, stateIn, stateFlags}
 use Rattle.storing.proofs.Laid.{length-file, length-hold}

@@ -7,6 +7,7 @@ use native.Mathlib.Omega.{arith}
 use lib.Dec.{eqb}
 use lib.ListN.{length}
 use borrow.Author.Tests.{lt-ltb}
+use Rattle.geometry.specs.Bytes.{isByte}
 use Rattle.geometry.specs.Lists.{every}
 use Rattle.geometry.specs.Sizes.{sector}
 use Rattle.geometry.proofs.Tests.{and-left, and-right, and-both, all-getD}
@@ -14,7 +15,6 @@ use Rattle.geometry.specs.declared.Place.{Place}
 use Rattle.sessions.specs.declared.BufferedFile.{BufferedFile}
 use Rattle.sessions.specs.declared.OpenFile.{OpenFile}
 use Rattle.storing.specs.Fits.{areBytes, heldFits}
-use Rattle.tables.specs.Numbers.{isByte}
 use Rattle.storing.specs.Numbers.{bytesOf, flagOf}
 use Rattle.tables.specs.Rows.{rowOf}
 use Rattle.storing.specs.Stored.{placeStored, fileStored, holdStored, heldStored, stateStored}

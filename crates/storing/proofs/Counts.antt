@@ -7,14 +7,14 @@ use native.Mathlib.Omega.{arith}
 use native.Mathlib.Decide.{decLt}
 use lib.ListN.{length, set, length-append, List·getD-eq-default}
 use lib.Seq.{take-append-le, take-length}
-use Rattle.geometry.specs.Bytes.{part, lay, word}
+use Rattle.geometry.specs.Bytes.{part, lay, word, isByte}
 use Rattle.geometry.specs.Lists.{every}
 use Rattle.geometry.specs.Sizes.{entries, mostOpen}
 use Rattle.geometry.proofs.Bytes.{length-part, lay-append, lay-part, part-part}
 use Rattle.directory.specs.Entries.{freeEntry, entryAt}
 use Rattle.directory.specs.Stamp.{restamped}
 use Rattle.directory.specs.declared.Entry.{Entry}
-use Rattle.tables.specs.Numbers.{isByte, long}
+use Rattle.tables.specs.Numbers.{long}
 use Rattle.tables.specs.Tables.{twoWordsWide, hasRows, entryIn, entryOf, countOf, layCounts}
 use Rattle.tables.proofs.Entries.{name-is}
 use Rattle.tables.proofs.Laid.{length-entry, row-there, row-not}

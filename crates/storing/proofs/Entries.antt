@@ -6,11 +6,11 @@ use Prim.Native.Nat.{ℕ, _+_, _*_, _/_, _%_, _≤_, _<_, _^_}
 use native.Mathlib.Omega.{arith}
 use lib.ListN.{length, getD}
 use borrow.Author.Tests.{lt-ltb, ltb-true}
-use Rattle.geometry.specs.Bytes.{part, word, wordAt}
+use Rattle.geometry.specs.Bytes.{part, word, wordAt, isByte}
 use Rattle.geometry.specs.Lists.{every}
 use Rattle.geometry.proofs.Tests.{and-both, all-getD, every-getD}
 use Rattle.directory.specs.declared.Entry.{Entry}
-use Rattle.tables.specs.Numbers.{isByte, long, longAt}
+use Rattle.tables.specs.Numbers.{long, longAt}
 use Rattle.tables.specs.Tables.{countAt, countOf, entryIn, entryOf}
 use Rattle.tables.proofs.Entries.{name-is}
 use Rattle.tables.proofs.Laid.{length-entry}

@@ -9,13 +9,12 @@ use lib.Dec.{eqb}
 use lib.ListN.{length, set, length-append, length-map}
 use lib.Seq.{take-length}
 use borrow.Author.Tests.{eqb-true, eq-eqb}
-use Rattle.geometry.specs.Bytes.{part}
+use Rattle.geometry.specs.Bytes.{part, isByte}
 use Rattle.geometry.specs.Lists.{all, every}
 use Rattle.geometry.specs.Sizes.{sector, entries, mostOpen}
 use Rattle.geometry.proofs.Bytes.{length-part, part-all}
 use Rattle.geometry.proofs.Tests.{and-left, and-right, all-getD}
 use Rattle.directory.specs.declared.Entry.{Entry}
-use Rattle.tables.specs.Numbers.{isByte}
 use Rattle.tables.specs.Rows.{rowOf, rowIn}
 use Rattle.tables.specs.Tables.{twoWordsWide, entryIn, entryOf, entriesIn}
 use Rattle.tables.proofs.Rows.{length-row}

@@ -8,12 +8,12 @@ use native.Mathlib.Omega.{arith}
 use lib.ListN.{length, getD}
 use lib.Seq.{drop-cons}
 use borrow.Author.Tests.{ltb-true}
-use Rattle.geometry.specs.Bytes.{part}
+use Rattle.geometry.specs.Bytes.{part, isByte}
 use Rattle.geometry.specs.Lists.{every, numbersFrom}
 use Rattle.geometry.proofs.Bytes.{same-bytes, length-part, getD-part}
 use Rattle.geometry.proofs.Numbered.{length-numbered, getD-numbered}
 use Rattle.geometry.proofs.Tests.{and-left, and-right}
-use Rattle.tables.specs.Numbers.{numberIn, isByte}
+use Rattle.tables.specs.Numbers.{numberIn}
 use Rattle.storing.specs.Numbers.{bytesOf}
 
 -- ---- bytes written out

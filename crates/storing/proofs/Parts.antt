@@ -7,11 +7,11 @@ use native.Mathlib.Omega.{arith}
 use lib.ListN.{length, take, getD, length-append}
 use lib.Seq.{take-at, drop-at, take-length, drop-cons}
 use borrow.Author.Tests.{ltb-true, leb-true}
-use Rattle.geometry.specs.Bytes.{part}
+use Rattle.geometry.specs.Bytes.{part, isByte}
 use Rattle.geometry.specs.Lists.{every}
 use Rattle.geometry.proofs.Bytes.{length-part, length-part-min, getD-part, part-part, part-split}
 use Rattle.geometry.proofs.Tests.{every-from, every-getD}
-use Rattle.tables.specs.Numbers.{numberIn, isByte}
+use Rattle.tables.specs.Numbers.{numberIn}
 use Rattle.storing.specs.Numbers.{bytesOf, flagOf, isSet, isFlag}
 use Rattle.storing.specs.Fits.{fits}
 use Rattle.storing.proofs.Numbers.{number-back, bytes-back}

@@ -8,10 +8,10 @@ use native.Mathlib.Omega.{arith}
 use lib.ListN.{length, getD}
 use lib.Dec.{eqb}
 use borrow.Author.Tests.{lt-ltb, eq-eqb, ne-eqb, eqb-true}
+use Rattle.geometry.specs.Bytes.{isByte}
 use Rattle.geometry.specs.Lists.{all, every}
 use Rattle.geometry.specs.Sizes.{mostOpen}
 use Rattle.geometry.proofs.Tests.{and-left, and-right, every-from}
-use Rattle.tables.specs.Numbers.{isByte}
 use Rattle.tables.specs.Rows.{rowIn}
 use Rattle.sessions.specs.Session.{fresh, bare, unheld}
 use Rattle.sessions.specs.declared.BufferedFile.{BufferedFile}

@@ -4,6 +4,7 @@ use mathlib.Core.List.{List, [], _∷_}
 use Prim.Native.Nat.{ℕ, _^_}
 use lib.Dec.{eqb, ltb}
 use lib.ListN.{length}
+use Rattle.geometry.specs.Bytes.{isByte}
 use Rattle.geometry.specs.Lists.{all, every}
 use Rattle.geometry.specs.Sizes.{sector, entries, mostOpen}
 use Rattle.directory.specs.declared.Entry.{Entry}
@@ -11,7 +12,6 @@ use Rattle.sessions.specs.declared.BufferedFile.{BufferedFile}
 use Rattle.sessions.specs.declared.BufferedSession.{BufferedSession}
 use Rattle.sessions.specs.declared.OpenFile.{OpenFile}
 use Rattle.sessions.specs.declared.Session.{Session}
-use Rattle.tables.specs.Numbers.{isByte}
 
 -- a number of n bytes
 unfoldable pub fits : ℕ → ℕ → Bool

@@ -4,10 +4,10 @@ use mathlib.Core.List.{List, [], _∷_, _++_}
 use Prim.Native.Nat.{ℕ, _+_, _*_}
 use lib.Dec.{eqb, ltb}
 use lib.ListN.{length, getD, replicate}
-use Rattle.geometry.specs.Bytes.{part, lay}
+use Rattle.geometry.specs.Bytes.{part, lay, isByte}
 use Rattle.geometry.specs.Lists.{all, every}
 use Rattle.geometry.specs.Sizes.{sector, entries, mostOpen}
-use Rattle.tables.specs.Numbers.{numberIn, isByte}
+use Rattle.tables.specs.Numbers.{numberIn}
 use Rattle.tables.specs.Rows.{rowOf, rowIn}
 use Rattle.directory.specs.Entries.{tableOf, freeEntry}
 use Rattle.tables.specs.Tables.{oneWordWide, twoWordsWide, hasRows, entryOf, entriesIn}

@@ -75,12 +75,12 @@ pub fn write_coded(image: &mut [u8], e: Entry, p: Place, code: &[u8])
     let sector = p.sector as usize;
     let byte = p.byte as usize;
     if fits_here(p, code.len()) {
-        change(image, e, sector, byte, code, 128);
+        change(image, e, sector, byte, code, Geometry::GO_ON);
     } else if Geometry::SECTOR <= byte {
-        change(image, e, sector + 1, 0, code, 128);
+        change(image, e, sector + 1, 0, code, Geometry::GO_ON);
     } else {
-        change(image, e, sector, byte, &code[..0], 128);
-        change(image, e, sector + 1, 0, code, 128);
+        change(image, e, sector, byte, &code[..0], Geometry::GO_ON);
+        change(image, e, sector + 1, 0, code, Geometry::GO_ON);
     }
 }
 
@@ -91,7 +91,7 @@ pub fn encode_given(e: Entry, given: &[u8], code: &mut [u8]) -> usize
     ensures { λ r. ⌜ (r ≡ length (codeGiven e (now (given .entry)))) × (now (code .exit) ≡ sets (now (code .entry)) 0 (codeGiven e (now (given .entry)))) ⌝ }
 {
     let n = e.length as usize;
-    if (e.kind == Geometry::COMPRESSED) & ((given.len() <= n) & (n <= 132)) {
+    if (e.kind == Geometry::COMPRESSED) & ((given.len() <= n) & (e.length <= Geometry::LONGEST_COMPRESSED)) {
         encode(given, code)
     } else {
         0

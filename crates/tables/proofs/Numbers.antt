@@ -8,12 +8,12 @@ use lib.Dec.{eqb}
 use lib.ListN.{length, getD}
 use lib.Seq.{drop-cons}
 use borrow.Author.Tests.{eq-eqb, eqb-true, ltb-true, lt-ltb}
-use Rattle.geometry.specs.Bytes.{part, wordAt, word}
+use Rattle.geometry.specs.Bytes.{part, wordAt, word, isByte}
 use Rattle.geometry.specs.Lists.{every, same, numbersFrom}
 use Rattle.geometry.proofs.Bytes.{same-bytes, length-part, getD-part, part-split}
 use Rattle.geometry.proofs.Numbered.{length-numbered, getD-numbered}
 use Rattle.geometry.proofs.Tests.{alike, and-left, and-right, and-both, every-from}
-use Rattle.tables.specs.Numbers.{longAt, numberIn, isByte}
+use Rattle.tables.specs.Numbers.{longAt, numberIn}
 
 -- ---- bytes written out
 

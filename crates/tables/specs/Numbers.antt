@@ -1,8 +1,6 @@
 -- Numbers in bytes: long ones, high word first, and any, low byte first, which is how bytes are compared at once. Definitions only.
-use mathlib.Core.Bool.{Bool}
 use mathlib.Core.List.{List, [], _∷_, _++_}
 use Prim.Native.Nat.{ℕ, _+_, _*_, _/_, _%_}
-use lib.Dec.{ltb}
 use Rattle.geometry.specs.Bytes.{wordAt, word}
 
 -- "two words, high word first"; past the end stand zeros
@@ -17,7 +15,3 @@ long n = word (n / 65536) ++ word (n % 65536)
 unfoldable pub numberIn : List ℕ → ℕ
 numberIn [] = 0
 numberIn (b ∷ bs) = b + 256 * numberIn bs
-
--- whether a number is a byte
-abbrev pub isByte : ℕ → Bool
-isByte b = ltb b 256

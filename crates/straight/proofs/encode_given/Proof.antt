@@ -16,12 +16,12 @@ same-length c = search needs
 
 returns : tie.Need-returns
 returns c =
-    let a = c .before .before .before .before .before .before .before .before .before .args in
+    let a = c .before .before .before .before .before .before .before .before .before .before .args in
     rw (← given-encoded (a .e) (a .given .now) (c .before .before .before .before .if1 .taken)) (c .before .before .encode .ensures)
 
 returns-2 : tie.Need-returns-2
 returns-2 c =
-    let a = c .before .before .before .before .before .args in
+    let a = c .before .before .before .before .before .before .args in
     rw (← given-none (a .e) (a .given .now) (c .if1 .left)) (refl, refl)
 
 pub encode-given-spec : {M : Type 1} → statement M
