@@ -8,12 +8,12 @@ use native.Mathlib.Decide.{decLt}
 use lib.Dec.{eqb, ltb}
 use lib.ListN.{length, take, drop, getD, List·getD-eq-default}
 use lib.Seq.{length-take-le, getD-take}
-use borrow.Author.Tests.{eq-eqb, eqb-true, lt-ltb, not-true}
+use borrow.Author.Tests.{eq-eqb, eqb-true, leb-true, lt-ltb, not-true}
 use Rattle.geometry.specs.Bytes.{part, isByte}
 use Rattle.geometry.specs.Lists.{every, firstWith, howMany}
 use Rattle.geometry.specs.Sizes.{sector, entries, mostOpen}
 use Rattle.geometry.proofs.Left.{every-on, every-off, every-end}
-use Rattle.geometry.proofs.Tests.{either, alike, every-alike, every-from, first-holds}
+use Rattle.geometry.proofs.Tests.{either, and-left, all-getD, alike, every-alike, every-from, first-holds}
 use Rattle.directory.specs.Entries.{entryAt}
 use Rattle.directory.specs.declared.Entry.{Entry}
 use Rattle.sessions.specs.Session.{idle, fresh, bare, isOf, ofOther, stand, fileOf, slotOf, openFiles, spotOf, heldGood, legal, bufferedLegal}
@@ -28,13 +28,14 @@ use Rattle.sessions.specs.declared.Spot.the-variants.{Closed}
 use Rattle.tables.specs.Numbers.{numberIn}
 use Rattle.tables.specs.Tables.{twoWordsWide, hasRows}
 use Rattle.tables.specs.Tables as Tables
+use Rattle.tables.specs.Rows.{rowIn}
 use Rattle.tables.proofs.Rows.{length-row, getD-row}
 use Rattle.tables.proofs.Widths.{rows-there}
 use Rattle.storing.specs.Numbers.{isSet, isFlag}
 use Rattle.storing.specs.Stored.{heldWidth, filesAt, width, sizeOf, hasBuffers, fileIn, fileFlags, heldIn, heldFlags, stateFlags, stateIn, holdOf, noHold, isSession, tableIn, statesIn, unlawful, sessionIn, lentSession}
-use Rattle.storing.proofs.Read.{width-least, width-most, asked, other-size, session-size, session-is, session-none, bare-states}
+use Rattle.storing.proofs.Read.{width-least, width-most, asked, other-size, session-size, session-flags, session-is, session-none, bare-states}
 use Rattle.storing.proofs.Illegal.{unlawful-held}
-use Rattle.finding.specs.Lent.{Spaced, filesIn, bareIn, ifUsed, inUse, stateAt, lentBy, lentIn, bufferAt, ownState, seenOf, seenIn}
+use Rattle.finding.specs.Lent.{Spaced, Flagged, filesIn, bareIn, ifUsed, inUse, stateAt, lentBy, lentIn, bufferAt, ownState, seenOf, seenIn}
 
 -- ---- the table
 
@@ -78,6 +79,46 @@ module _ (u : Bool) (b : List ℕ) (w : ℕ) (pw : w ≡ width u) where
   spaced t =
       let l : length b ≡ filesAt + width u * mostOpen = session-size u b t ∙ (unfold sizeOf in refl) in
       (omega (arith, width-least u), omega (arith, width-most u), omega arith)
+
+  -- each state of a session says by 0 or 1 whether it is in use
+  pub flagged : isSession u b ≡ true → Flagged w b
+  unfolding stateFlags heldFlags fileFlags
+  flagged t = (says 0 _ (omega arith) (omega arith), says 1 _ (omega arith) (omega arith), says 2 _ (omega arith) (omega arith), says 3 _ (omega arith) (omega arith))
+    where
+      first : (v : Bool) (at : ℕ) → stateFlags v b at ≡ true → isFlag (getD b at 0) ≡ true
+      first true at f = and-left (isFlag (getD b at 0)) _ (and-left (isFlag (getD b at 0) && isFlag (getD b (at + 13) 0)) _ f)
+      first false at f = and-left (isFlag (getD b at 0)) _ f
+
+      says : (k at : ℕ) → filesAt + w * k ≡ at → k < mostOpen → getD b at 0 ≤ 1
+      says k at e h =
+          let flags : List Bool = rowIn (stateFlags u) (width u) mostOpen b filesAt in
+          let f : stateFlags u b (filesAt + width u * k) ≡ true = sym (getD-row (stateFlags u) (width u) mostOpen b filesAt k true h) ∙ all-getD flags k (session-flags u b t) in
+          let p : filesAt + width u * k ≡ at = ap (λ (m : ℕ). filesAt + m * k) (sym pw) ∙ e in
+          leb-true (getD b at 0) 1 (ap (λ (m : ℕ). isFlag (getD b m 0)) (sym p) ∙ first u (filesAt + width u * k) f)
+
+-- of states that say so by 0 or 1 as many are in use as these are together
+pub opened-sum : (w : ℕ) (b : List ℕ) → Flagged w b → getD b 396 0 + getD b (396 + w) 0 + getD b (396 + 2 * w) 0 + getD b (396 + 3 * w) 0 ≡ openFiles (filesIn w b)
+unfolding openFiles filesIn rowIn howMany fileIn
+opened-sum w b (h₀, h₁, h₂, h₃) =
+    let y₂ : 396 + 2 * w ≡ 396 + w + w = omega arith in
+    let y₃ : 396 + 3 * w ≡ 396 + w + w + w = omega arith in
+    let n₃ : ℕ = used (396 + 3 * w) 0 in
+    let n₂ : ℕ = used (396 + 2 * w) n₃ in
+    let n₁ : ℕ = used (396 + w) n₂ in
+    let e₃ : n₃ ≡ getD b (396 + 3 * w) 0 + 0 = more (getD b (396 + 3 * w) 0) 0 h₃ in
+    let e₂ : n₂ ≡ getD b (396 + 2 * w) 0 + n₃ = more (getD b (396 + 2 * w) 0) n₃ h₂ in
+    let e₁ : n₁ ≡ getD b (396 + w) 0 + n₂ = more (getD b (396 + w) 0) n₂ h₁ in
+    let e₀ : used 396 n₁ ≡ getD b 396 0 + n₁ = more (getD b 396 0) n₁ h₀ in
+    let sum : getD b 396 0 + getD b (396 + w) 0 + getD b (396 + 2 * w) 0 + getD b (396 + 3 * w) 0 ≡ used 396 n₁ = omega arith in
+    sum ∙ ap (λ (m : ℕ). used 396 (used (396 + w) (used m n₃))) y₂ ∙ ap (λ (m : ℕ). used 396 (used (396 + w) (used (396 + w + w) (used m 0)))) y₃
+  where
+    used : ℕ → ℕ → ℕ
+    used at r = elim (eqb (getD b at 0) 1) [ true ↦ suc r | false ↦ r ]
+
+    more : (x r : ℕ) → x ≤ 1 → elim (eqb x 1) [ true ↦ suc r | false ↦ r ] ≡ x + r
+    more zero r h = omega arith
+    more (suc zero) r h = omega arith
+    more (suc (suc x)) r h = absurd (omega arith)
 
 -- ---- those before number i
 

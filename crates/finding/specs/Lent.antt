@@ -20,6 +20,10 @@ use Rattle.finding.specs.declared.Seen.{Seen}
 abbrev pub Spaced : ℕ → List ℕ → Type 0
 Spaced w b = (fileWidth ≤ w) × (w ≤ heldWidth) × (filesAt + w * mostOpen ≤ length b)
 
+-- and each says by 0 or 1 whether it is in use
+abbrev pub Flagged : ℕ → List ℕ → Type 0
+Flagged w b = (getD b 396 0 ≤ 1) × (getD b (396 + w) 0 ≤ 1) × (getD b (396 + 2 * w) 0 ≤ 1) × (getD b (396 + 3 * w) 0 ≤ 1)
+
 -- those states, without their buffers
 unfoldable pub filesIn : ℕ → List ℕ → List OpenFile
 filesIn w b = rowIn fileIn w mostOpen b filesAt

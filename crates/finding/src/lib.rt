@@ -33,7 +33,7 @@ ghost use Rattle.sessions.specs.Session.{idle, bare, isOf, fileOf, slotOf, open
 ghost use Rattle.sessions.specs.Grouped.{filesGood};
 ghost use Rattle.storing.specs.Numbers.{isSet, isFlag};
 ghost use Rattle.storing.specs.Stored.{heldWidth, filesAt, width, placeIn, fileIn, fileFlags, stateFlags, heldIn, holdOf, noHold, isSession, tableIn, statesIn, unlawful, lentSession};
-ghost use Rattle.finding.specs.Lent.{Spaced, filesIn, bareIn, ifUsed, inUse, stateAt, lentIn, seenIn};
+ghost use Rattle.finding.specs.Lent.{Spaced, Flagged, filesIn, bareIn, ifUsed, inUse, stateAt, lentIn, seenIn};
 
 // What a request asks of a session: whether it is legal for the image, how many files are open, which state is the entry's or is to be,
 // the entry, its file, and what that holds.
@@ -303,21 +303,21 @@ fn first_idle(b: &[u8], w: usize) -> usize
     4
 }
 
-// How many files are open.
+// The truth value at a place as a number, 0 or 1.
+fn flag_at(b: &[u8], at: usize) -> u32
+    requires { ⌜ (at + 1 ≤ length (now b)) × (getD (now b) at 0 ≤ 1) ⌝ }
+    ensures { λ r. ⌜ (r ≡ getD (now (b .entry)) at 0) × (r ≤ 1) ⌝ }
+{
+    b[at] as u32
+}
+
+// How many files are open: each state of a session says so by 0 or 1.
 fn opened_in(b: &[u8], w: usize) -> u32
-    requires { ⌜ Spaced w (now b) ⌝ }
+    requires { ⌜ Spaced w (now b) × Flagged w (now b) ⌝ }
     ensures { λ r. ⌜ r ≡ openFiles (filesIn w (now (b .entry))) ⌝ }
 {
-    let mut n: u32 = 0;
-    let mut k: usize = 0;
-    while k < 4 {
-        let at = state_place(w, k);
-        if is_set(b, at) {
-            n += 1;
-        }
-        k += 1;
-    }
-    n
+    let at = Form::FILES;
+    flag_at(b, at) + flag_at(b, at + w) + flag_at(b, at + 2 * w) + flag_at(b, at + 3 * w)
 }
 
 // What the state at a place holds; nothing where it is not in use.

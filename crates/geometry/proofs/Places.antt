@@ -1,6 +1,6 @@
 -- Where records lie, once over the kind and the length R: records stand in order, each inside its sectors and inside the extent, and what a
 -- write of one changes touches no earlier one. Blocked records go by quotient and remainder; others by whole sectors.
-use mathlib.Core.Path.{_≡_, ap}
+use mathlib.Core.Path.{_≡_, sym, ap, _∙_}
 use mathlib.Core.Bool.{true, false, _&&_}
 use mathlib.Core.List.{List}
 use Prim.Native.Nat.{ℕ, suc, _+_, _-_, _*_, _/_, _%_, _≤_, _<_, min}
@@ -150,9 +150,13 @@ capacity-word kind R sectors h = by-kind kind
     (λ (e : kind ≡ blocked). rw (capacity-blocked kind R sectors e) (omega arith))
     (λ (n : ¬ (kind ≡ blocked)). rw (capacity-whole kind R sectors n) (omega (arith, div-le-self sectors (sectorsFor R))))
 
--- ---- sectors of extents that share none
-
 -- ---- an image of lawful length
+
+-- bytes are whole sectors exactly if as many as there are fill them
+pub whole-fills : (n : ℕ) → eqb (sector * (n / sector)) n ≡ eqb (n % sector) 0
+whole-fills n = either (eqb (n % 360) 0)
+    (λ (t : eqb (n % 360) 0 ≡ true). let z : n % 360 ≡ 0 = eqb-true (n % 360) 0 t in eq-eqb (360 * (n / 360)) n (omega arith) ∙ sym t)
+    (λ (t : eqb (n % 360) 0 ≡ false). let z : ¬ (n % 360 ≡ 0) = eqb-false (n % 360) 0 t in ne-eqb (360 * (n / 360)) n (λ (h : 360 * (n / 360) ≡ n). z (omega arith)) ∙ sym t)
 
 module _ (image : List ℕ) (h : lawfulLength image ≡ true) where
   pub lawful-whole : length image ≡ sector * sectorsOf image

@@ -99,7 +99,7 @@ impl Geometry {
         ensures { λ r. ⌜ r ≡ lawfulLength (now (image .entry)) ⌝ }
     {
         let n = Geometry::sectors_of(image);
-        (image.len() % Geometry::SECTOR == 0) & ((1 <= n) & (n <= Geometry::MOST_SECTORS))
+        (Geometry::SECTOR * n == image.len()) & ((1 <= n) & (n <= Geometry::MOST_SECTORS))
     }
 
     // The sectors that a record or granule of that length takes, where it takes whole ones.

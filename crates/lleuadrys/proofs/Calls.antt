@@ -2,25 +2,24 @@
 use mathlib.Core.Path.{_≡_, refl, sym, ap, _∙_}
 use mathlib.Core.Bool.{Bool, true, false, _||_}
 use mathlib.Core.List.{List}
-use Prim.Native.Nat.{ℕ, _+_, _*_, _≤_}
+use Prim.Native.Nat.{ℕ, _*_, _≤_}
 use native.Mathlib.Omega.{arith}
 use lib.Dec.{eqb}
 use lib.ListN.{length}
 use borrow.Author.Tests.{eq-eqb, ne-eqb}
-use Rattle.geometry.specs.Places.{placeOf, byteOf}
-use Rattle.geometry.specs.Sizes.{sector, entries, random, lawfulLength, sectorsOf}
+use Rattle.geometry.specs.Bytes.{part}
+use Rattle.geometry.specs.Sizes.{sector, entries, lawfulLength, sectorsOf}
 use Rattle.geometry.proofs.Places.{lawful-whole, lawful-some}
 use Rattle.geometry.proofs.Tests.{either, and-left}
-use Rattle.directory.specs.Entries.{entryAt}
-use Rattle.directory.specs.declared.Entry.{Entry}
-use Rattle.tables.specs.Tables.{oneWordWide, twoWordsWide, hasRows}
-use Rattle.tables.specs.Tables as Tables
+use Rattle.tables.specs.Tables.{oneWordWide, hasRows}
 use Rattle.tables.proofs.Widths.{rows-there}
 use Rattle.requests.specs.Numbers.{numberOf}
 use Rattle.mounting.specs.Mounting.{mounts, startWith, plainMount}
 use Rattle.storing.specs.Stored.{sizeOf, hasBuffers, startTable, layStart}
 use Rattle.storing.proofs.Start.{sized, other-number, start-other}
-use Rattle.looking.specs.Looking.{lookIn, lookAnswerIn}
+use Rattle.looking.specs.Looking.{lookIn, lookAnswerIn, shownIn}
+use Rattle.looking.proofs.Looks.{part-shown}
+use Rattle.looking.specs.declared.Shown.{Shown}
 use Rattle.judging.specs.Lent.{afterIn}
 use Rattle.steps.specs.Step.{After}
 use Rattle.engines.specs.Engines as Engines
@@ -79,21 +78,19 @@ module _ (image b : List ℕ) where
 
 -- ---- looks
 
-module _ (image b : List ℕ) (i g : ℕ) (r : List ℕ) (e : r ≡ lookIn image b i g) (n : ℕ) (p : n ≡ length r) (old : ℕ) where
+module _ (image b : List ℕ) (i g : ℕ) (w : Shown) (e : w ≡ shownIn image b i g) (n : ℕ) (p : n ≡ length (part image (w .at) (w .size))) (old : ℕ) where
   shown-size : n ≡ length (lookIn image b i g)
-  shown-size = p ∙ ap length e
+  shown-size = p ∙ ap (λ (s : Shown). length (part image (s .at) (s .size))) e ∙ ap length (part-shown image b i g)
 
   pub look-none : n ≡ 0 → (0 ≡ length (lookIn image b i g)) × (old ≡ lookPlace image b i g old)
   unfolding lookPlace
   look-none z = (sym z ∙ shown-size, sym (rw (eq-eqb (length (lookIn image b i g)) 0 (sym shown-size ∙ z), lookPlace)))
 
-  pub look-some : ¬ (n ≡ 0) → (x : Entry) → x ≡ entryAt (Tables.tableIn twoWordsWide entries b) i → (at : ℕ) → at ≡ sector * x .first + byteOf (placeOf random (x .length) g)
-      → (n ≡ length (lookIn image b i g)) × (at ≡ lookPlace image b i g old)
+  pub look-some : ¬ (n ≡ 0) → (n ≡ length (lookIn image b i g)) × (w .at ≡ lookPlace image b i g old)
   unfolding lookPlace
-  look-some z x q at h = (
+  look-some z = (
     shown-size,
-    h ∙ ap (λ (y : Entry). sector * y .first + byteOf (placeOf random (y .length) g)) q
-        ∙ sym (rw (ne-eqb (length (lookIn image b i g)) 0 (λ (w : length (lookIn image b i g) ≡ 0). z (shown-size ∙ w)), lookPlace)),
+    ap (λ (s : Shown). s .at) e ∙ sym (rw (ne-eqb (length (lookIn image b i g)) 0 (λ (h : length (lookIn image b i g) ≡ 0). z (shown-size ∙ h)), lookPlace)),
   )
 
 -- ---- requests

@@ -1,22 +1,16 @@
 -- What each call from C answers and leaves in what was lent. Definitions only.
 use mathlib.Core.Bool.{true, false}
 use mathlib.Core.List.{List}
-use Prim.Native.Nat.{ℕ, _+_, _*_}
+use Prim.Native.Nat.{ℕ}
 use lib.Dec.{eqb}
 use lib.ListN.{length}
-use Rattle.geometry.specs.Places.{placeOf, byteOf}
-use Rattle.geometry.specs.Sizes.{sector, entries, random}
-use Rattle.directory.specs.Entries.{entryAt}
-use Rattle.directory.specs.declared.Entry.{Entry}
-use Rattle.tables.specs.Tables.{twoWordsWide}
-use Rattle.tables.specs.Tables as Tables
 use Rattle.requests.specs.Numbers.{numberOf}
 use Rattle.requests.specs.declared.Asked.{Asked}
 use Rattle.requests.specs.declared.Asked.the-variants.{For, Unknown}
 use Rattle.mounting.specs.Mounting.{plainMount}
 use Rattle.steps.specs.Step.{After}
 use Rattle.storing.specs.Stored.{sizeOf, hasBuffers, layStart}
-use Rattle.looking.specs.Looking.{lookIn, lookAnswerIn}
+use Rattle.looking.specs.Looking.{lookIn, lookAnswerIn, shownIn}
 use Rattle.engines.specs.Engines as Engines
 use Rattle.lleuadrys.specs.Codes.{unknownNumber}
 
@@ -47,6 +41,4 @@ mountBytes image b = layStart b (plainMount image .session .table)
 
 -- where the granule that a look shows begins in the image; what was there before where it shows none
 unfoldable pub lookPlace : List ℕ → List ℕ → ℕ → ℕ → ℕ → ℕ
-lookPlace image b i g old =
-    let e : Entry = entryAt (Tables.tableIn twoWordsWide entries b) i in
-    elim (eqb (length (lookIn image b i g)) 0) [ true ↦ old | false ↦ sector * e .first + byteOf (placeOf random (e .length) g) ]
+lookPlace image b i g old = elim (eqb (length (lookIn image b i g)) 0) [ true ↦ old | false ↦ shownIn image b i g .at ]

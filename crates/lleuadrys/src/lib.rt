@@ -2,10 +2,9 @@
 // declarations.
 use coding::Coded;
 use finding::spot_in;
-use geometry::Geometry;
-use looking::granule_at;
-use looking::look;
+use geometry::part;
 use looking::look_answer;
+use looking::shown_in;
 use mounting::mounts;
 use requests::Answer;
 use requests::Asked;
@@ -14,8 +13,6 @@ use requests::number;
 use sessions::Spot;
 use storing::Form;
 use storing::put_start;
-use tables::Width;
-use tables::entry_in;
 ghost use mathlib.Core.Path.{_≡_};
 ghost use mathlib.Core.Bool.{true, false};
 ghost use Prim.Native.Nat.{min};
@@ -120,13 +117,12 @@ pub extern "C" fn lleuadrys_look(
     ensures { λ r. ⌜ (r ≡ length (lookIn (now (image .entry)) (now (session .entry)) entry granule))
         × (now (at .exit) ≡ lookPlace (now (image .entry)) (now (session .entry)) entry granule (now (at .entry))) ⌝ }
 {
-    let shown = look(image, session, entry, granule);
-    let n = shown.len();
+    let shown = shown_in(image, session, entry, granule);
+    let n = part(image, shown.at, shown.size).len();
     if n == 0 {
         return 0;
     }
-    let e = entry_in(session, Width::TWO, Geometry::ENTRIES, entry);
-    *at = granule_at(e, granule);
+    *at = shown.at;
     n
 }
 

@@ -30,7 +30,8 @@ use Rattle.storing.specs.Stored.{hasBuffers, isSession, tableIn, sessionIn, pla
 use Rattle.storing.proofs.Illegal.{none-legal, none-legal-bare}
 use Rattle.storing.proofs.Read.{session-is}
 use Rattle.finding.proofs.Lent.{plain-good}
-use Rattle.looking.specs.Looking.{lookIn, lookAnswerIn}
+use Rattle.looking.specs.Looking.{lookIn, lookAnswerIn, shownBy, shownIn}
+use Rattle.looking.specs.declared.Shown.{Shown}
 
 module _ (R g : ℕ) where
   whole : placeOf random R g ≡ record { sector = sectorsFor R * g; byte = 0 }
@@ -87,18 +88,36 @@ module _ (image b : List ℕ) (i g : ℕ) where
       by true = unfold bufferedLook in refl
       by false = unfold plainLook bare in ap (λ (a : Answer). shown a (entryAt (sessionIn false b .table) i) g image) (plain-look image b i g)
 
-  module _ (a : Answer) (ea : a ≡ bufferedLookAnswer image (lentSession b) i g) (e : Entry) (ee : e ≡ entryAt (lentSession b .table) i) (n : ℕ) (en : n ≡ numberOf a) where
-    pub look-shown : n ≡ 0 → (at : ℕ) → at ≡ sector * e .first + byteOf (placeOf random (e .length) g) → (r : List ℕ) → r ≡ part image at (e .length) → r ≡ lookIn image b i g
-    unfolding shown
-    look-shown z at q r p =
-        let d : a ≡ Done = done-is a (sym en ∙ z) in
-        p ∙ ap (λ (k : ℕ). part image k (e .length)) q ∙ ap (λ (x : Entry). shown Done x g image) ee ∙ ap (λ (x : Answer). shown x (entryAt (lentSession b .table) i) g image) (sym d ∙ ea) ∙ shown-is
+  -- the part that is told is what the look shows
+  told-part : (a : Answer) (e : Entry) → part image (shownBy a e g .at) (shownBy a e g .size) ≡ shown a e g image
+  unfolding shownBy shown part
+  told-part Done e = refl
+  told-part (Met x) e = refl
+  told-part (Refused x) e = refl
 
-    pub look-empty : n ≢ 0 → (r : List ℕ) → r ≡ part image 0 0 → r ≡ lookIn image b i g
-    unfolding part shown
-    look-empty z r p = p ∙ none a (λ (h : numberOf a ≡ 0). z (en ∙ h)) ∙ ap (λ (x : Answer). shown x (entryAt (lentSession b .table) i) g image) ea ∙ shown-is
+  pub part-shown : part image (shownIn image b i g .at) (shownIn image b i g .size) ≡ lookIn image b i g
+  unfolding shownIn
+  part-shown =
+      let e : Entry = entryAt (lentSession b .table) i in
+      told-part (lookAnswerIn image b i g) e ∙ ap (λ (a : Answer). shown a e g image) (sym (answered (bufferedLookAnswer image (lentSession b) i g) refl)) ∙ shown-is
+
+  -- a look that is answered 0 shows the granule, and any other nothing
+  module _ (a : Answer) (ea : a ≡ bufferedLookAnswer image (lentSession b) i g) (e : Entry) (ee : e ≡ entryAt (lentSession b .table) i) (n : ℕ) (en : n ≡ numberOf a) where
+    by-answer : shownBy a e g ≡ shownIn image b i g
+    unfolding shownIn
+    by-answer = ap (λ (x : Answer). shownBy x e g) (answered a ea) ∙ ap (λ (x : Entry). shownBy (lookAnswerIn image b i g) x g) ee
+
+    pub shown-granule : n ≡ 0 → (at : ℕ) → at ≡ sector * e .first + byteOf (placeOf random (e .length) g) → record { at = at; size = e .length } ≡ shownIn image b i g
+    unfolding shownBy
+    shown-granule z at q =
+        let d : a ≡ Done = done-is a (sym en ∙ z) in
+        ap (λ (k : ℕ). record { at = k; size = e .length }) q ∙ ap (λ (x : Answer). shownBy x e g) (sym d) ∙ by-answer
+
+    pub shown-none : n ≢ 0 → record { at = 0; size = 0 } ≡ shownIn image b i g
+    unfolding shownBy
+    shown-none z = none a (λ (h : numberOf a ≡ 0). z (en ∙ h)) ∙ by-answer
       where
-        none : (x : Answer) → numberOf x ≢ 0 → [] ≡ shown x (entryAt (lentSession b .table) i) g image
+        none : (x : Answer) → numberOf x ≢ 0 → record { at = 0; size = 0 } ≡ shownBy x e g
         none Done h = absurd (h refl)
         none (Met y) h = refl
         none (Refused y) h = refl

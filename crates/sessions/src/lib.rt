@@ -77,7 +77,7 @@ pub fn fresh(f: OpenFile) -> BufferedFile
         holds: false,
         held: 0,
         changed: false,
-        buffer: [0; Geometry::SECTOR],
+        buffer: [0; 360],
     }
 }
 

@@ -3,7 +3,7 @@ use mathlib.Core.Path.{refl, sym, _∙_}
 use native.Mathlib.Omega.{arith}
 use borrow.Author.Tests.{not-true, not-false}
 use Rattle.storing.specs.Stored.{width}
-use Rattle.finding.proofs.Lent.{spaced, none-seen, seen-none, seen-is}
+use Rattle.finding.proofs.Lent.{spaced, flagged, none-seen, seen-none, seen-is}
 use borrow.Author.Needs.{needs}
 use Rattle.finding.proofs.find_in.Statement.{statement}
 use Rattle.finding.proofs.find_in.Tie as tie
@@ -44,7 +44,7 @@ file-in-requires : tie.Need-file-in-requires
 file-in-requires c κs = (spaced (c .before .before .before .before .before .before .before .before .has-buffers .result) (c .before .before .before .before .before .before .before .before .before .before .before .args .b .now) _ (c .before .before .before .before .before .state-width .ensures .0) (sym (c .before .before .before .before .before .before .before .is-session .ensures) ∙ not-false _ (c .before .before .before .before .before .before .if1 .left)), c .before .before .slot-in .ensures)
 
 opened-in-requires : tie.Need-opened-in-requires
-opened-in-requires c κs = spaced (c .before .before .before .before .before .before .before .before .before .has-buffers .result) (c .before .before .before .before .before .before .before .before .before .before .before .before .args .b .now) _ (c .before .before .before .before .before .before .state-width .ensures .0) (sym (c .before .before .before .before .before .before .before .before .is-session .ensures) ∙ not-false _ (c .before .before .before .before .before .before .before .if1 .left))
+opened-in-requires c κs = (spaced (c .before .before .before .before .before .before .before .before .before .has-buffers .result) (c .before .before .before .before .before .before .before .before .before .before .before .before .args .b .now) _ (c .before .before .before .before .before .before .state-width .ensures .0) (sym (c .before .before .before .before .before .before .before .before .is-session .ensures) ∙ not-false _ (c .before .before .before .before .before .before .before .if1 .left)), flagged (c .before .before .before .before .before .before .before .before .before .has-buffers .result) (c .before .before .before .before .before .before .before .before .before .before .before .before .args .b .now) _ (c .before .before .before .before .before .before .state-width .ensures .0) (sym (c .before .before .before .before .before .before .before .before .is-session .ensures) ∙ not-false _ (c .before .before .before .before .before .before .before .if1 .left)))
 
 returns-2 : tie.Need-returns-2
 returns-2 c =
