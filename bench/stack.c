@@ -3,8 +3,8 @@
    A call runs on a stack of its own, which is painted before: every word of it is another number. The lowest word that the
    call changed says how deep it went. It is counted from the stack pointer just before the call: the return address counts;
    what this program has on its own stack does not, nor do the arguments that go by the stack, nor bytes that are set aside and
-   never touched. Nothing here goes by time, and what is tried is the same in every run. Exit status: 1 where something was not tried that should be, or the stack of its
-   own was too small. */
+   never touched. Nothing here goes by time, and what is tried is the same in every run. A call that goes past its stack is
+   ended by the page below it. Exit status: 1 where something was not tried that should be. */
 #include <stddef.h>
 #include <stdint.h>
 #include <stdio.h>
