@@ -18,7 +18,7 @@ use Rattle.demands.specs.Engine.{Engine, plainEngine, bufferedEngine}
 use Rattle.requests.specs.declared.Asked.the-variants.{For}
 use Rattle.requests.specs.declared.Request.{Request}
 
--- "Two engines": the one with buffers, and the one with none
+-- two engines: the one with buffers, and the one with none
 abbrev pub engineOf : Bool → Engine
 engineOf true = bufferedEngine
 engineOf false = plainEngine

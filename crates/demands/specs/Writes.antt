@@ -1,4 +1,4 @@
--- How many sectors of the image each engine writes. "A blocking buffer of 360 bytes, put back before another sector takes it" is there to save
+-- How many sectors of the image each engine writes. "a blocking buffer of 360 bytes, put back before another sector takes it" is there to save
 -- them: of a blocked file's records that lie in one sector the plain engine writes each, the buffered engine all at once. As statements over engines.
 use mathlib.Core.Path.{_≡_}
 use mathlib.Core.Bool.{Bool, true, false, _&&_}

@@ -25,12 +25,12 @@ capital c = (leb 0xC1 c && leb c 0xC9) || ((leb 0xD1 c && leb c 0xD9) || (leb 0x
 unfoldable pub digit : ℕ → Bool
 digit c = leb 0xF0 c && leb c 0xF9
 
--- "capitals or digits, then only blanks"
+-- "followed by capitals or digits (F0–F9), then only blanks"
 unfoldable pub restOfName : List ℕ → Bool
 restOfName [] = true
 restOfName (c ∷ cs) = ((capital c || digit c) && restOfName cs) || every (λ b. eqb b blank) (c ∷ cs)
 
--- "a name is a capital letter followed by .."
+-- "a name is a capital letter (C1–C9, D1–D9, E2–E9)", and what follows it
 unfoldable pub isName : List ℕ → Bool
 isName [] = false
 isName (c ∷ cs) = capital c && restOfName cs

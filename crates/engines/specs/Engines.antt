@@ -1,4 +1,4 @@
--- Document 01, "Two engines": a request on a session that stands in lent bytes, in the engine that their number tells. Definitions only.
+-- A request on a session that stands in lent bytes, in the engine that their number tells. Definitions only.
 use mathlib.Core.Bool.{true, false}
 use mathlib.Core.List.{List}
 use Prim.Native.Nat.{ℕ}

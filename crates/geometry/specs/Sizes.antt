@@ -24,7 +24,7 @@ mostSectors = 4096
 abbrev pub mostOpen : ℕ
 mostOpen = 4
 
--- "65,535 records"
+-- "at most 65,535"
 abbrev pub mostRecords : ℕ
 mostRecords = 65535
 

@@ -1,6 +1,6 @@
 // Sizes, places and bytes: document 01's "Sizes and the directory" and "Where a record lies".
 ghost use mathlib.Core.Path.{_≡_};
-ghost use Prim.Native.Nat.{_+_, _/_, _%_, _≤_, min};
+ghost use Prim.Native.Nat.{_+_, _*_, _/_, _%_, _≤_, min};
 ghost use lib.Dec.{leb};
 ghost use lib.ListN.{length, getD, set, replicate};
 ghost use Rattle.geometry.specs.Lists as Lists;
@@ -173,6 +173,13 @@ pub fn word_at(s: &[u8], at: usize) -> u16
     } else {
         0
     }
+}
+
+// A word with its two bytes the other way round.
+pub fn turned(x: u16) -> u16
+    ensures { λ r. ⌜ r ≡ 256 * (x % 256) + x / 256 ⌝ }
+{
+    256 * (x % 256) + x / 256
 }
 
 // The n bytes from byte at on, as far as there are any.

@@ -1,4 +1,4 @@
-// The blocking buffer: document 01's "Where a record lies". A file takes the sectors that it reads or changes into its buffer, which is lent.
+// The blocking buffer: document 01's "The tape a file is". A file takes the sectors that it reads or changes into its buffer, which is lent.
 // A buffer of another size than a sector's stays as it is, and nothing is put back from it.
 use directory::Entry;
 use directory::stamp;

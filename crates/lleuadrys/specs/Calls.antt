@@ -35,7 +35,7 @@ requested image b i Unknown given buffer = left (unknownNumber (lookAnswerIn ima
 unfoldable pub mountNumber : List ℕ → List ℕ → ℕ
 mountNumber image b = elim (eqb (length b) (sizeOf (hasBuffers b))) [ true ↦ numberOf (plainMount image .answer) | false ↦ 12 ]
 
--- the session that mounting hands out; "a refused mounting hands out a table with no used entry and nothing open"
+-- the session that mounting hands out; "A refused mounting hands out a table with no used entry and nothing open"
 unfoldable pub mountBytes : List ℕ → List ℕ → List ℕ
 mountBytes image b = layStart b (plainMount image .session .table)
 

@@ -252,7 +252,11 @@ fn judge_write(f: Facts) -> Answer
         Refusal::NoRoom,
         Answer::Done,
     );
-    let code = refuse((f.kind == Geometry::COMPRESSED) & (Geometry::SECTOR < f.code), Refusal::BadSize, room);
+    let code = refuse(
+        (f.kind == Geometry::COMPRESSED) & (Geometry::SECTOR < f.code),
+        Refusal::BadSize,
+        room,
+    );
     let size = measured(f, code);
     let beyond = refuse(f.beyond, Refusal::WrongSequence, size);
     let protected = refuse(f.protected, Refusal::Protected, beyond);
@@ -305,7 +309,11 @@ fn judge_record_back(f: Facts) -> Answer
 {
     let start = meet(f.position == 0, Edge::BeginningOfTape, Answer::Done);
     let mark = meet(f.beyond, Edge::EndOfFile, start);
-    let kind = refuse((f.kind == Geometry::RANDOM) | (f.kind == Geometry::COMPRESSED), Refusal::WrongSequence, mark);
+    let kind = refuse(
+        (f.kind == Geometry::RANDOM) | (f.kind == Geometry::COMPRESSED),
+        Refusal::WrongSequence,
+        mark,
+    );
     running(f, kind)
 }
 

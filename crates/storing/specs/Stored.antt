@@ -35,7 +35,7 @@ heldWidth = 396
 abbrev pub filesAt : ℕ
 filesAt = 396
 
--- "Two engines": a session has a buffer for each open file, or none; the bytes of a state
+-- a session has a buffer for each open file, or none; the bytes of a state
 unfoldable pub width : Bool → ℕ
 width true = heldWidth
 width false = fileWidth

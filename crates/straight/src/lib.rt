@@ -91,7 +91,9 @@ pub fn encode_given(e: Entry, given: &[u8], code: &mut [u8]) -> usize
     ensures { λ r. ⌜ (r ≡ length (codeGiven e (now (given .entry)))) × (now (code .exit) ≡ sets (now (code .entry)) 0 (codeGiven e (now (given .entry)))) ⌝ }
 {
     let n = e.length as usize;
-    if (e.kind == Geometry::COMPRESSED) & ((given.len() <= n) & (e.length <= Geometry::LONGEST_COMPRESSED)) {
+    if (e.kind == Geometry::COMPRESSED)
+        & ((given.len() <= n) & (e.length <= Geometry::LONGEST_COMPRESSED))
+    {
         encode(given, code)
     } else {
         0

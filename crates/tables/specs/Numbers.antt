@@ -3,7 +3,7 @@ use mathlib.Core.List.{List, [], _∷_, _++_}
 use Prim.Native.Nat.{ℕ, _+_, _*_, _/_, _%_}
 use Rattle.geometry.specs.Bytes.{wordAt, word}
 
--- "two words, high word first"; past the end stand zeros
+-- two words, high word first; past the end stand zeros
 unfoldable pub longAt : List ℕ → ℕ → ℕ
 longAt b at = 65536 * wordAt b at + wordAt b (at + 2)
 

@@ -1,13 +1,12 @@
-// A table of entries in lent bytes, judged, searched and changed where it lies: n entries of 20 bytes, as on an image, or of 22, whose count is two words.
+// A table of entries in lent bytes, judged and searched where it lies: n entries of 20 bytes, as on an image, or of 22, whose count is two words.
 // Fields: name 8, kind 2, length 2, first 2, sectors 2, count 2 or 4, flags 2; high byte first.
 use directory::Entry;
 use directory::Found;
-use directory::entry_bytes;
 use directory::free_entry;
 use directory::is_name;
 use directory::used_good;
 use geometry::Geometry;
-use geometry::lay;
+use geometry::turned;
 ghost use mathlib.Core.Path.{_≡_};
 ghost use mathlib.Core.Bool.{true, false, _&&_};
 ghost use mathlib.Core.List.{[], _∷_, _++_};
@@ -21,8 +20,7 @@ ghost use Rattle.directory.specs.Rules.{namesDiffer, extentsApart, tableGood};
 ghost use Rattle.directory.specs.Grouped.{isZero, entryGood, twoGood};
 ghost use Rattle.directory.specs.Search.{told, find};
 ghost use Rattle.tables.specs.Numbers.{longAt, numberIn};
-ghost use Rattle.tables.specs.Rows.{rowOf};
-ghost use Rattle.tables.specs.Tables.{Wide, hasRows, countAt, entryIn, entryOf, countOf, entriesIn, tableIn, layEntry, layCounts, copied};
+ghost use Rattle.tables.specs.Tables.{Wide, hasRows, countAt, entryIn, entriesIn, tableIn};
 
 // The widths of an entry in bytes.
 pub struct Width {}
@@ -74,14 +72,7 @@ fn eight_in(b: &[u8], at: usize) -> usize
     (four_in(b, at) as usize) + 4294967296 * (four_in(b, at + 4) as usize)
 }
 
-// A number of two bytes with its bytes the other way round.
-fn turned(x: u16) -> u16
-    ensures { λ r. ⌜ r ≡ 256 * (x % 256) + x / 256 ⌝ }
-{
-    256 * (x % 256) + x / 256
-}
-
-// One of four.
+// A number of four bytes with its bytes the other way round.
 fn turned_long(x: u32) -> u32
     ensures { λ r. ⌜ r ≡ 16777216 * (x % 256) + 65536 * (x / 256 % 256) + 256 * (x / 65536 % 256) + x / 16777216 ⌝ }
 {
@@ -382,179 +373,4 @@ pub fn search_in(b: &[u8], width: usize, rows: usize, name: &[u8]) -> Found
         i += 1;
     }
     Found::Nothing
-}
-
-// ---- laying a part of a table
-
-// A name and seven words, as 22 bytes. Words are turned, so that those which were read and turned are laid as they were read.
-fn twenty_two_bytes(
-    name: [u8; 8],
-    kind: u16,
-    length: u16,
-    first: u16,
-    sectors: u16,
-    high: u16,
-    low: u16,
-    flags: u16,
-) -> [u8; 22]
-    ensures { λ r. ⌜ r ≡ name ++ (Bytes.word kind ++ (Bytes.word length ++ (Bytes.word first ++ (Bytes.word sectors ++ (Bytes.word high ++ (Bytes.word low ++ Bytes.word flags)))))) ⌝ }
-{
-    let k = turned(kind);
-    let l = turned(length);
-    let f = turned(first);
-    let s = turned(sectors);
-    let h = turned(high);
-    let w = turned(low);
-    let g = turned(flags);
-    [
-        name[0],
-        name[1],
-        name[2],
-        name[3],
-        name[4],
-        name[5],
-        name[6],
-        name[7],
-        (k % 256) as u8,
-        (k / 256) as u8,
-        (l % 256) as u8,
-        (l / 256) as u8,
-        (f % 256) as u8,
-        (f / 256) as u8,
-        (s % 256) as u8,
-        (s / 256) as u8,
-        (h % 256) as u8,
-        (h / 256) as u8,
-        (w % 256) as u8,
-        (w / 256) as u8,
-        (g % 256) as u8,
-        (g / 256) as u8,
-    ]
-}
-
-// The 22 bytes of an entry.
-fn wide_bytes(e: Entry) -> [u8; 22]
-    ensures { λ r. ⌜ r ≡ entryOf 22 e ⌝ }
-{
-    let name = e.name;
-    let high = (e.count / 65536) as u16;
-    let low = (e.count % 65536) as u16;
-    twenty_two_bytes(
-        name,
-        e.kind,
-        e.length,
-        e.first,
-        e.sectors,
-        high,
-        low,
-        e.flags,
-    )
-}
-
-// Lays an entry over the bytes from byte at on, if they fit there.
-fn put_row(b: &mut [u8], width: usize, at: usize, e: Entry)
-    requires { ⌜ Wide width ⌝ }
-    ensures { λ _. ⌜ (now (b .exit) ≡ Bytes.lay (now (b .entry)) at (entryOf width e)) × (length (entryOf width e) ≡ width) ⌝ }
-{
-    if width == Width::ONE {
-        let x = entry_bytes(e);
-        lay(b, at, &x);
-    } else {
-        let x = wide_bytes(e);
-        lay(b, at, &x);
-    }
-}
-
-// Lays an entry over entry i of the table that bytes hold, if there is one of that number.
-pub fn put_entry(b: &mut [u8], width: usize, rows: usize, i: usize, e: Entry)
-    ensures { λ _. ⌜ now (b .exit) ≡ layEntry width rows (now (b .entry)) i e ⌝ }
-{
-    if has_rows(b, width, rows) {
-        if i < rows {
-            put_row(b, width, width * i, e);
-        }
-    }
-}
-
-// A count of one word, and flags, as four bytes.
-fn four_bytes(count: u32, flags: u16) -> [u8; 4]
-    ensures { λ r. ⌜ r ≡ countOf 20 count ++ Bytes.word flags ⌝ }
-{
-    let low = count % 65536;
-    [
-        (low / 256) as u8,
-        (low % 256) as u8,
-        (flags / 256) as u8,
-        (flags % 256) as u8,
-    ]
-}
-
-// A count of two words, and flags, as six bytes.
-fn six_bytes(count: u32, flags: u16) -> [u8; 6]
-    ensures { λ r. ⌜ r ≡ countOf 22 count ++ Bytes.word flags ⌝ }
-{
-    let high = count / 65536;
-    let low = count % 65536;
-    [
-        (high / 256) as u8,
-        (high % 256) as u8,
-        (low / 256) as u8,
-        (low % 256) as u8,
-        (flags / 256) as u8,
-        (flags % 256) as u8,
-    ]
-}
-
-// Lays a count and flags over the bytes from byte at on, if they fit there.
-fn put_count(b: &mut [u8], width: usize, at: usize, count: u32, flags: u16)
-    requires { ⌜ Wide width ⌝ }
-    ensures { λ _. ⌜ now (b .exit) ≡ Bytes.lay (now (b .entry)) at (countOf width count ++ Bytes.word flags) ⌝ }
-{
-    if width == Width::ONE {
-        let x = four_bytes(count, flags);
-        lay(b, at, &x);
-    } else {
-        let x = six_bytes(count, flags);
-        lay(b, at, &x);
-    }
-}
-
-// Lays a count and flags over those of entry i of the table that bytes hold, if there is one of that number.
-pub fn put_counts(b: &mut [u8], width: usize, rows: usize, i: usize, count: u32, flags: u16)
-    ensures { λ _. ⌜ now (b .exit) ≡ layCounts width rows (now (b .entry)) i count flags ⌝ }
-{
-    if has_rows(b, width, rows) {
-        if i < rows {
-            put_count(b, width, width * i + 16, count, flags);
-        }
-    }
-}
-
-// ---- a table in another width
-
-// Lays the table of so many entries that the bytes b hold over the front of out, each entry in as many bytes as it is to have there; nothing where either has no room for it.
-pub fn copy_table(out: &mut [u8], to: usize, b: &[u8], from: usize, rows: usize)
-    ensures { λ _. ⌜ now (out .exit) ≡ copied to (now (out .entry)) from (now (b .entry)) rows ⌝ }
-{
-    if has_rows(out, to, rows) {
-        if has_rows(b, from, rows) {
-            copy_rows(out, to, b, from, rows);
-        }
-    }
-}
-
-fn copy_rows(out: &mut [u8], to: usize, b: &[u8], from: usize, rows: usize)
-    requires { ⌜ (Wide to × (to * rows ≤ length (now out))) × (Wide from × (from * rows ≤ length (now b))) ⌝ }
-    ensures { λ _. ⌜ now (out .exit) ≡ Bytes.lay (now (out .entry)) 0 (rowOf (entryOf to) (entriesIn from rows (now (b .entry)))) ⌝ }
-{
-    let mut at: usize = 0;
-    let mut end: usize = 0;
-    let mut i: usize = 0;
-    while i < rows {
-        let e = entry_at(b, from, at);
-        put_row(out, to, end, e);
-        at += from;
-        end += to;
-        i += 1;
-    }
 }

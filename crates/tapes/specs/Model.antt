@@ -171,7 +171,7 @@ modelRun ms (a ∷ rest) = modelRun (modelStep ms a) rest
 unfoldable pub nothingOpen : List Model → Bool
 nothingOpen ms = every (λ m. not (isOpenModel m)) ms
 
--- ---- "files opened since mounting"
+-- ---- the files opened since mounting
 
 unfoldable pub isOpening : Request → Bool
 isOpening Open = true

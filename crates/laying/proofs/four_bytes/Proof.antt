@@ -1,10 +1,10 @@
--- `tables::four_bytes` meets its contract: the code is the definition.
+-- `laying::four_bytes` meets its contract: the code is the definition.
 use mathlib.Core.Path.{refl}
 use Rattle.geometry.specs.Bytes.{word}
 use Rattle.tables.specs.Tables.{countOf}
 use borrow.Author.Needs.{needs}
-use Rattle.tables.proofs.four_bytes.Statement.{statement}
-use Rattle.tables.proofs.four_bytes.Tie as tie
+use Rattle.laying.proofs.four_bytes.Statement.{statement}
+use Rattle.laying.proofs.four_bytes.Tie as tie
 
 cast-t5 : tie.Need-cast-t5
 cast-t5 c = search needs

@@ -1,10 +1,10 @@
--- `tables::wide_bytes` meets its contract: the code is the definition.
+-- `laying::wide_bytes` meets its contract: the code is the definition.
 use Rattle.geometry.specs.Bytes.{word}
 use Rattle.tables.specs.Numbers.{long}
 use Rattle.tables.specs.Tables.{countOf, entryOf}
 use borrow.Author.Needs.{needs}
-use Rattle.tables.proofs.wide_bytes.Statement.{statement}
-use Rattle.tables.proofs.wide_bytes.Tie as tie
+use Rattle.laying.proofs.wide_bytes.Statement.{statement}
+use Rattle.laying.proofs.wide_bytes.Tie as tie
 
 cast-high : tie.Need-cast-high
 cast-high c = search needs

@@ -1,12 +1,12 @@
--- `tables::copy_table` meets its contract: the table laid, if there is room for it on both sides.
+-- `laying::copy_table` meets its contract: the table laid, if there is room for it on both sides.
 use mathlib.Core.Path.{_≡_, sym, _∙_}
 use mathlib.Core.Bool.{true}
 use Rattle.tables.specs.Tables.{hasRows}
 use Rattle.tables.proofs.Widths.{rows-wide, rows-fit}
 use Rattle.tables.proofs.Laid.{copied-there, copied-not, copied-none}
 use borrow.Author.Needs.{needs}
-use Rattle.tables.proofs.copy_table.Statement.{statement}
-use Rattle.tables.proofs.copy_table.Tie as tie
+use Rattle.laying.proofs.copy_table.Statement.{statement}
+use Rattle.laying.proofs.copy_table.Tie as tie
 
 has-rows-requires : tie.Need-has-rows-requires
 has-rows-requires c κs = search needs

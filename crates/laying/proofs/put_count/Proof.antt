@@ -1,11 +1,11 @@
--- `tables::put_count` meets its contract: four bytes or six, by the width.
+-- `laying::put_count` meets its contract: four bytes or six, by the width.
 use mathlib.Core.Path.{sym, ap, _∙_}
 use mathlib.Core.List.{_++_}
 use Rattle.geometry.specs.Bytes.{lay, word}
 use Rattle.tables.proofs.Laid.{counts-one, counts-two}
 use borrow.Author.Needs.{needs}
-use Rattle.tables.proofs.put_count.Statement.{statement}
-use Rattle.tables.proofs.put_count.Tie as tie
+use Rattle.laying.proofs.put_count.Statement.{statement}
+use Rattle.laying.proofs.put_count.Tie as tie
 
 four-bytes-requires : tie.Need-four-bytes-requires
 four-bytes-requires c κs = search needs

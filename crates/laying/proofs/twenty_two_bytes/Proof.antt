@@ -1,13 +1,13 @@
--- `tables::twenty_two_bytes` meets its contract: the name byte by byte, then the bytes of each word, which are those of the word turned, the other way round.
+-- `laying::twenty_two_bytes` meets its contract: the name byte by byte, then the bytes of each word, which are those of the word turned, the other way round.
 use mathlib.Core.Path.{_≡_, sym, ap}
 use mathlib.Core.List.{List, [], _∷_, _++_}
 use Prim.Native.Nat.{ℕ, _/_, _%_}
 use lib.ListN.{length}
 use Rattle.directory.proofs.Back.{eight}
 use Rattle.tables.proofs.Numbers.{turned-back}
 use borrow.Author.Needs.{needs}
-use Rattle.tables.proofs.twenty_two_bytes.Statement.{statement}
-use Rattle.tables.proofs.twenty_two_bytes.Tie as tie
+use Rattle.laying.proofs.twenty_two_bytes.Statement.{statement}
+use Rattle.laying.proofs.twenty_two_bytes.Tie as tie
 
 turned-requires : tie.Need-turned-requires
 turned-requires c κs = search needs

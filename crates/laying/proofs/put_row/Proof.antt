@@ -1,11 +1,11 @@
--- `tables::put_row` meets its contract: 20 bytes or 22, by the width.
+-- `laying::put_row` meets its contract: 20 bytes or 22, by the width.
 use mathlib.Core.Path.{_≡_, sym, ap, _∙_}
 use lib.ListN.{length}
 use Rattle.geometry.specs.Bytes.{lay}
 use Rattle.tables.proofs.Laid.{entry-one, entry-two, length-entry}
 use borrow.Author.Needs.{needs}
-use Rattle.tables.proofs.put_row.Statement.{statement}
-use Rattle.tables.proofs.put_row.Tie as tie
+use Rattle.laying.proofs.put_row.Statement.{statement}
+use Rattle.laying.proofs.put_row.Tie as tie
 
 entry-bytes-requires : tie.Need-entry-bytes-requires
 entry-bytes-requires c κs = search needs

@@ -1,4 +1,4 @@
--- `tables::copy_rows` meets its contract: each entry is laid behind those before it.
+-- `laying::copy_rows` meets its contract: each entry is laid behind those before it.
 use Prim.Native.Nat.{_-_, _*_, _≤_, _<_}
 use mathlib.Core.Path.{_≡_, refl, sym, ap, _∙_}
 use native.Mathlib.Omega.{arith}
@@ -7,40 +7,31 @@ use lib.Seq.{take-all}
 use Rattle.geometry.specs.Bytes.{lay}
 use Rattle.geometry.proofs.Bytes.{length-lay}
 use Rattle.directory.specs.Entries.{freeEntry}
 use Rattle.tables.specs.Rows.{rowOf}
 use Rattle.tables.specs.Tables.{entryOf, entriesIn}
 use Rattle.tables.proofs.Widths.{below, one-on}
 use Rattle.tables.proofs.Rows.{laid-none, size-none, turn}
 use Rattle.tables.proofs.Tables.{length-entries, entry-is}
 use borrow.Author.Needs.{needs}
-use Rattle.tables.proofs.copy_rows.Statement.{statement}
-use Rattle.tables.proofs.copy_rows.Tie as tie
+use Rattle.laying.proofs.copy_rows.Statement.{statement}
+use Rattle.laying.proofs.copy_rows.Tie as tie
 
 abbrev Inv-loop : tie.InvT-loop
-Inv-loop out₀ to b from rows at₀ end₀ i₀ out at end i = (out ≡ lay out₀ 0 (rowOf (entryOf to) (take i (entriesIn from rows b)))) × (length (rowOf (entryOf to) (take i (entriesIn from rows b))) ≡ to * i) × (at ≡ from * i) × (end ≡ to * i) × (i ≤ rows) × (length out ≡ length out₀)
+Inv-loop out₀ to b from rows end₀ i₀ out end i = (out ≡ lay out₀ 0 (rowOf (entryOf to) (take i (entriesIn from rows b)))) × (length (rowOf (entryOf to) (take i (entriesIn from rows b))) ≡ to * i) × (end ≡ to * i) × (i ≤ rows) × (length out ≡ length out₀)
 
 abbrev μ-loop : tie.MeasureT-loop
-μ-loop out₀ to b from rows at₀ end₀ i₀ out at end i = rows - i
+μ-loop out₀ to b from rows end₀ i₀ out end i = rows - i
 
 loop-holds : tie.Need-loop-holds Inv-loop μ-loop
 loop-holds c =
     let a = c .before .before .args in
-    (laid-none (entryOf (a .to)) (a .out .now) 0 (entriesIn (a .from) (a .rows) (a .b .now)), size-none (entryOf (a .to)) (entriesIn (a .from) (a .rows) (a .b .now)) ∙ omega arith, omega arith, omega arith, omega arith, refl)
+    (laid-none (entryOf (a .to)) (a .out .now) 0 (entriesIn (a .from) (a .rows) (a .b .now)), size-none (entryOf (a .to)) (entriesIn (a .from) (a .rows) (a .b .now)) ∙ omega arith, omega arith, omega arith, refl)
 
-entry-at-requires : tie.Need-entry-at-requires Inv-loop μ-loop
-entry-at-requires c κs =
-    let a = c .before .before .before .before .args in
-    let l = c .before .loop in
-    (c .before .before .before .before .pre .1 .0, omega (arith, below (a .from) (l .i) (a .rows) (omega arith)))
+entry-in-requires : tie.Need-entry-in-requires Inv-loop μ-loop
+entry-in-requires c κs = search needs
 
 put-row-requires : tie.Need-put-row-requires Inv-loop μ-loop
 put-row-requires c κs = search needs
-
-add-at : tie.Need-add-at Inv-loop μ-loop
-add-at c =
-    let a = c .before .before .before .before .before .before .before .before .before .args in
-    let l = c .before .before .before .before .before .before .loop in
-    omega (arith, below (a .from) (l .i) (a .rows) (omega arith))
 
 add-end : tie.Need-add-end Inv-loop μ-loop
 add-end c =
@@ -81,9 +72,8 @@ copy-rows-spec =
     Inv-loop
     μ-loop
     loop-holds
-    entry-at-requires
+    entry-in-requires
     put-row-requires
-    add-at
     add-end
     add-i
     loop-less

@@ -1,11 +1,11 @@
--- `tables::six_bytes` meets its contract: the code is the definition.
+-- `laying::six_bytes` meets its contract: the code is the definition.
 use mathlib.Core.Path.{refl}
 use Rattle.geometry.specs.Bytes.{word}
 use Rattle.tables.specs.Numbers.{long}
 use Rattle.tables.specs.Tables.{countOf}
 use borrow.Author.Needs.{needs}
-use Rattle.tables.proofs.six_bytes.Statement.{statement}
-use Rattle.tables.proofs.six_bytes.Tie as tie
+use Rattle.laying.proofs.six_bytes.Statement.{statement}
+use Rattle.laying.proofs.six_bytes.Tie as tie
 
 cast-t6 : tie.Need-cast-t6
 cast-t6 c = search needs

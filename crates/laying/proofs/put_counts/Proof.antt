@@ -1,15 +1,15 @@
--- `tables::put_counts` meets its contract: laid at its place, if there is such a place.
+-- `laying::put_counts` meets its contract: laid at its place, if there is such a place.
 use Prim.Native.Nat.{_*_, _≤_}
 use mathlib.Core.Path.{_≡_, refl, sym, _∙_}
 use mathlib.Core.Bool.{true}
 use native.Mathlib.Omega.{arith}
 use lib.ListN.{length}
 use Rattle.tables.specs.Tables.{hasRows}
 use Rattle.tables.proofs.Widths.{below, rows-wide, rows-fit}
 use Rattle.tables.proofs.Laid.{row-there, row-not, row-none}
 use borrow.Author.Needs.{needs}
-use Rattle.tables.proofs.put_counts.Statement.{statement}
-use Rattle.tables.proofs.put_counts.Tie as tie
+use Rattle.laying.proofs.put_counts.Statement.{statement}
+use Rattle.laying.proofs.put_counts.Tie as tie
 
 has-rows-requires : tie.Need-has-rows-requires
 has-rows-requires c κs = search needs
