@@ -90,10 +90,11 @@ fn in_order() -> bool {
     ok
 }
 
-// Plays the script on an image. Whether it came to the script's end.
+// Mounts an image and plays the script on it. Whether it came to the script's end.
 fn play_script(image: &mut [u8], session: &mut [u8]) -> bool {
     let script = open_read(SCRIPT);
     let bytes = open_read(BYTES);
+    play_io::mount(image, session);
     let ok = play_io::play(script, bytes, MOST, image, session);
     libc::close(script);
     libc::close(bytes);
