@@ -1,5 +1,6 @@
 // Plays each case of a file, which its first argument names, with both engines. docs/PLAY.md has the form of that file. What it must print is
 // what the second program, written from document 01 alone, says of each case.
+use arguments::open_read;
 use geometry::lay;
 use geometry::part;
 use geometry::put;
@@ -202,18 +203,11 @@ fn play_all(f: Files, whole: &mut [u8], room: &mut [u8]) {
     }
 }
 
-// Opens the file of the cases.
-fn open() -> i32 {
-    let mut path = io::buffer();
-    let n = os::arg(1, &mut path);
-    os::open_read(&path[..n])
-}
-
 fn main() {
     let f = Files {
-        cases: open(),
-        script: open(),
-        bytes: open(),
+        cases: open_read(1),
+        script: open_read(1),
+        bytes: open_read(1),
     };
     let mut whole = io::large_buffer();
     let mut room = io::large_buffer();
