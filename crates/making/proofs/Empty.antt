@@ -69,7 +69,7 @@ unfolding lawfulLength sectorsOf
 lawful-zeros bytes = let l : length (zeros (length bytes)) ≡ length bytes = length-replicate (length bytes) 0 in rw l
 
 module _ (bytes : List ℕ) where
-  pub emptied-lawful : lawfulLength bytes ≡ true → emptied bytes ≡ zeros (length bytes)
+  emptied-lawful : lawfulLength bytes ≡ true → emptied bytes ≡ zeros (length bytes)
   unfolding emptied
   emptied-lawful h = chosen (lawfulLength bytes) (zeros (length bytes)) bytes h
 

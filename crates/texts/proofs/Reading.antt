@@ -36,15 +36,12 @@ outside a b x h =
     (λ t. rw (lt-leb a x (ltb-true x a t)))
     (λ t. rw (lt-leb x b (ltb-true b x t)) (and-false (leb a x)))
 
-inside : (a b x : ℕ) → (ltb x a || ltb b x) ≡ false → (a ≤ x) × (x ≤ b)
+pub inside : (a b x : ℕ) → (ltb x a || ltb b x) ≡ false → (a ≤ x) × (x ≤ b)
 inside a b x h = (ltb-false x a (neither-left (ltb x a) (ltb b x) h), ltb-false b x (neither-right (ltb x a) (ltb b x) h))
 
 -- ---- one digit behind a number
 
 module _ (n c : ℕ) where
-  pub a-digit : (ltb c 48 || ltb 57 c) ≡ false → (48 ≤ c) × (c ≤ 57)
-  a-digit h = inside 48 57 c h
-
   pub digit-fits : 48 ≤ c → c ≤ 57 → 10 * n + (c - 48) < 4294967296 → withDigit (Number n) c ≡ Number (10 * n + (c - 48))
   unfolding withDigit
   digit-fits h k l =

@@ -38,6 +38,7 @@ pub record Wrote (old : List ℕ) (a : ℕ) (xs new : List ℕ) (b : ℕ) : Type
 
 -- ---- and back
 
+-- a digit's character, from 0 to 9
 abbrev pub isDigit : ℕ → Bool
 isDigit c = leb 48 c && leb c 57
 

@@ -2,7 +2,7 @@
 use mathlib.Core.Path.{sym}
 use native.Mathlib.Omega.{arith}
 use borrow.Author.Needs.{needs}
-use Rattle.texts.proofs.Reading.{no-digit, a-digit, digit-fits, digit-too-many}
+use Rattle.texts.proofs.Reading.{inside, no-digit, digit-fits, digit-too-many}
 use Rattle.texts.proofs.longer.Statement.{statement}
 use Rattle.texts.proofs.longer.Tie as tie
 
@@ -13,7 +13,7 @@ mul-m : tie.Need-mul-m
 mul-m c = search needs
 
 sub-m : tie.Need-sub-m
-sub-m c = a-digit (c .before .args .n) (c .before .args .c) (c .if1 .left) .0
+sub-m c = inside 48 57 (c .before .args .c) (c .if1 .left) .0
 
 cast-m : tie.Need-cast-m
 cast-m c = search needs
@@ -27,7 +27,7 @@ cast-t12 c = search needs
 returns-2 : tie.Need-returns-2
 returns-2 c =
     let a = c .before .before .args in
-    let d = a-digit (a .n) (a .c) (c .before .if1 .left) in
+    let d = inside 48 57 (a .c) (c .before .if1 .left) in
     sym (digit-fits (a .n) (a .c) (d .0) (d .1) (c .if2 .taken))
 
 returns-3 : tie.Need-returns-3
