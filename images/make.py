@@ -2,6 +2,7 @@
 """Makes the images that this repository ships, from document 01 alone: python3 images/make.py
 
     images/station.img         a station's store: files of all four kinds
+    crates/play/data/image     the same, for the script that docs/PLAY.md shows
     crates/list/data/passa     document 01's whole case of a listing: ten sectors, one file
 """
 import os
@@ -18,7 +19,7 @@ def word(n):
 
 
 def ebcdic(text):
-    """Capitals, digits and blanks in EBCDIC."""
+    """Text in EBCDIC."""
     return text.encode("cp037")
 
 
@@ -102,30 +103,39 @@ class Image:
 
 def passa():
     """Document 01's whole case of a listing."""
-    records = [ebcdic("PASS 0412  AOS 071402  LOS 072511"), ebcdic("FRAMES 660  LOST 3")]
+    records = [ebcdic("PASS 412   AOS 07:14:02   LOS 07:25:11"), ebcdic("660 FRAMES HEARD   3 LOST")]
     return Image(10).add("PASSA", COMPRESSED, 80, 4, records, MARKED)
+
+
+def clock(seconds):
+    """A time of the day."""
+    return f"{seconds // 3600 % 24:02d}:{seconds // 60 % 60:02d}:{seconds % 60:02d}"
+
+
+def pass_line(k):
+    """What is logged of pass k: one round of the satellite behind another, each heard for eleven minutes."""
+    rises = 26042 + 5681 * k
+    times = f"AOS {clock(rises)}   LOS {clock(rises + 669)}"
+    return f"PASS {412 + k} ON DAY {105 + rises // 86400}   {times}   {8 + (55 - 17 * k) % 80} DEGREES HIGH   {660 - 7 * k} FRAMES"
 
 
 def station():
     """What the club's store might hold after a few passes."""
-    log = [
-        ebcdic(f"PASS {412 + k}   AOS {71402 + 9441 * k:06d}   LOS {72511 + 9441 * k:06d}   MAX EL {(63 - 17 * k) % 90:02d}   FRAMES {660 - 7 * k}")
-        for k in range(12)
-    ]
+    log = [ebcdic(pass_line(k)) for k in range(12)]
     notes = [
         ebcdic(text)
         for text in (
-            "BUS VOLTAGE LOW AT AOS",
-            "BATTERY 2        27 V        HEATER OFF",
-            "TRANSMITTER B ON FROM PASS 415",
+            "AOS IS WHEN WE BEGIN TO HEAR THE SATELLITE. LOS IS WHEN WE LOSE IT.",
+            "BATTERY 2        27 VOLTS        HEATER OFF",
+            "TRANSMITTER B IS ON FROM PASS 415. THE BUS VOLTAGE WAS LOW AT AOS.",
             "",
-            "ANTENNA            STOW BEFORE WIND OVER 40",
+            "ANTENNA          POINT IT STRAIGHT UP BEFORE A STORM.",
         )
     ]
     # a frame: its number, then eleven channels of the bus
     frames = [word(k) + b"".join(word((2048 + 37 * k + 511 * c + k * c * c) % 4096) for c in range(11)) for k in range(100)]
     # an element set in two sectors
-    elements = [ebcdic(f"ELEMENTS {k}   EPOCH 71{60 + k:03d}   INCL 1016   MEAN MOTION 1253   ").ljust(400, b"\x40") for k in range(3)]
+    elements = [ebcdic(f"ORBIT ON DAY {103 + k} OF 1971   TILT 97.4 DEGREES   15.21 ROUNDS A DAY").ljust(400, b"\x40") for k in range(3)]
     # a calibration curve of 180 points for each channel
     curves = [b"".join(word(4096 - (p * p * (c + 1)) // 32 % 4096) for p in range(180)) for c in range(8)]
     image = Image(40)
@@ -140,6 +150,6 @@ def station():
 
 if __name__ == "__main__":
     top = os.path.dirname(os.path.dirname(os.path.abspath(__file__)))
-    for path, image in (("images/station.img", station()), ("crates/list/data/passa", passa())):
+    for path, image in (("images/station.img", station()), ("crates/play/data/image", station()), ("crates/list/data/passa", passa())):
         with open(os.path.join(top, path), "wb") as out:
             out.write(image.bytes)

@@ -22,9 +22,7 @@ fn main() {
         list(STDIN_FILENO);
         return;
     }
-    let mut path = io::buffer();
-    let n = os::arg(1, &mut path);
-    let fd = os::open_read(&path[..n]);
+    let fd = arguments::open_read(1);
     list(fd);
     libc::close(fd);
 }

@@ -51,9 +51,7 @@ fn list_all(fd: i32) {
 }
 
 fn main() {
-    let mut path = io::buffer();
-    let n = os::arg(1, &mut path);
-    let fd = os::open_read(&path[..n]);
+    let fd = arguments::open_read(1);
     list_all(fd);
     libc::close(fd);
 }

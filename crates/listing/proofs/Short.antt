@@ -1,9 +1,9 @@
 -- A listing has at most 1,596 bytes: a number has at most ten digits, a name eight letters, and there are 18 entries.
 use mathlib.Core.Bool.{Bool, true, false, _&&_}
 use mathlib.Core.List.{List, [], _∷_}
-use Prim.Native.Nat.{ℕ, zero, suc, _≤_, _+_, _*_, _/_}
+use Prim.Native.Nat.{ℕ, zero, suc, _≤_, _+_, _*_}
 use native.Mathlib.Omega.{arith}
-use lib.Dec.{eqb, leb, ltb}
+use lib.Dec.{eqb, leb}
 use lib.ListN.{length, take, drop, length-append, length-replicate}
 use Rattle.geometry.specs.Sizes.{sectorsOf, blank, entries, entrySize}
 use Rattle.geometry.specs.Bytes.{padded}
@@ -11,23 +11,17 @@ use Rattle.geometry.proofs.Bytes.{length-part-min}
 use Rattle.directory.specs.declared.Entry.{Entry}
 use Rattle.directory.specs.Entries.{entryFrom, entriesFrom, tableOf, isFree}
 use Rattle.mounting.specs.Mounting.{mounts}
-use Rattle.texts.specs.Texts.{spelled, decimalIn, decimal, spaced}
+use Rattle.texts.specs.Texts.{spelled, decimal, spaced}
+use Rattle.texts.proofs.Reading.{digits-count}
 use Rattle.listing.specs.Listing.{header, badImage, nameText, line, linesFrom, listing}
 
 either-short : (b : Bool) (xs ys : List ℕ) (n : ℕ) → length xs ≤ n → length ys ≤ n → length {A = ℕ} (elim b [ true ↦ xs | false ↦ ys ]) ≤ n
 either-short true xs ys n h k = h
 either-short false xs ys n h k = k
 
-digits-short : (k n : ℕ) → length (decimalIn k n) ≤ k
-unfolding decimalIn
-digits-short zero n = omega arith
-digits-short (suc k) n =
-    let more : length (decimalIn k (n / 10)) ≤ k = digits-short k (n / 10) in
-    either-short (ltb n 10) _ _ (suc k) (omega arith) (rw length-append (omega arith))
-
 number-short : (n : ℕ) → length (decimal n) ≤ 10
 unfolding decimal
-number-short n = digits-short 10 n
+number-short n = digits-count 10 n .0
 
 name-short : (x : List ℕ) → length (nameText x) ≤ length x
 unfolding nameText

@@ -1,5 +1,7 @@
 // Plays a script of requests on an image, with one of the two engines: play plain|buffered IMAGE SCRIPT BYTES OUT. docs/PLAY.md says what
 // these files hold and what is printed.
+use arguments::complain;
+use arguments::open_read;
 use geometry::same;
 use libc::STDERR_FILENO;
 use libc::STDOUT_FILENO;
@@ -18,23 +20,6 @@ const OUT: usize = 5;
 
 // A proved loop has to end, so rows are counted up to a number that no script has.
 const MOST: u32 = 4294967295;
-
-// Prints an error's line: a text, and argument i behind it.
-fn complain(text: &[u8], i: usize) {
-    let mut word = io::buffer();
-    let n = os::arg(i, &mut word);
-    io::write_all(STDOUT_FILENO, b"ERROR ");
-    io::write_all(STDOUT_FILENO, text);
-    io::write_all(STDOUT_FILENO, &word[..n]);
-    io::write_all(STDOUT_FILENO, b"\n");
-}
-
-// Opens the file that argument i names, to read it.
-fn open_read(i: usize) -> i32 {
-    let mut path = io::buffer();
-    let n = os::arg(i, &mut path);
-    os::open_read(&path[..n])
-}
 
 // One more byte of a file: more than 0 if there is one, less if it cannot be read.
 fn more(fd: i32) -> isize {
@@ -90,10 +75,11 @@ fn in_order() -> bool {
     ok
 }
 
-// Plays the script on an image. Whether it came to the script's end.
+// Mounts an image and plays the script on it. Whether it came to the script's end.
 fn play_script(image: &mut [u8], session: &mut [u8]) -> bool {
     let script = open_read(SCRIPT);
     let bytes = open_read(BYTES);
+    play_io::mount(image, session);
     let ok = play_io::play(script, bytes, MOST, image, session);
     libc::close(script);
     libc::close(bytes);

@@ -1,5 +1,6 @@
 // Plays each case of a file, which its first argument names, with both engines. docs/PLAY.md has the form of that file. What it must print is
 // what the second program, written from document 01 alone, says of each case.
+use arguments::open_read;
 use geometry::lay;
 use geometry::part;
 use geometry::put;
@@ -10,7 +11,7 @@ use libc::STDOUT_FILENO;
 use storing::Form;
 ghost use Prim.Native.Nat.{_<_};
 
-// The file of the cases, opened three times: for the images, the rows, and the bytes given.
+// The file of the cases, opened three times: for the images and the patches, the rows, and the bytes given.
 struct Files {
     cases: i32,
     script: i32,
@@ -24,6 +25,8 @@ struct Header {
     rows: u16,
     high: u16, // how many bytes are given, in two words
     low: u16,
+    plain: u16, // how many patches there are of the plain engine's session
+    buffered: u16, // and behind them of the buffered one's
 }
 
 // What stands next in a file of cases.
@@ -46,12 +49,28 @@ fn skip(fd: i32, high: u16, low: u16) {
     libc::lseek(fd, number(high, low) as i64, SEEK_CUR);
 }
 
+// Goes on by that many patches.
+fn skip_patches(fd: i32, n: u16) {
+    libc::lseek(fd, ((n as usize) * 6) as i64, SEEK_CUR);
+}
+
 // Goes on by that many rows.
 fn skip_rows(fd: i32, rows: u16) {
     libc::lseek(fd, ((rows as usize) * 16) as i64, SEEK_CUR);
 }
 
-// ---- a case's image
+// Goes to a case's rows, and to the bytes that are given behind them. The patches of the sessions stand next in the file of the cases.
+fn find_rows(f: Files, h: Header) {
+    let patches = libc::lseek(f.cases, 0, SEEK_CUR);
+    libc::lseek(f.script, patches, SEEK_SET);
+    skip_patches(f.script, h.plain);
+    skip_patches(f.script, h.buffered);
+    let rows = libc::lseek(f.script, 0, SEEK_CUR);
+    libc::lseek(f.bytes, rows, SEEK_SET);
+    skip_rows(f.bytes, h.rows);
+}
+
+// ---- a case's image, and patches
 
 // The header that stands next.
 fn read_header(fd: i32) -> Ahead {
@@ -65,6 +84,8 @@ fn read_header(fd: i32) -> Ahead {
         rows: word_at(&words, 6),
         high: word_at(&words, 8),
         low: word_at(&words, 10),
+        plain: word_at(&words, 12),
+        buffered: word_at(&words, 14),
     })
 }
 
@@ -80,23 +101,23 @@ fn read_whole(fd: i32, h: Header, n: usize, whole: &mut [u8]) -> usize {
     0
 }
 
-// How many patches a case has.
+// How many patches a case has of its image.
 fn patches(h: Header) -> usize {
     if h.whole { 0 } else { h.size }
 }
 
-// Puts the patch that stands next, an offset of two words and a word that is the new byte, into an image.
-fn patch_next(fd: i32, image: &mut [u8]) {
+// Puts the patch that stands next, an offset of two words and a word that is the new byte, into an image or a session.
+fn patch_next(fd: i32, bytes: &mut [u8]) {
     let mut p = [0u8; 6];
     io::read_full(fd, &mut p);
-    put(image, number(word_at(&p, 0), word_at(&p, 2)), p[5]);
+    put(bytes, number(word_at(&p, 0), word_at(&p, 2)), p[5]);
 }
 
-// Puts the next n patches into an image.
-fn patch(fd: i32, n: usize, image: &mut [u8]) {
+// Puts the next n patches into an image or a session.
+fn patch(fd: i32, n: usize, bytes: &mut [u8]) {
     let mut i = 0;
     while i < n {
-        patch_next(fd, image);
+        patch_next(fd, bytes);
         i += 1;
     }
 }
@@ -110,38 +131,48 @@ fn make_image(fd: i32, at: i64, h: Header, whole: &[u8], room: &mut [u8]) {
 
 // ---- playing
 
-// Plays a script on an image, and prints the image's sums.
-fn play_image(f: Files, rows: u16, image: &mut [u8], session: &mut [u8]) {
+// Mounts an image, puts the next n patches into its session, plays a script, and prints the image's sums.
+fn play_image(f: Files, n: u16, rows: u16, image: &mut [u8], session: &mut [u8]) {
+    play_io::mount(image, session);
+    patch(f.cases, n as usize, session);
     play_io::play(f.script, f.bytes, rows as u32, image, session);
     play_io::print_image(image);
 }
 
-// The same on the image that the first n bytes of a room are.
-fn play_first(f: Files, rows: u16, n: usize, room: &mut [u8], session: &mut [u8]) {
-    if n <= room.len() {
-        play_image(f, rows, &mut room[..n], session);
+// The same on the image that the first bytes of a room are, as many as size.
+fn play_first(f: Files, n: u16, rows: u16, size: usize, room: &mut [u8], session: &mut [u8]) {
+    if size <= room.len() {
+        play_image(f, n, rows, &mut room[..size], session);
     }
 }
 
-// Plays a case with the engine whose session is lent. The last whole image is given, and the patches stand at a place of the file.
-fn play_with(f: Files, at: i64, h: Header, whole: &[u8], room: &mut [u8], session: &mut [u8]) {
+// Plays a case with the engine whose session is lent. The last whole image is given, and the patches of the case's image stand at a place of
+// the file. Behind them other sessions' patches are left out, and the next n are put into this one.
+fn play_with(
+    f: Files,
+    at: i64,
+    h: Header,
+    others: u16,
+    n: u16,
+    whole: &[u8],
+    room: &mut [u8],
+    session: &mut [u8],
+) {
     make_image(f.cases, at, h, whole, room);
-    let start = libc::lseek(f.cases, 0, SEEK_CUR);
-    libc::lseek(f.script, start, SEEK_SET);
-    libc::lseek(f.bytes, start, SEEK_SET);
-    skip_rows(f.bytes, h.rows);
-    play_first(f, h.rows, whole.len(), room, session);
+    find_rows(f, h);
+    skip_patches(f.cases, others);
+    play_first(f, n, h.rows, whole.len(), room, session);
 }
 
-// Plays a case with both.
+// Plays a case with both. Behind the second engine's patches stand the rows, and the bytes given.
 fn play_both(f: Files, h: Header, whole: &[u8], room: &mut [u8]) {
     let mut plain = [0u8; Form::SESSION];
     let mut buffered = [0u8; Form::BUFFERED];
     let at = libc::lseek(f.cases, 0, SEEK_CUR);
     io::write_all(STDOUT_FILENO, b"PLAIN\n");
-    play_with(f, at, h, whole, room, &mut plain);
+    play_with(f, at, h, 0, h.plain, whole, room, &mut plain);
     io::write_all(STDOUT_FILENO, b"BUFFERED\n");
-    play_with(f, at, h, whole, room, &mut buffered);
+    play_with(f, at, h, h.plain, h.buffered, whole, room, &mut buffered);
     skip_rows(f.cases, h.rows);
     skip(f.cases, h.high, h.low);
 }
@@ -172,18 +203,11 @@ fn play_all(f: Files, whole: &mut [u8], room: &mut [u8]) {
     }
 }
 
-// Opens the file of the cases.
-fn open() -> i32 {
-    let mut path = io::buffer();
-    let n = os::arg(1, &mut path);
-    os::open_read(&path[..n])
-}
-
 fn main() {
     let f = Files {
-        cases: open(),
-        script: open(),
-        bytes: open(),
+        cases: open_read(1),
+        script: open_read(1),
+        bytes: open_read(1),
     };
     let mut whole = io::large_buffer();
     let mut room = io::large_buffer();

@@ -132,12 +132,15 @@ fn test_rows(script: i32, bytes: i32, most: u32, given: &mut [u8]) -> bool
     true
 }
 
-// Mounts an image, plays the first rows of a script, as many as most, and prints a line for each. Whether they were in order. The number of the
-// session's bytes says which engine plays.
+// Mounts an image, and prints a line of it. The number of the session's bytes says which engine it is mounted for.
+pub fn mount(image: &[u8], session: &mut [u8]) {
+    print_mount(lleuadrys_mount(image, session));
+}
+
+// Plays the first rows of a script, as many as most, on an image with its session, and prints a line for each. Whether they were in order.
 pub fn play(script: i32, bytes: i32, most: u32, image: &mut [u8], session: &mut [u8]) -> bool {
     let mut given = io::large_buffer();
     let mut buffer = io::large_buffer();
-    print_mount(lleuadrys_mount(image, session));
     play_rows(script, bytes, most, image, session, &mut given, &mut buffer)
 }
 

@@ -1,13 +1,15 @@
 -- Texts as ASCII bytes, and what it is to put one into bytes that are lent. Definitions only.
 use mathlib.Core.Path.{_≡_}
-use mathlib.Core.Bool.{true, false}
+use mathlib.Core.Bool.{Bool, true, false, _&&_}
 use mathlib.Core.List.{List, [], _∷_, _++_}
-use Prim.Native.Nat.{ℕ, zero, suc, _+_, _-_, _/_, _%_, min}
+use Prim.Native.Nat.{ℕ, zero, suc, _+_, _-_, _*_, _/_, _%_, min}
 use Prim.Native.Char.{code}
 use Prim.Native.String.{String, [] as end, _∷_ as _then_}
 use lib.ListN.{length}
 use lib.Seq.{sets}
-use lib.Dec.{ltb}
+use lib.Dec.{leb, ltb}
+use Rattle.texts.specs.declared.Numeral.{Numeral}
+use Rattle.texts.specs.declared.Numeral.the-variants.{Number, Nothing}
 
 -- the numbers of a text's characters
 unfoldable pub spelled : String → List ℕ
@@ -33,3 +35,23 @@ spaced (w ∷ v ∷ ws) = w ++ (32 ∷ spaced (v ∷ ws))
 pub record Wrote (old : List ℕ) (a : ℕ) (xs new : List ℕ) (b : ℕ) : Type 0 where
   pub ends : b ≡ a + min (length xs) (length old - a)
   pub puts : new ≡ sets old a xs
+
+-- ---- and back
+
+-- a digit's character, from 0 to 9
+abbrev pub isDigit : ℕ → Bool
+isDigit c = leb 48 c && leb c 57
+
+-- a number with a digit more behind it; there is none where c is no digit, or where it has more than 32 bits
+unfoldable pub withDigit : Numeral → ℕ → Numeral
+withDigit (Number n) c = elim (isDigit c && ltb (10 * n + (c - 48)) 4294967296) [ true ↦ Number (10 * n + (c - 48)) | false ↦ Nothing ]
+withDigit Nothing c = Nothing
+
+-- with one after another
+unfoldable pub withDigits : Numeral → List ℕ → Numeral
+withDigits r [] = r
+withDigits r (c ∷ cs) = withDigits (withDigit r c) cs
+
+-- the number that a text of one to ten digits says: proofs/Reading.antt shows that it reads "decimal" back
+unfoldable pub numberIn : List ℕ → Numeral
+numberIn xs = elim (leb 1 (length xs) && leb (length xs) 10) [ true ↦ withDigits (Number 0) xs | false ↦ Nothing ]

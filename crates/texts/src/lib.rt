@@ -1,8 +1,14 @@
-// Text put into bytes that are lent, piece by piece: what the programs print is made of these.
+// Text put into bytes that are lent, piece by piece: what the programs print is made of these. And numbers read from text.
 ghost use mathlib.Core.Path.{_≡_};
 ghost use mathlib.Core.List.{[], _∷_, _++_};
 ghost use Prim.Native.Nat.{_+_, _%_};
-ghost use Rattle.texts.specs.Texts.{decimalIn, decimal, Wrote};
+ghost use Rattle.texts.specs.Texts.{decimalIn, decimal, Wrote, withDigit, numberIn};
+
+// What a text says: a number, or none.
+pub enum Numeral {
+    Number(u32),
+    Nothing,
+}
 
 // Puts c at the place at, if there is such a place. The place behind it.
 pub fn put_byte(out: &mut [u8], at: usize, c: u8) -> usize
@@ -56,4 +62,45 @@ pub fn put_number(out: &mut [u8], at: usize, n: u32, c: u8) -> usize
 {
     let a = put_digits(out, at, n, 10);
     put_byte(out, a, c)
+}
+
+// A number with a digit more behind it. There is none where c is no digit, or where it has more than 32 bits.
+fn with_digit(r: Numeral, c: u8) -> Numeral
+    ensures { λ z. ⌜ z ≡ withDigit r c ⌝ }
+{
+    match r {
+        Numeral::Number(n) => longer(n, c),
+        Numeral::Nothing => Numeral::Nothing,
+    }
+}
+
+// The same of a number.
+fn longer(n: u32, c: u8) -> Numeral
+    ensures { λ z. ⌜ z ≡ withDigit (Numeral.Number n) c ⌝ }
+{
+    if (c < 48) | (57 < c) {
+        return Numeral::Nothing;
+    }
+    let m = 10 * (n as u64) + ((c - 48) as u64);
+    if m < 4294967296 {
+        Numeral::Number(m as u32)
+    } else {
+        Numeral::Nothing
+    }
+}
+
+// The number that a text says in decimal, in one to ten digits; none if it is anything else.
+pub fn number_in(text: &[u8]) -> Numeral
+    ensures { λ r. ⌜ r ≡ numberIn (now (text .entry)) ⌝ }
+{
+    if (text.len() < 1) | (10 < text.len()) {
+        return Numeral::Nothing;
+    }
+    let mut r = Numeral::Number(0);
+    let mut k = 0;
+    while k < text.len() {
+        r = with_digit(r, text[k]);
+        k += 1;
+    }
+    r
 }

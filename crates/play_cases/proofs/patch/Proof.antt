@@ -7,10 +7,10 @@ use Rattle.play_cases.proofs.patch.Statement.{statement}
 use Rattle.play_cases.proofs.patch.Tie as tie
 
 abbrev Inv-loop : tie.InvT-loop
-Inv-loop fd n image₀ i₀ image i = length image ≡ length image₀
+Inv-loop fd n bytes₀ i₀ bytes i = length bytes ≡ length bytes₀
 
 abbrev μ-loop : tie.MeasureT-loop
-μ-loop fd n image₀ i₀ image i = n - i
+μ-loop fd n bytes₀ i₀ bytes i = n - i
 
 loop-holds : tie.Need-loop-holds Inv-loop μ-loop
 loop-holds c = search needs

@@ -1,4 +1,4 @@
--- `play_cases::play_first` is safe: the image has n bytes.
+-- `play_cases::play_first` is safe: the image has so many bytes.
 use mathlib.Core.Path.{sym}
 use lib.Seq.{length-take-le}
 use borrow.Author.Needs.{needs}
@@ -11,7 +11,7 @@ slice-relend-prefix-play-image c = search needs
 slice-aggregate-play-image : tie.Need-slice-aggregate-play-image
 slice-aggregate-play-image c =
     let a = c .before .before .before .before .args in
-    sym (length-take-le (a .n) (a .room .now) (c .before .if1 .taken))
+    sym (length-take-le (a .size) (a .room .now) (c .before .if1 .taken))
 
 play-image-requires : tie.Need-play-image-requires
 play-image-requires c κs = search needs
