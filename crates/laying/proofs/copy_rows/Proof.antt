@@ -1,17 +1,19 @@
 -- `laying::copy_rows` meets its contract: each entry is laid behind those before it.
 use Prim.Native.Nat.{_-_, _*_, _≤_, _<_}
 use mathlib.Core.Path.{_≡_, refl, sym, ap, _∙_}
+use mathlib.Core.List.{List}
 use native.Mathlib.Omega.{arith}
 use lib.ListN.{length, take}
 use lib.Seq.{take-all}
 use Rattle.geometry.specs.Bytes.{lay}
 use Rattle.geometry.proofs.Bytes.{length-lay}
-use Rattle.directory.specs.Entries.{freeEntry}
+use Rattle.directory.specs.Entries.{freeEntry, entryAt}
+use Rattle.directory.specs.declared.Entry.{Entry}
 use Rattle.tables.specs.Rows.{rowOf}
 use Rattle.tables.specs.Tables.{entryOf, entriesIn}
-use Rattle.tables.proofs.Widths.{below, one-on}
+use Rattle.tables.proofs.Widths.{below, one-on, rows-there}
 use Rattle.tables.proofs.Rows.{laid-none, size-none, turn}
-use Rattle.tables.proofs.Tables.{length-entries, entry-is}
+use Rattle.tables.proofs.Tables.{length-entries, table-is}
 use borrow.Author.Needs.{needs}
 use Rattle.laying.proofs.copy_rows.Statement.{statement}
 use Rattle.laying.proofs.copy_rows.Tie as tie
@@ -51,12 +53,13 @@ loop-again c =
     let l = c .before .before .before .before .before .before .loop in
     let h : l .i < a .rows = omega arith in
     let n : length (entriesIn (a .from) (a .rows) (a .b .now)) ≡ a .rows = length-entries (a .from) (a .rows) (a .b .now) in
-    let e = c .before .before .before .before .entry-at .ensures ∙ sym (entry-is (a .from) (a .rows) (a .b .now) (l .i) (l .at) h (l .inv .2)) in
+    let q = c .before .before .before .before .before .before .before .before .before .pre .1 in
+    let e = c .before .before .before .before .entry-in .ensures ∙ ap (λ (t : List Entry). entryAt t (l .i)) (table-is (a .from) (a .rows) (a .b .now) (rows-there (a .from) (a .rows) (a .b .now) (q .0) (q .1))) in
     let r = turn (entryOf (a .to)) (a .out .now) (l .out) (c .before .before .put-row .last .0) (entriesIn (a .from) (a .rows) (a .b .now)) (l .i) 0 (a .to * l .i) (a .to) (l .end) freeEntry (omega arith) (omega arith) (l .inv .0) (l .inv .1) (c .before .before .put-row .ensures .0 ∙ ap (λ x. lay (l .out) (l .end) (entryOf (a .to) x)) e) (ap (λ x. length (entryOf (a .to) x)) (sym e) ∙ c .before .before .put-row .ensures .1) (omega (arith, below (a .to) (l .i) (a .rows) h)) in
-    (r .0, r .1 ∙ one-on (a .to) (l .i), omega (arith, one-on (a .from) (l .i)), omega (arith, one-on (a .to) (l .i)), omega arith, ap length (r .0) ∙ length-lay (a .out .now) 0 _)
+    (r .0, r .1 ∙ one-on (a .to) (l .i), omega (arith, one-on (a .to) (l .i)), omega arith, ap length (r .0) ∙ length-lay (a .out .now) 0 _)
 
 same-length : tie.Need-same-length Inv-loop μ-loop
-same-length c = c .before .loop .inv .5
+same-length c = c .before .loop .inv .4
 
 returns : tie.Need-returns Inv-loop μ-loop
 returns c =
