@@ -24,14 +24,12 @@ use Rattle.requests.specs.declared.Answer.the-variants.{Refused}
 use Rattle.requests.specs.declared.Refusal.the-variants.{NotLegal}
 use Rattle.requests.specs.declared.Request.the-variants.{GranuleLook}
 use Rattle.requests.proofs.First.{not-legal}
-use Rattle.sessions.specs.declared.BufferedSession.{BufferedSession}
 use Rattle.steps.specs.Next.{factsOf}
 use Rattle.steps.specs.Step.{bufferedAnswer}
 use Rattle.steps.specs.Look.{bufferedLookAnswer}
-use Rattle.storing.specs.Stored.{sizeOf, hasBuffers, isSession, lentSession}
+use Rattle.storing.specs.Stored.{hasBuffers, isSession, lentSession}
 use Rattle.storing.proofs.Illegal.{none-legal}
-use Rattle.storing.proofs.Read.{session-is, session-size}
-use Rattle.finding.proofs.Lent.{table-is}
+use Rattle.finding.proofs.Lent.{lent-table}
 use Rattle.looking.specs.Looking.{lookIn}
 use Rattle.looking.proofs.Looks.{look-shown, look-empty}
 use Rattle.lleuadrys.specs.Calls.{lookPlace}
@@ -67,13 +65,8 @@ module _ (image b : List ℕ) (i g : ℕ) where
   abbrev placed : List Entry → ℕ
   placed t = sector * entryAt t i .first + byteOf (placeOf random (entryAt t i .length) g)
 
-  -- the table of the session is the one that stands in front of the bytes
   table-told : numberOf answered ≡ 0 → lentSession b .table ≡ Tables.tableIn twoWordsWide entries b
-  unfolding sizeOf
-  table-told z =
-      let h : isSession (hasBuffers b) b ≡ true = is-session z in
-      let l : length b ≡ sizeOf (hasBuffers b) = session-size (hasBuffers b) b h in
-      ap (λ (s : BufferedSession). s .table) (session-is (hasBuffers b) b h) ∙ sym (table-is b (omega arith))
+  table-told z = lent-table b (is-session z)
 
   place-told : (old : ℕ) → length (lookIn image b i g) ≢ 0 → lookPlace image b i g old ≡ placed (Tables.tableIn twoWordsWide entries b)
   unfolding lookPlace
