@@ -1,5 +1,5 @@
-/* Logs one pass on an image: frames into the blocked file TRACE, a line into the compressed file PASSLOG, with the buffered
-   engine; closes both, lists the directory, and reads the last line back.
+/* Logs one pass on an image: finds its files by name, writes frames into the blocked file TRACE and a line into the compressed
+   file PASSLOG, with the buffered engine; closes both, lists the directory, and reads the last line back.
 
        log IMAGE
 
@@ -7,18 +7,26 @@
    images/station.img. */
 #include <stdint.h>
 #include <stdio.h>
-#include <string.h>
 
 #include "../include/lleuadrys.h"
 
-enum { PASSLOG = 0, CURVES = 4, TRACE = 5, FRAME = 180, LINE = 80 };
+enum { FRAME = 180, LINE = 80 };
 
-static uint8_t image[4096 * 360];
+/* What the constants of the header are among themselves; is_as_linked sees that they are the library's. */
+_Static_assert(LLEUADRYS_ENTRIES * 20 == LLEUADRYS_SECTOR, "the directory fills a sector");
+_Static_assert(LLEUADRYS_BUFFERED_SESSION == LLEUADRYS_SESSION + LLEUADRYS_MOST_OPEN * (LLEUADRYS_SECTOR + 6),
+               "a buffer for each open file, and what it holds");
+_Static_assert(LLEUADRYS_LONGEST_CODE == LLEUADRYS_LONGEST_COMPRESSED + 3, "a code has at most three bytes more");
+
+static uint8_t image[LLEUADRYS_MOST_SECTORS * LLEUADRYS_SECTOR];
 static size_t image_size;
 static uint8_t session[LLEUADRYS_BUFFERED_SESSION];
 
-/* What a request reads, and room for it. */
-static uint8_t text[LINE];
+/* The entries of the files. */
+static size_t passlog, curves, trace;
+
+/* Room for what is read. */
+static uint8_t text[LLEUADRYS_LONGEST_RECORD];
 
 /* Capitals, digits and blanks, in EBCDIC and back. */
 static const char ascii[] = "ABCDEFGHIJKLMNOPQRSTUVWXYZ0123456789 ";
@@ -42,16 +50,42 @@ static char to_ascii(uint8_t c)
     return '?';
 }
 
-/* One request on the image: its answer. */
-static unsigned ask(size_t entry, enum lleuadrys_code code, const uint8_t *given, size_t given_size)
+/* A request that is given bytes: its answer. */
+static unsigned give(size_t entry, enum lleuadrys_code code, const uint8_t *given, size_t given_size)
 {
-    return lleuadrys_request(image, image_size, session, sizeof session, entry, (uint16_t)code, 0, given,
-                                  given_size, text, sizeof text);
+    return lleuadrys_request(image, image_size, session, sizeof session, entry, code, 0, given, given_size, text,
+                             sizeof text);
 }
 
+/* A read, into text. */
+static unsigned read_next(size_t entry)
+{
+    static const uint8_t nothing[1];
+    return give(entry, LLEUADRYS_READ, nothing, 0);
+}
+
+/* A request that needs no bytes. */
 static unsigned order(size_t entry, enum lleuadrys_code code)
 {
-    return ask(entry, code, text, 0);
+    return lleuadrys_order(image, image_size, session, sizeof session, entry, code);
+}
+
+/* Says what was done and how it was answered. */
+static void say(const char *what, unsigned answer)
+{
+    uint8_t words[LLEUADRYS_LONGEST_WORDS];
+    size_t n = lleuadrys_words((uint16_t)answer, words, sizeof words);
+    printf("%s: %u, %.*s\n", what, answer, (int)n, (const char *)words);
+}
+
+/* The entry of that name, with blanks behind it. */
+static unsigned find(const char *name, size_t *entry)
+{
+    uint8_t wanted[LLEUADRYS_NAME];
+    size_t n = 0;
+    for (size_t i = 0; i < sizeof wanted; i++)
+        wanted[i] = name[n] != 0 ? to_ebcdic(name[n++]) : 0x40;
+    return lleuadrys_find(session, sizeof session, wanted, sizeof wanted, entry);
 }
 
 /* A frame of telemetry: its number in two bytes, then a ramp. */
@@ -62,7 +96,7 @@ static unsigned write_frame(unsigned k)
     frame[1] = (uint8_t)(k % 256);
     for (size_t i = 2; i < FRAME; i++)
         frame[i] = (uint8_t)(7 * i + k);
-    return ask(TRACE, LLEUADRYS_WRITE, frame, FRAME);
+    return give(trace, LLEUADRYS_WRITE, frame, FRAME);
 }
 
 static unsigned write_line(const char *line)
@@ -75,12 +109,12 @@ static unsigned write_line(const char *line)
     }
     if (n % 2 == 1)
         out[n++] = 0x40; /* a write takes an even number of bytes */
-    return ask(PASSLOG, LLEUADRYS_WRITE, out, n);
+    return give(passlog, LLEUADRYS_WRITE, out, n);
 }
 
-static void print_record(void)
+static void print_record(size_t entry)
 {
-    size_t n = LINE;
+    size_t n = lleuadrys_field(session, sizeof session, entry, LLEUADRYS_RECORD);
     while (0 < n && text[n - 1] == 0x40)
         n--;
     for (size_t i = 0; i < n; i++)
@@ -93,63 +127,101 @@ static void print_position(const char *name, size_t entry)
     static const char *const words[] = {"not open", "open", "beyond the mark"};
     uint32_t record = 0;
     uint16_t stands = lleuadrys_position(session, sizeof session, entry, &record);
-    printf("%s is %s, at record %u\n", name, words[stands], (unsigned)record);
+    printf("%s is %s, at record %u of %u\n", name, words[stands], (unsigned)record,
+           (unsigned)lleuadrys_field(session, sizeof session, entry, LLEUADRYS_COUNT));
 }
 
 static void print_listing(void)
 {
-    uint8_t out[1200];
+    uint8_t out[LLEUADRYS_LONGEST_LISTING];
     size_t n = lleuadrys_list(image, image_size, out, sizeof out);
     fwrite(out, 1, n, stdout);
+}
+
+/* Finds the files; whether each is there. */
+static int find_files(void)
+{
+    size_t none = 0;
+    say("finding PASSLOG", find("PASSLOG", &passlog));
+    say("finding CURVES", find("CURVES", &curves));
+    say("finding TRACE", find("TRACE", &trace));
+    say("finding TRACES", find("TRACES", &none));
+    return lleuadrys_field(session, sizeof session, passlog, LLEUADRYS_KIND) == LLEUADRYS_COMPRESSED
+        && lleuadrys_field(session, sizeof session, curves, LLEUADRYS_KIND) == LLEUADRYS_RANDOM
+        && lleuadrys_field(session, sizeof session, trace, LLEUADRYS_RECORD) == FRAME;
 }
 
 /* Logs the pass on a mounted image. */
 static void log_pass(void)
 {
-    printf("opening TRACE: %u\n", order(TRACE, LLEUADRYS_OPEN));
-    printf("opening PASSLOG: %u\n", order(PASSLOG, LLEUADRYS_OPEN));
-    unsigned a = 0;
-    while (a == 0)
-        a = order(PASSLOG, LLEUADRYS_RECORD_FORWARD);
-    printf("behind the last line: %u\n", a);
-    a = 0;
+    static const uint8_t granule[2];
+    say("opening TRACE", order(trace, LLEUADRYS_OPEN));
+    say("opening PASSLOG", order(passlog, LLEUADRYS_OPEN));
+    unsigned a = LLEUADRYS_DONE;
+    while (a == LLEUADRYS_DONE)
+        a = order(passlog, LLEUADRYS_RECORD_FORWARD);
+    say("behind the last line", a);
+    a = LLEUADRYS_DONE;
     unsigned k = 0;
-    while (k < 20 && (a = write_frame(k)) == 0)
+    while (k < 20 && (a = write_frame(k)) == LLEUADRYS_DONE)
         k++;
-    printf("frames written: %u, then %u\n", k, a);
-    printf("a line: %u\n", write_line("PASS 424   AOS 184694   LOS 185803   MAX EL 76   FRAMES 576"));
-    printf("a granule of CURVES, which is not open: %u\n", ask(CURVES, LLEUADRYS_GRANULE_WRITE, text, 2));
-    print_position("TRACE", TRACE);
-    print_position("PASSLOG", PASSLOG);
-    printf("a mark behind the frames: %u\n", order(TRACE, LLEUADRYS_WRITE_MARK));
-    print_position("TRACE", TRACE);
-    printf("closing TRACE: %u\n", order(TRACE, LLEUADRYS_REWIND_OFFLINE));
-    printf("closing PASSLOG: %u\n", order(PASSLOG, LLEUADRYS_REWIND_OFFLINE));
+    printf("frames written: %u\n", k);
+    say("one more", a);
+    say("a line", write_line("PASS 424   AOS 184694   LOS 185803   MAX EL 76   FRAMES 576"));
+    say("a granule of CURVES", give(curves, LLEUADRYS_GRANULE_WRITE, granule, sizeof granule));
+    print_position("TRACE", trace);
+    print_position("PASSLOG", passlog);
+    say("a mark behind the frames", order(trace, LLEUADRYS_WRITE_MARK));
+    print_position("TRACE", trace);
+    say("closing TRACE", order(trace, LLEUADRYS_REWIND_OFFLINE));
+    say("closing PASSLOG", order(passlog, LLEUADRYS_REWIND_OFFLINE));
 }
 
 /* Reads the last line of PASSLOG back, with the image mounted afresh. */
 static void read_back(void)
 {
-    printf("mounting: %u\n", lleuadrys_mount(image, image_size, session, sizeof session));
-    printf("opening PASSLOG: %u\n", order(PASSLOG, LLEUADRYS_OPEN));
-    while (order(PASSLOG, LLEUADRYS_READ) == 0)
+    say("mounting", lleuadrys_mount(image, image_size, session, sizeof session));
+    say("opening PASSLOG", order(passlog, LLEUADRYS_OPEN));
+    while (read_next(passlog) == LLEUADRYS_DONE)
         continue;
-    print_record();
-    printf("closing PASSLOG: %u\n", order(PASSLOG, LLEUADRYS_REWIND_OFFLINE));
+    print_record(passlog);
+    say("closing PASSLOG", order(passlog, LLEUADRYS_REWIND_OFFLINE));
+}
+
+/* Whether this was compiled for the library that is linked: each constant is what a call says. */
+static int is_as_linked(void)
+{
+    uint8_t sector[LLEUADRYS_SECTOR] = {0}, record[LLEUADRYS_LONGEST_COMPRESSED], room[4096];
+    size_t longest = 0;
+    for (unsigned k = 0; k < 20; k++) {
+        size_t n = lleuadrys_words((uint16_t)k, room, sizeof room);
+        longest = longest < n ? n : longest;
+    }
+    for (size_t i = 0; i < sizeof record; i++)
+        record[i] = 0xC1;
+    return lleuadrys_version() == LLEUADRYS_VERSION && lleuadrys_session_size() == LLEUADRYS_SESSION
+        && lleuadrys_buffered_session_size() == LLEUADRYS_BUFFERED_SESSION && longest == LLEUADRYS_LONGEST_WORDS
+        && lleuadrys_encode(record, sizeof record, room, sizeof room) == LLEUADRYS_LONGEST_CODE
+        && lleuadrys_mount(sector, sizeof sector, session, sizeof session) == LLEUADRYS_DONE
+        && lleuadrys_mount(sector, sizeof sector - 1, session, sizeof session) == LLEUADRYS_BAD_IMAGE;
 }
 
 int main(int argc, char **argv)
 {
     FILE *file = argc == 2 ? fopen(argv[1], "rb") : NULL;
-    if (file == NULL || sizeof session != lleuadrys_buffered_session_size()) {
+    if (file == NULL) {
         printf("log: usage: log IMAGE\n");
         return 2;
     }
     image_size = fread(image, 1, sizeof image, file);
     fclose(file);
+    if (!is_as_linked()) {
+        printf("log: lleuadrys.h belongs to another version of the library\n");
+        return 2;
+    }
     unsigned a = lleuadrys_mount(image, image_size, session, sizeof session);
-    printf("mounting: %u\n", a);
-    if (a != 0)
+    say("mounting", a);
+    if (a != LLEUADRYS_DONE || !find_files())
         return 1;
     log_pass();
     print_listing();

@@ -1,37 +1,37 @@
-/* Lleuadrys for C: the file layer of the board, both engines, as a static library for x86-64.
-   `rt staticlib lleuadrys` proves it and writes target/staticlib/liblleuadrys.a.
+/* Lleuadrys for C and C++: the file layer of the board, both engines, as a static library for x86-64.
 
-   WHAT IS LENT. Every pointer is lent for the one call and no longer: nothing is kept between calls, nothing is
-   allocated, no state lives in the library. The caller owns the image, the session's bytes and every buffer, before
-   and after. A pointer with a length stands for that many bytes; two parts that are lent to one call, of which one is
-   written, must not overlap. A length may be 0; its pointer must still not be null.
+   BUILDING  `rt staticlib lleuadrys` proves it and writes target/staticlib/liblleuadrys.a. With that beside it a program is
 
+                 gcc -O2 log.c liblleuadrys.a
+
+             and nothing else: of others' functions it needs memcpy and memset, which every C library has.
+
+   LENT      Every pointer is lent for the one call and no longer: nothing is kept between calls, nothing is allocated, no
+             state lives in the library. The caller owns the image, the session's bytes and every buffer, before and after. A
+             pointer with a length stands for that many bytes; two parts that are lent to one call, of which one is written,
+             must not overlap. A length may be 0; its pointer must still not be null. A request that needs no bytes is made
+             with lleuadrys_order, which takes no pointer for them.
+   CALLERS   Calls on different images and sessions may run at once. Of one image or one session there is one caller at a
+             time: while a call that may change it runs, no other call may be lent the same bytes.
+   STACK
    IMAGE     360 times N bytes, N from 1 to 4,096: sector 0 is the directory.
    SESSION   LLEUADRYS_SESSION bytes for the engine that moves every byte straight in the image, or
              LLEUADRYS_BUFFERED_SESSION for the one with a blocking buffer of 360 bytes for each open file, which writes
              a sector when it is full: the number of the bytes lent says which engine serves. In any place, with no
-             alignment. A mounting writes them, a request changes them. They may be copied, stored in a file, and lent
-             again later, to the same image as it was left. Bytes that are no session are answered like a session that
-             is not legal: 12. Bytes that are all zero are a session with no used entry.
-   ENTRY     the number of a file in the directory, 0 to 17; any other is answered 8.
+             alignment. A mounting writes them, a request changes them; docs/SESSIONS.md has their form. They may be copied,
+             stored in a file, and lent again later, to the same image as it was left, and to any library whose version has
+             the same first number. Bytes that are no session are answered like a session that is not legal: 12. Bytes that
+             are all zero are a session with no used entry.
+   ENTRY     the number of a file in the directory, 0 to 17; any other is answered 8. lleuadrys_find gives it by name.
+   CLOSING   A close (code 9) puts the file's buffer back in the image and writes its count and flags to its entry in the
+             directory; nothing of a file's count and flags is in the directory before that. So an image that is saved while
+             a file is open shows, mounted afresh, the records that it had at the opening, and of the engine with buffers a
+             sector may still be in the session. lleuadrys_field has the count and flags of an open file. There is no call
+             that writes back what is held and leaves the file open: document 01 has none. Close the file and open it again;
+             record forward, as often as lleuadrys_position told, leads back to where it stood.
 
    A request that is refused (3 to 12) changes nothing that was lent. Every call answers on every input: whatever stands in
    the image, the session and the buffers. The contracts are in crates/lleuadrys/src/lib.rt.
-
-   ANSWERS
-      0  done
-      1  end of file met: the position crossed the mark
-      2  beginning of tape met: the position is 0
-      3  no room: the extent is full, 65,535 records stand before, or there is no granule of that number
-      4  write or mark on a protected file
-      5  odd byte count in a write
-      6  write of 0 bytes or more than the record length, or a code over 360; a read's buffer under the record length
-      7  wrong kind of file for the request, or out of sequence; or no request has that code
-      8  no such entry, or its file is not open
-      9  opening an open file
-     10  a fifth open file
-     11  bad image, or a bad code met
-     12  the session is not legal for this image
 
    REQUESTS, by code                       takes              gives
       1  opening
@@ -53,6 +53,31 @@
 
 #include <stddef.h>
 #include <stdint.h>
+
+#ifdef __cplusplus
+extern "C" {
+#endif
+
+/* 10,000 times the first number, 100 times the second, and the third: this is 1.0.0. */
+#define LLEUADRYS_VERSION 10000
+
+/* What a request and a mounting answer. */
+enum lleuadrys_answer {
+    LLEUADRYS_DONE = 0,
+    LLEUADRYS_END_OF_FILE = 1,       /* met: the position crossed the mark */
+    LLEUADRYS_BEGINNING_OF_TAPE = 2, /* met: the position is 0 */
+    LLEUADRYS_NO_ROOM = 3,           /* the extent is full, 65,535 records stand before, or no granule has that number */
+    LLEUADRYS_PROTECTED = 4,         /* write or mark on a protected file */
+    LLEUADRYS_ODD_COUNT = 5,         /* odd byte count in a write */
+    LLEUADRYS_BAD_SIZE = 6,          /* write of 0 bytes or more than the record length, or a code over 360; a read's
+                                        buffer under the record length */
+    LLEUADRYS_WRONG_SEQUENCE = 7,    /* wrong kind of file for the request, or out of sequence; or a code of no request */
+    LLEUADRYS_NOT_THERE = 8,         /* no such entry, or its file is not open */
+    LLEUADRYS_ALREADY_OPEN = 9,      /* opening an open file */
+    LLEUADRYS_FIFTH_FILE = 10,       /* four files are open */
+    LLEUADRYS_BAD_IMAGE = 11,        /* bad image, or a bad code met */
+    LLEUADRYS_NOT_LEGAL = 12         /* the session is not legal for this image */
+};
 
 enum lleuadrys_code {
     LLEUADRYS_OPEN = 1,
@@ -77,10 +102,37 @@ enum lleuadrys_standing {
     LLEUADRYS_BEYOND = 2 /* beyond the mark */
 };
 
-/* The bytes of a session of either engine; the two functions give the same numbers. */
+/* What lleuadrys_field is asked for. */
+enum lleuadrys_field {
+    LLEUADRYS_KIND = 1,    /* an enum lleuadrys_kind */
+    LLEUADRYS_RECORD = 2,  /* the record's or granule's length */
+    LLEUADRYS_FIRST = 3,   /* the first sector */
+    LLEUADRYS_SECTORS = 4, /* how many sectors */
+    LLEUADRYS_COUNT = 5,   /* how many records, by now */
+    LLEUADRYS_FLAGS = 6    /* by now: 1 marked, 2 write protected, 3 both */
+};
+
+enum lleuadrys_kind {
+    LLEUADRYS_UNBLOCKED = 1,
+    LLEUADRYS_BLOCKED = 2,
+    LLEUADRYS_COMPRESSED = 3,
+    LLEUADRYS_RANDOM = 4
+};
+
+/* Sizes in bytes, and limits. */
 enum {
-    LLEUADRYS_SESSION = 516,
-    LLEUADRYS_BUFFERED_SESSION = 1980
+    LLEUADRYS_SESSION = 516,            /* a session; lleuadrys_session_size gives the same number */
+    LLEUADRYS_BUFFERED_SESSION = 1980,  /* one with buffers; lleuadrys_buffered_session_size */
+    LLEUADRYS_SECTOR = 360,
+    LLEUADRYS_MOST_SECTORS = 4096,      /* of an image */
+    LLEUADRYS_ENTRIES = 18,             /* of a directory */
+    LLEUADRYS_NAME = 8,
+    LLEUADRYS_MOST_OPEN = 4,            /* open files */
+    LLEUADRYS_LONGEST_RECORD = 3600,    /* room for any record or granule */
+    LLEUADRYS_LONGEST_COMPRESSED = 132, /* room for any record of a compressed file, .. */
+    LLEUADRYS_LONGEST_CODE = 135,       /* .. and for its code */
+    LLEUADRYS_LONGEST_LISTING = 1596,   /* room for any listing */
+    LLEUADRYS_LONGEST_WORDS = 50        /* room for the words of any answer */
 };
 
 size_t lleuadrys_session_size(void);
@@ -97,6 +149,11 @@ uint16_t lleuadrys_request(uint8_t *image, size_t image_size, uint8_t *session, 
                            uint16_t code, uint32_t granule, const uint8_t *given, size_t given_size, uint8_t *buffer,
                            size_t buffer_size);
 
+/* A request that is given no bytes and lends no buffer: an opening, or a position order (7 to 13). It answers as
+   lleuadrys_request does with both lengths 0 and granule 0; so a read or a write is refused. */
+uint16_t lleuadrys_order(uint8_t *image, size_t image_size, uint8_t *session, size_t session_size, size_t entry,
+                         uint16_t code);
+
 /* Looks at a granule in place: its size, with *at the byte of the image that it begins at; 0, and *at as it was, where
    the look is refused (lleuadrys_request with code 6 gives the number). */
 size_t lleuadrys_look(const uint8_t *image, size_t image_size, const uint8_t *session, size_t session_size, size_t entry,
@@ -106,17 +163,40 @@ size_t lleuadrys_look(const uint8_t *image, size_t image_size, const uint8_t *se
    was where the file is not open. */
 uint16_t lleuadrys_position(const uint8_t *session, size_t session_size, size_t entry, uint32_t *record);
 
+/* Finds an entry by its name, which has 8 bytes in EBCDIC, blanks (hex 40) behind it: 0, with *entry its number, the lowest
+   that has that name; 8 where none has, and for a name not of 8 bytes; 12 where the bytes are no session. *entry is as it
+   was where the answer is not 0. */
+uint16_t lleuadrys_find(const uint8_t *session, size_t session_size, const uint8_t *name, size_t name_size, size_t *entry);
+
+/* A field of an entry, an enum lleuadrys_field, with count and flags as they are by now; 0 for any other number, where the
+   entry is free or not there, and where the bytes are no session. */
+uint32_t lleuadrys_field(const uint8_t *session, size_t session_size, size_t entry, uint16_t field);
+
 /* ---- no session */
 
-/* Lists the directory as text, as far as there is room: the number of bytes put there. A listing has at most 1,596. */
+/* The version of the library that is linked: LLEUADRYS_VERSION of the header that belongs to it. */
+uint32_t lleuadrys_version(void);
+
+/* The next three calls put as much as there is room for and answer how many bytes that is: the lesser of the whole length
+   and the room. */
+
+/* The words of an answer's number in ASCII, with no 0 behind them: "done", "end of file met" and so on; "no such number" for
+   one that is no answer's. At most LLEUADRYS_LONGEST_WORDS. */
+size_t lleuadrys_words(uint16_t number, uint8_t *out, size_t out_size);
+
+/* Lists the directory as text. At most LLEUADRYS_LONGEST_LISTING. */
 size_t lleuadrys_list(const uint8_t *image, size_t image_size, uint8_t *out, size_t out_size);
+
+/* Codes a record. A code has at most text_size + 3 bytes up to a text_size of 254, and of any text_size + 1 and one for each
+   127 begun: room for so many leaves nothing out. */
+size_t lleuadrys_encode(const uint8_t *text, size_t text_size, uint8_t *code, size_t code_size);
 
 /* Decodes the compressed record that code begins with into text, whose length is the record's: the bytes of the code;
    0, and text as it was, where the code is bad. Of code no more than a sector's 360 bytes are looked at. */
 size_t lleuadrys_decode(const uint8_t *code, size_t code_size, uint8_t *text, size_t text_size);
 
-/* Codes a record, as far as there is room: the bytes of the code, at most text_size + 3 up to a text_size of 254, and
-   text_size + 1 and one for each 127 begun of any. */
-size_t lleuadrys_encode(const uint8_t *text, size_t text_size, uint8_t *code, size_t code_size);
+#ifdef __cplusplus
+}
+#endif
 
 #endif

@@ -100,8 +100,17 @@ static_library() { # NAME
 
 # C for x86-64, on any machine: compiled with the kit's clang, which comes without headers (bench/include has a few), ..
 x86_compile() { # ARGUMENT..
+    x86_clang -std=c11 "$@"
+}
+
+# .. C++ too, as far as it needs no library of its own, ..
+x86_compile_cpp() { # ARGUMENT..
+    x86_clang -x c++ -std=c++17 -fno-exceptions -fno-rtti "$@"
+}
+
+x86_clang() { # ARGUMENT..
     find_tools
-    "$tools/bin/clang" --target=x86_64-unknown-linux-gnu -nostdinc -std=c11 -O2 -fPIE -Wall -Wextra "$@"
+    "$tools/bin/clang" --target=x86_64-unknown-linux-gnu -nostdinc -O2 -fPIE -Wall -Wextra "$@"
 }
 
 # .. linked with its C library, ..

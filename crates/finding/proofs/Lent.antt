@@ -46,6 +46,13 @@ pub table-is : (b : List ℕ) → filesAt ≤ length b → Tables.tableIn twoWor
 unfolding Tables.tableIn
 table-is b room = rw (has-table b room, Tables.tableIn)
 
+-- the table of a session is the one that stands in front of its bytes
+pub lent-table : (b : List ℕ) → isSession (hasBuffers b) b ≡ true → lentSession b .table ≡ Tables.tableIn twoWordsWide entries b
+unfolding sizeOf
+lent-table b h =
+    let l : length b ≡ sizeOf (hasBuffers b) = session-size (hasBuffers b) b h in
+    ap (λ (s : BufferedSession). s .table) (session-is (hasBuffers b) b h) ∙ sym (table-is b (omega arith))
+
 -- ---- bytes that are a session
 
 pub held-wide : (u : Bool) → u ≡ true → width u ≡ 396

@@ -145,8 +145,8 @@ fn state_flags(b: &[u8], buffers: bool, at: usize) -> bool
     }
 }
 
-// Whether bytes are a session.
-fn is_session(b: &[u8], buffers: bool) -> bool
+// Whether bytes are a session, with buffers or with none.
+pub fn is_session(b: &[u8], buffers: bool) -> bool
     ensures { λ r. ⌜ r ≡ isSession buffers (now (b .entry)) ⌝ }
 {
     let w = state_width(buffers);

@@ -2,6 +2,7 @@
 // declarations.
 use coding::Coded;
 use finding::spot_in;
+use geometry::least;
 use geometry::part;
 use looking::look_answer;
 use looking::shown_in;
@@ -13,10 +14,14 @@ use requests::number;
 use sessions::Spot;
 use storing::Form;
 use storing::put_start;
+use telling::field_in;
+use telling::find_named;
+use telling::put_words;
 ghost use mathlib.Core.Path.{_≡_};
 ghost use mathlib.Core.Bool.{true, false};
+ghost use mathlib.Core.List.{[]};
 ghost use Prim.Native.Nat.{min};
-ghost use lib.ListN.{length};
+ghost use lib.ListN.{length, getD};
 ghost use lib.Seq.{sets};
 ghost use Rattle.coding.specs.Decode as Decode;
 ghost use Rattle.coding.specs.Encode as Encode;
@@ -25,7 +30,8 @@ ghost use Rattle.requests.specs.Codes.{askedFor};
 ghost use Rattle.sessions.specs.Session.{bare, spotOf};
 ghost use Rattle.storing.specs.Stored.{sizeOf, lentSession};
 ghost use Rattle.looking.specs.Looking.{lookIn};
-ghost use Rattle.lleuadrys.specs.Codes.{unknownNumber, standing, recordAt, codeSize};
+ghost use Rattle.telling.specs.Told.{found, fieldIn, wordsOf};
+ghost use Rattle.lleuadrys.specs.Codes.{unknownNumber, standing, recordAt, codeSize, version};
 ghost use Rattle.lleuadrys.specs.Calls.{left, requested, mountNumber, mountBytes, lookPlace};
 
 // ---- numbers for C
@@ -105,6 +111,21 @@ pub extern "C" fn lleuadrys_request(
     }
 }
 
+// A request that is given no bytes and lends no buffer, by its code on that entry; its number.
+#[no_mangle]
+pub extern "C" fn lleuadrys_order(
+    image: &mut [u8],
+    session: &mut [u8],
+    entry: usize,
+    code: u16,
+) -> u16
+    ensures { λ r. ⌜ left r (now (image .exit)) (now (session .exit)) [] ≡ requested (now (image .entry)) (now (session .entry)) entry (askedFor code 0) [] [] ⌝ }
+{
+    let given: [u8; 0] = [];
+    let mut buffer: [u8; 0] = [];
+    lleuadrys_request(image, session, entry, code, 0, &given, &mut buffer)
+}
+
 // Looks at a granule in place: the number of its bytes, 0 where the look is refused; where they begin goes into at.
 #[no_mangle]
 pub extern "C" fn lleuadrys_look(
@@ -135,7 +156,40 @@ pub extern "C" fn lleuadrys_position(session: &[u8], entry: usize, at: &mut u32)
     tell(spot_in(session, entry), at)
 }
 
+// The entry of that name in the session's table: 0, and its number goes into at; 8 where none has it, 12 where the bytes are no session.
+#[no_mangle]
+pub extern "C" fn lleuadrys_find(session: &[u8], name: &[u8], at: &mut usize) -> u16
+    ensures { λ r. ⌜ (r ≡ found (now (session .entry)) (now (name .entry)) .0)
+        × (now (at .exit) ≡ getD (found (now (session .entry)) (now (name .entry)) .1) 0 (now (at .entry))) ⌝ }
+{
+    find_named(session, name, at)
+}
+
+// A field of an entry: 1 kind, 2 record length, 3 first sector, 4 sectors, 5 count, 6 flags; 0 for any other, and where there is no such entry in use.
+#[no_mangle]
+pub extern "C" fn lleuadrys_field(session: &[u8], entry: usize, field: u16) -> u32
+    ensures { λ r. ⌜ r ≡ fieldIn (now (session .entry)) entry field ⌝ }
+{
+    field_in(session, entry, field)
+}
+
 // ---- the calls that need no session
+
+// The version of the library: 10,000 times its first number, 100 times its second, and its third.
+#[no_mangle]
+pub extern "C" fn lleuadrys_version() -> u32
+    ensures { λ r. ⌜ r ≡ version ⌝ }
+{
+    10000
+}
+
+// Puts the words of an answer's number, as far as there is room; the number of bytes put there.
+#[no_mangle]
+pub extern "C" fn lleuadrys_words(number: u16, out: &mut [u8]) -> usize
+    ensures { λ r. ⌜ (r ≡ min (length (wordsOf number)) (length (now (out .entry)))) × (now (out .exit) ≡ sets (now (out .entry)) 0 (wordsOf number)) ⌝ }
+{
+    put_words(number, out)
+}
 
 // Lists the directory of an image, as far as there is room; the number of bytes put there. A listing has at most 1,596.
 #[no_mangle]
@@ -157,10 +211,11 @@ pub extern "C" fn lleuadrys_decode(code: &[u8], text: &mut [u8]) -> usize
     }
 }
 
-// Codes a record, as far as there is room; the number of the code's bytes.
+// Codes a record, as far as there is room; the number of bytes put there.
 #[no_mangle]
 pub extern "C" fn lleuadrys_encode(text: &[u8], code: &mut [u8]) -> usize
-    ensures { λ r. ⌜ (r ≡ length (Encode.encode (now (text .entry)))) × (now (code .exit) ≡ sets (now (code .entry)) 0 (Encode.encode (now (text .entry)))) ⌝ }
+    ensures { λ r. ⌜ (r ≡ min (length (Encode.encode (now (text .entry)))) (length (now (code .entry)))) × (now (code .exit) ≡ sets (now (code .entry)) 0 (Encode.encode (now (text .entry)))) ⌝ }
 {
-    coding::encode(text, code)
+    let n = coding::encode(text, code);
+    least(n, code.len())
 }
