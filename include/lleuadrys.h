@@ -24,11 +24,11 @@
              are all zero are a session with no used entry.
    ENTRY     the number of a file in the directory, 0 to 17; any other is answered 8. lleuadrys_find gives it by name.
    CLOSING   A close (code 9) puts the file's buffer back in the image and writes its count and flags to its entry in the
-             directory; nothing of a file's count and flags is in the directory before that. So an image that is saved while
-             a file is open shows, mounted afresh, the records that it had at the opening, and of the engine with buffers a
-             sector may still be in the session. lleuadrys_field has the count and flags of an open file. There is no call
-             that writes back what is held and leaves the file open: document 01 has none. Close the file and open it again;
-             record forward, as often as lleuadrys_position told, leads back to where it stood.
+             directory, where the old ones stand until then; lleuadrys_field has those of an open file. An image that is saved
+             while a file is open has the old count beside records that are new already, or, with buffers, are still in the
+             session alone; mounted afresh it may be a bad image. There is no call that writes back what is held and leaves
+             the file open: document 01 has none. Close the file and open it again; record forward, as often as
+             lleuadrys_position told, leads back to where it stood.
 
    A request that is refused (3 to 12) changes nothing that was lent. Every call answers on every input: whatever stands in
    the image, the session and the buffers. The contracts are in crates/lleuadrys/src/lib.rt.

@@ -8,20 +8,25 @@ use native.Mathlib.Omega.{arith}
 use lib.Dec.{leb}
 use lib.ListN.{length, getD, List·getD-eq-default}
 use borrow.Author.Tests.{eq-eqb, ne-eqb, leb-true, leb-false}
+use Rattle.geometry.specs.Lists.{every}
 use Rattle.geometry.specs.Sizes.{entries, free}
-use Rattle.geometry.proofs.Tests.{either, chosen, not-chosen}
+use Rattle.geometry.proofs.Tests.{either, chosen, not-chosen, every-getD}
 use Rattle.directory.specs.Entries.{entryAt, isFree}
 use Rattle.directory.specs.Search.{told, find}
 use Rattle.directory.specs.declared.Entry.{Entry}
 use Rattle.directory.specs.declared.Found.{Found}
 use Rattle.tables.specs.Tables.{twoWordsWide}
 use Rattle.tables.specs.Tables as Tables
-use Rattle.storing.specs.Stored.{hasBuffers, isSession, lentSession}
+use Rattle.storing.specs.Stored.{hasBuffers, isSession}
 use Rattle.texts.specs.Texts.{spelled, Wrote}
 use Rattle.finding.proofs.Lent.{lent-table}
 use Rattle.telling.specs.Told.{found, fieldOf, fieldIn, words, wordsOf}
 
 -- ---- a session's entries
+
+-- the number, and what goes into the caller's place
+pub parts : (x y : ℕ × List ℕ) (old : ℕ) → x ≡ y → (y .0 ≡ x .0) × (getD (y .1) 0 old ≡ getD (x .1) 0 old)
+parts x y old e = (sym (ap (λ (z : ℕ × List ℕ). z .0) e), sym (ap (λ (z : ℕ × List ℕ). getD (z .1) 0 old) e))
 
 module _ (b : List ℕ) (u s : Bool) (pu : u ≡ hasBuffers b) (ps : s ≡ isSession u b) where
   told-session : isSession (hasBuffers b) b ≡ s
@@ -80,6 +85,13 @@ module _ {old new : List ℕ} {b : ℕ} where
   pub no-words : (n : ℕ) → length words ≤ n → Wrote old 0 (spelled "no such number") new b → Wrote old 0 (wordsOf n) new b
   unfolding wordsOf
   no-words n h = subst (λ (xs : List ℕ). Wrote old 0 xs new b) (sym (List·getD-eq-default words (spelled "no such number") {n = n} h))
+
+-- room for 50 bytes leaves nothing out
+pub words-short : (n : ℕ) → length (wordsOf n) ≤ 50
+unfolding wordsOf words spelled every
+words-short n = either (leb 13 n)
+    (λ (t : leb 13 n ≡ true). rw (List·getD-eq-default words (spelled "no such number") {n = n} (leb-true 13 n t)) (omega arith))
+    (λ (t : leb 13 n ≡ false). leb-true _ 50 (every-getD (λ (xs : List ℕ). leb (length xs) 50) words n (spelled "no such number") refl (leb-false 13 n t)))
 
 -- a number that is none of those below has them behind it
 pub one-past : (k n : ℕ) → k ≤ n → n ≢ k → suc k ≤ n

@@ -1,10 +1,6 @@
 -- What the search tells, in a session; else 12.
-use mathlib.Core.Path.{sym, ap}
-use mathlib.Core.List.{List}
-use Prim.Native.Nat.{ℕ}
-use lib.ListN.{getD}
 use borrow.Author.Tests.{not-true, not-false}
-use Rattle.telling.proofs.Told.{found-none, found-told}
+use Rattle.telling.proofs.Told.{parts, found-none, found-told}
 use borrow.Author.Needs.{needs}
 use Rattle.telling.proofs.find_named.Statement.{statement}
 use Rattle.telling.proofs.find_named.Tie as tie
@@ -20,8 +16,7 @@ returns c =
     let a = c .before .before .before .before .before .args in
     let s = c .before .is-session in
     let h = c .before .before .has-buffers in
-    let f = found-none (a .b .now) (h .result) (s .result) (h .ensures) (s .ensures) (a .name .now) (not-true _ (c .if1 .taken)) in
-    (sym (ap (λ (x : ℕ × List ℕ). x .0) f), sym (ap (λ (x : ℕ × List ℕ). getD (x .1) 0 (a .at .now)) f))
+    parts _ _ (a .at .now) (found-none (a .b .now) (h .result) (s .result) (h .ensures) (s .ensures) (a .name .now) (not-true _ (c .if1 .taken)))
 
 search-in-requires : tie.Need-search-in-requires
 search-in-requires c κs = search needs
@@ -37,16 +32,14 @@ returns-2 c =
     let a = c .before .before .before .before .before .before .before .before .before .args in
     let s = c .before .before .before .before .before .is-session in
     let h = c .before .before .before .before .before .before .has-buffers in
-    let f = found-told (a .b .now) (h .result) (s .result) (h .ensures) (s .ensures) (a .name .now) (not-false _ (c .before .before .before .before .if1 .left)) _ _ (c .before .before .before .search-in .ensures) (c .before .i .given .1) in
-    (sym (ap (λ (x : ℕ × List ℕ). x .0) f), sym (ap (λ (x : ℕ × List ℕ). getD (x .1) 0 (a .at .now)) f))
+    parts _ _ (a .at .now) (found-told (a .b .now) (h .result) (s .result) (h .ensures) (s .ensures) (a .name .now) (not-false _ (c .before .before .before .before .if1 .left)) _ _ (c .before .before .before .search-in .ensures) (c .before .i .given .1))
 
 returns-3 : tie.Need-returns-3
 returns-3 c =
     let a = c .before .before .before .before .before .before .before .before .args in
     let s = c .before .before .before .before .is-session in
     let h = c .before .before .before .before .before .has-buffers in
-    let f = found-told (a .b .now) (h .result) (s .result) (h .ensures) (s .ensures) (a .name .now) (not-false _ (c .before .before .before .if1 .left)) _ _ (c .before .before .search-in .ensures) (c .enum-told .given .1) in
-    (sym (ap (λ (x : ℕ × List ℕ). x .0) f), sym (ap (λ (x : ℕ × List ℕ). getD (x .1) 0 (a .at .now)) f))
+    parts _ _ (a .at .now) (found-told (a .b .now) (h .result) (s .result) (h .ensures) (s .ensures) (a .name .now) (not-false _ (c .before .before .before .if1 .left)) _ _ (c .before .before .search-in .ensures) (c .enum-told .given .1))
 
 pub find-named-spec : {M : Type 1} → statement M
 find-named-spec =
