@@ -62,7 +62,8 @@ static int make_stack(void)
 /* ---- what is tried, and what it took */
 
 enum { PLAIN, BUFFERED, ENGINES };
-enum { MOUNT, NO_SESSION, ANY_REQUEST, LAST_REQUEST = ANY_REQUEST + 13, LOOK, POSITION, LIST, DECODE, ENCODE, SIZES, ROWS };
+enum { MOUNT, NO_SESSION, ANY_REQUEST, LAST_REQUEST = ANY_REQUEST + 13, LOOK, POSITION, FIND, FIELD,
+       LIST, WORDS_PUT, DECODE, ENCODE, SIZES, ROWS };
 static const char *const names[ROWS] = {
     [MOUNT] = "`lleuadrys_mount`",
     [NO_SESSION] = "`lleuadrys_request`, any bytes for a session",
@@ -82,10 +83,13 @@ static const char *const names[ROWS] = {
     "13 file back",
     [LOOK] = "`lleuadrys_look`",
     [POSITION] = "`lleuadrys_position`",
+    [FIND] = "`lleuadrys_find`",
+    [FIELD] = "`lleuadrys_field`",
     [LIST] = "`lleuadrys_list`",
+    [WORDS_PUT] = "`lleuadrys_words`",
     [DECODE] = "`lleuadrys_decode`",
     [ENCODE] = "`lleuadrys_encode`",
-    [SIZES] = "`lleuadrys_session_size`, `lleuadrys_buffered_session_size`",
+    [SIZES] = "`lleuadrys_session_size`, `lleuadrys_buffered_session_size`, `lleuadrys_version`",
 };
 static size_t most[ROWS][ENGINES];
 static unsigned tried[ROWS][ENGINES], done[ROWS][ENGINES]; /* calls, and those of them that were answered 0 */
@@ -258,6 +262,16 @@ static void try_position(int engine, size_t session_size, size_t entry)
     done[POSITION][engine] += stands != LLEUADRYS_CLOSED;
 }
 
+/* A name out of the session's bytes, where an entry begins or anywhere, and every field of an entry. */
+static void try_entry(int engine, size_t session_size, size_t entry)
+{
+    static size_t found;
+    size_t at = any(2) == 0 ? 22 * (size_t)any(18) : any((uint32_t)session_size - 16);
+    uint64_t answer = TRY(FIND, engine, lleuadrys_find, A(session), session_size, A(session + at), any(8) == 0 ? any(16) : 8, A(&found));
+    done[FIND][engine] += answer == 0;
+    done[FIELD][engine] += TRY(FIELD, engine, lleuadrys_field, A(session), session_size, entry, any(8)) != 0;
+}
+
 /* Entry numbers: those that there are, the one behind them, the greatest. */
 static size_t any_entry(void)
 {
@@ -282,6 +296,7 @@ static void walk(int engine, const uint8_t *from, unsigned steps)
         try_request(1 <= request && request <= 13 ? ANY_REQUEST + (int)request : ANY_REQUEST, engine, size, entry, request);
         try_look(engine, size, entry, any(9));
         try_position(engine, size, entry);
+        try_entry(engine, size, entry);
         memcpy(kept, session, size);
         if (k % 8 == 0)
             fill(session, size);
@@ -290,6 +305,7 @@ static void walk(int engine, const uint8_t *from, unsigned steps)
         try_request(NO_SESSION, engine, size, entry, any(16));
         try_look(engine, size, entry, any(9));
         try_position(engine, size, entry);
+        try_entry(engine, size, entry);
         memcpy(session, kept, size);
     }
 }
@@ -370,7 +386,10 @@ int main(void)
         done[LIST][PLAIN] += TRY(LIST, PLAIN, lleuadrys_list, A(mixed), sizeof mixed, A(out), k) == k;
         TRY(LIST, PLAIN, lleuadrys_list, A(hostile), sizeof hostile, A(out), k);
     }
+    for (unsigned k = 0; k < 1600; k++)
+        done[WORDS_PUT][PLAIN] += TRY(WORDS_PUT, PLAIN, lleuadrys_words, k % 16, A(out), any(60)) != 0;
     try_codes();
+    done[SIZES][PLAIN] += TRY(SIZES, PLAIN, lleuadrys_version, 0) == LLEUADRYS_VERSION;
     done[SIZES][PLAIN] += TRY(SIZES, PLAIN, lleuadrys_session_size, 0) == LLEUADRYS_SESSION;
     done[SIZES][PLAIN] += TRY(SIZES, PLAIN, lleuadrys_buffered_session_size, 0) == LLEUADRYS_BUFFERED_SESSION;
 

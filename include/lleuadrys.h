@@ -13,7 +13,9 @@
              with lleuadrys_order, which takes no pointer for them.
    CALLERS   Calls on different images and sessions may run at once. Of one image or one session there is one caller at a
              time: while a call that may change it runs, no other call may be lent the same bytes.
-   STACK
+   STACK     At most 824 bytes in a request, 488 in a listing, 344 in a look, 232 in a mounting and 120 in any other call,
+             whatever is lent: measured, not proved (docs/BENCHMARKS.md). Nothing in the library calls itself deeper than
+             the digits of a number.
    IMAGE     360 times N bytes, N from 1 to 4,096: sector 0 is the directory.
    SESSION   LLEUADRYS_SESSION bytes for the engine that moves every byte straight in the image, or
              LLEUADRYS_BUFFERED_SESSION for the one with a blocking buffer of 360 bytes for each open file, which writes
@@ -149,10 +151,14 @@ uint16_t lleuadrys_request(uint8_t *image, size_t image_size, uint8_t *session, 
                            uint16_t code, uint32_t granule, const uint8_t *given, size_t given_size, uint8_t *buffer,
                            size_t buffer_size);
 
-/* A request that is given no bytes and lends no buffer: an opening, or a position order (7 to 13). It answers as
-   lleuadrys_request does with both lengths 0 and granule 0; so a read or a write is refused. */
-uint16_t lleuadrys_order(uint8_t *image, size_t image_size, uint8_t *session, size_t session_size, size_t entry,
-                         uint16_t code);
+/* A request that is given no bytes and lends no buffer: an opening, or a position order (7 to 13). It is lleuadrys_request
+   with both lengths 0 and granule 0; so a read or a write is refused. */
+static inline uint16_t lleuadrys_order(uint8_t *image, size_t image_size, uint8_t *session, size_t session_size, size_t entry,
+                                       uint16_t code)
+{
+    uint8_t given = 0, buffer = 0;
+    return lleuadrys_request(image, image_size, session, session_size, entry, code, 0, &given, 0, &buffer, 0);
+}
 
 /* Looks at a granule in place: its size, with *at the byte of the image that it begins at; 0, and *at as it was, where
    the look is refused (lleuadrys_request with code 6 gives the number). */

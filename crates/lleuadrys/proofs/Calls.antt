@@ -1,7 +1,7 @@
 -- What the calls meet on their way: the table that mounting lays is the one that it hands out, and a look that shows something shows a granule of a session.
 use mathlib.Core.Path.{_≡_, refl, sym, ap, _∙_}
 use mathlib.Core.Bool.{Bool, true, false, _||_}
-use mathlib.Core.List.{List, [], _∷_}
+use mathlib.Core.List.{List}
 use Prim.Native.Nat.{ℕ, _*_, _≤_}
 use native.Mathlib.Omega.{arith}
 use lib.Dec.{eqb}
@@ -104,8 +104,3 @@ module _ (image b : List ℕ) (i : ℕ) (given buffer : List ℕ) where
   pub asked-none : (x : Asked) (a : Answer) (n : ℕ) → x ≡ Unknown → a ≡ lookAnswerIn image b i 0 → n ≡ unknownNumber a → left n image b buffer ≡ requested image b i x given buffer
   unfolding requested
   asked-none x a n u f p = rw (u, p, f)
-
--- a buffer of no bytes stays one
-pub no-buffer : (n : ℕ) (to lent moved : List ℕ) (w : Left) → length moved ≡ 0 → left n to lent moved ≡ w → left n to lent [] ≡ w
-no-buffer n to lent [] w z h = h
-no-buffer n to lent (x ∷ moved) w z h = absurd (omega arith)

@@ -19,7 +19,6 @@ use telling::find_named;
 use telling::put_words;
 ghost use mathlib.Core.Path.{_≡_};
 ghost use mathlib.Core.Bool.{true, false};
-ghost use mathlib.Core.List.{[]};
 ghost use Prim.Native.Nat.{min};
 ghost use lib.ListN.{length, getD};
 ghost use lib.Seq.{sets};
@@ -109,21 +108,6 @@ pub extern "C" fn lleuadrys_request(
         Asked::For(q) => number(engines::request(image, session, entry, q, given, buffer)),
         Asked::Unknown => unknown(look_answer(image, session, entry, 0)),
     }
-}
-
-// A request that is given no bytes and lends no buffer, by its code on that entry; its number.
-#[no_mangle]
-pub extern "C" fn lleuadrys_order(
-    image: &mut [u8],
-    session: &mut [u8],
-    entry: usize,
-    code: u16,
-) -> u16
-    ensures { λ r. ⌜ left r (now (image .exit)) (now (session .exit)) [] ≡ requested (now (image .entry)) (now (session .entry)) entry (askedFor code 0) [] [] ⌝ }
-{
-    let given: [u8; 0] = [];
-    let mut buffer: [u8; 0] = [];
-    lleuadrys_request(image, session, entry, code, 0, &given, &mut buffer)
 }
 
 // Looks at a granule in place: the number of its bytes, 0 where the look is refused; where they begin goes into at.
