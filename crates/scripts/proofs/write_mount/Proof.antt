@@ -1,10 +1,10 @@
--- `playing::write_mount` meets its contract: each word stands behind the one before it.
+-- `scripts::write_mount` meets its contract: each word stands behind the one before it.
 use Rattle.texts.specs.Texts.{spelled, spaced}
 use Rattle.texts.proofs.Writing.{then}
-use Rattle.playing.specs.Said.{mountLine}
+use Rattle.scripts.specs.Said.{mountLine}
 use borrow.Author.Needs.{needs}
-use Rattle.playing.proofs.write_mount.Statement.{statement}
-use Rattle.playing.proofs.write_mount.Tie as tie
+use Rattle.scripts.proofs.write_mount.Statement.{statement}
+use Rattle.scripts.proofs.write_mount.Tie as tie
 
 slice-aggregate-put-all : tie.Need-slice-aggregate-put-all
 slice-aggregate-put-all c = search needs

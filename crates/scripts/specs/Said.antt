@@ -2,10 +2,10 @@
 use mathlib.Core.List.{List, [], _∷_, _++_}
 use Prim.Native.Nat.{ℕ, zero, suc}
 use Rattle.texts.specs.Texts.{spelled, decimal, spaced}
-use Rattle.playing.specs.declared.Fault.{Fault}
-use Rattle.playing.specs.declared.Fault.the-variants.{Cut, Shape, Code, Missing, Unread}
-use Rattle.playing.specs.declared.Played.{Played}
-use Rattle.playing.specs.declared.Sums.{Sums}
+use Rattle.scripts.specs.declared.Fault.{Fault}
+use Rattle.scripts.specs.declared.Fault.the-variants.{Cut, Shape, Code, Missing, Unread}
+use Rattle.scripts.specs.declared.Played.{Played}
+use Rattle.scripts.specs.declared.Sums.{Sums}
 
 -- the first line: MOUNT ANSWER
 unfoldable pub mountLine : ℕ → List ℕ

@@ -1,7 +1,7 @@
 -- Sums of words modulo 65,535. Definitions only.
 use mathlib.Core.List.{List, [], _∷_}
 use Prim.Native.Nat.{ℕ, _+_, _*_, _%_}
-use Rattle.playing.specs.declared.Sums.{Sums}
+use Rattle.scripts.specs.declared.Sums.{Sums}
 
 -- the words of some bytes; an odd last byte counts as the high byte of a word
 unfoldable pub wordsOf : List ℕ → List ℕ

@@ -1,10 +1,10 @@
--- `playing::write_fault` meets its contract: each word stands behind the one before it.
+-- `scripts::write_fault` meets its contract: each word stands behind the one before it.
 use Rattle.texts.specs.Texts.{spelled, decimal}
 use Rattle.texts.proofs.Writing.{then, word-then}
-use Rattle.playing.specs.Said.{faultLine}
+use Rattle.scripts.specs.Said.{faultLine}
 use borrow.Author.Needs.{needs}
-use Rattle.playing.proofs.write_fault.Statement.{statement}
-use Rattle.playing.proofs.write_fault.Tie as tie
+use Rattle.scripts.proofs.write_fault.Statement.{statement}
+use Rattle.scripts.proofs.write_fault.Tie as tie
 
 slice-aggregate-put-all : tie.Need-slice-aggregate-put-all
 slice-aggregate-put-all c = search needs

@@ -1,10 +1,10 @@
--- `playing::put_stand` meets its contract: it tests what the definition does.
+-- `scripts::put_stand` meets its contract: it tests what the definition does.
 use Rattle.texts.specs.Texts.{spelled, decimal, spaced}
 use Rattle.texts.proofs.Writing.{word-then}
-use Rattle.playing.proofs.Lines.{stands-not, stands}
+use Rattle.scripts.proofs.Lines.{stands-not, stands}
 use borrow.Author.Needs.{needs}
-use Rattle.playing.proofs.put_stand.Statement.{statement}
-use Rattle.playing.proofs.put_stand.Tie as tie
+use Rattle.scripts.proofs.put_stand.Statement.{statement}
+use Rattle.scripts.proofs.put_stand.Tie as tie
 
 slice-aggregate-put-all : tie.Need-slice-aggregate-put-all
 slice-aggregate-put-all c = search needs

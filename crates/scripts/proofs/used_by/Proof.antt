@@ -1,7 +1,7 @@
--- `playing::used_by` meets its contract: the branches are the definition's.
-use Rattle.playing.proofs.Rows.{writes, writes-not}
-use Rattle.playing.proofs.used_by.Statement.{statement}
-use Rattle.playing.proofs.used_by.Tie as tie
+-- `scripts::used_by` meets its contract: the branches are the definition's.
+use Rattle.scripts.proofs.Rows.{writes, writes-not}
+use Rattle.scripts.proofs.used_by.Statement.{statement}
+use Rattle.scripts.proofs.used_by.Tie as tie
 
 returns : tie.Need-returns
 returns c = writes (c .before .args .code) (c .before .args .length) (c .if1 .taken)

@@ -1,13 +1,13 @@
--- `playing::sums_of` meets its contract: behind the first i words the sums of the rest are to be added.
+-- `scripts::sums_of` meets its contract: behind the first i words the sums of the rest are to be added.
 use mathlib.Core.Path.{_≡_}
 use Prim.Native.Nat.{_+_, _*_, _-_, _<_, _≤_}
 use native.Mathlib.Omega.{arith}
 use borrow.Author.Needs.{needs}
 use lib.ListN.{length, drop}
-use Rattle.playing.specs.Sums.{wordsOf, total, sumOf, running, sumsOf}
-use Rattle.playing.proofs.Adding.{next, none, To, added, ended, behind, behind-none}
-use Rattle.playing.proofs.sums_of.Statement.{statement}
-use Rattle.playing.proofs.sums_of.Tie as tie
+use Rattle.scripts.specs.Sums.{wordsOf, total, sumOf, running, sumsOf}
+use Rattle.scripts.proofs.Adding.{next, none, To, added, ended, behind, behind-none}
+use Rattle.scripts.proofs.sums_of.Statement.{statement}
+use Rattle.scripts.proofs.sums_of.Tie as tie
 
 abbrev Inv-loop : tie.InvT-loop
 Inv-loop s n a₀ b₀ i₀ a b i =

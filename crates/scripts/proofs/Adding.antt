@@ -6,7 +6,7 @@ use native.Mathlib.Omega.{arith}
 use lib.ListN.{length, drop, getD, drop-of-length-le}
 use lib.Seq.{drop-cons, drop-drop, getD-drop}
 use Rattle.geometry.specs.Bytes.{wordAt}
-use Rattle.playing.specs.Sums.{wordsOf, total, sumOf, running}
+use Rattle.scripts.specs.Sums.{wordsOf, total, sumOf, running}
 
 first : (x : ℕ) (r : List ℕ) → wordsOf (x ∷ r) ≡ (256 * x + getD r 0 0) ∷ wordsOf (drop 1 r)
 unfolding wordsOf

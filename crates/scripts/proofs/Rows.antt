@@ -9,9 +9,9 @@ use borrow.Author.Tests.{lt-ltb, le-ltb}
 use Rattle.geometry.specs.Bytes.{wordAt}
 use Rattle.requests.specs.Codes.{askedFor}
 use Rattle.requests.specs.declared.Asked.{Asked}
-use Rattle.playing.specs.Script.{usedBy, rowFor, rowOf}
-use Rattle.playing.specs.declared.Fault.the-variants.{Cut, Shape}
-use Rattle.playing.specs.declared.Found.the-variants.{Wrong}
+use Rattle.scripts.specs.Script.{usedBy, rowFor, rowOf}
+use Rattle.scripts.specs.declared.Fault.the-variants.{Cut, Shape}
+use Rattle.scripts.specs.declared.Found.the-variants.{Wrong}
 
 pub writes : (code n : ℕ) → (eqb code 3 || eqb code 5) ≡ true → n ≡ usedBy code n
 unfolding usedBy

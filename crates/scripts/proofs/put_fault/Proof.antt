@@ -1,10 +1,10 @@
--- `playing::put_fault` meets its contract: one way for each fault.
+-- `scripts::put_fault` meets its contract: one way for each fault.
 use Rattle.texts.specs.Texts.{spelled, decimal}
 use Rattle.texts.proofs.Writing.{then, word-then}
-use Rattle.playing.specs.Said.{faultWords}
+use Rattle.scripts.specs.Said.{faultWords}
 use borrow.Author.Needs.{needs}
-use Rattle.playing.proofs.put_fault.Statement.{statement}
-use Rattle.playing.proofs.put_fault.Tie as tie
+use Rattle.scripts.proofs.put_fault.Statement.{statement}
+use Rattle.scripts.proofs.put_fault.Tie as tie
 
 enum-known-f : tie.Need-enum-known-f
 enum-known-f c = search needs

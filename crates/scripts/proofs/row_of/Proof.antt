@@ -1,10 +1,10 @@
--- `playing::row_of` meets its contract: its tests are the definition's, in its order, and what the code asks for is the rest.
+-- `scripts::row_of` meets its contract: its tests are the definition's, in its order, and what the code asks for is the rest.
 use mathlib.Core.Path.{_∙_, sym}
-use Rattle.playing.specs.Script.{rowIn, rowFor}
-use Rattle.playing.proofs.Rows.{cut, shape, by-asked}
+use Rattle.scripts.specs.Script.{rowIn, rowFor}
+use Rattle.scripts.proofs.Rows.{cut, shape, by-asked}
 use borrow.Author.Needs.{needs}
-use Rattle.playing.proofs.row_of.Statement.{statement}
-use Rattle.playing.proofs.row_of.Tie as tie
+use Rattle.scripts.proofs.row_of.Statement.{statement}
+use Rattle.scripts.proofs.row_of.Tie as tie
 
 cast-t8 : tie.Need-cast-t8
 cast-t8 c = search needs

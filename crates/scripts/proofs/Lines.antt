@@ -5,7 +5,7 @@ use mathlib.Core.List.{List, [], _∷_, _++_}
 use Prim.Native.Nat.{ℕ, zero, suc, _-_}
 use native.Mathlib.Omega.{arith}
 use Rattle.texts.specs.Texts.{spelled, decimal, spaced}
-use Rattle.playing.specs.Said.{standWords}
+use Rattle.scripts.specs.Said.{standWords}
 
 -- a word before POSITION and BEYOND
 pub before : (w : List ℕ) (n p : ℕ) → spaced (w ∷ standWords n p) ≡ w ++ (32 ∷ spaced (standWords n p))

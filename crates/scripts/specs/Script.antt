@@ -8,10 +8,10 @@ use Rattle.geometry.specs.Bytes.{wordAt}
 use Rattle.requests.specs.Codes.{askedFor}
 use Rattle.requests.specs.declared.Asked.{Asked}
 use Rattle.requests.specs.declared.Asked.the-variants.{For, Unknown}
-use Rattle.playing.specs.declared.Fault.the-variants.{Cut, Shape, Code}
-use Rattle.playing.specs.declared.Found.{Found}
-use Rattle.playing.specs.declared.Found.the-variants.{InOrder, Wrong}
-use Rattle.playing.specs.declared.Row.{Row}
+use Rattle.scripts.specs.declared.Fault.the-variants.{Cut, Shape, Code}
+use Rattle.scripts.specs.declared.Found.{Found}
+use Rattle.scripts.specs.declared.Found.the-variants.{InOrder, Wrong}
+use Rattle.scripts.specs.declared.Row.{Row}
 
 -- a write's row, of code 3 or 5, uses up its length of the bytes given
 unfoldable pub usedBy : ℕ → ℕ → ℕ

@@ -1,10 +1,10 @@
--- `playing::write_image` meets its contract: each word stands behind the one before it.
+-- `scripts::write_image` meets its contract: each word stands behind the one before it.
 use Rattle.texts.specs.Texts.{spelled, decimal, spaced}
 use Rattle.texts.proofs.Writing.{then, word-then}
-use Rattle.playing.specs.Said.{imageLine}
+use Rattle.scripts.specs.Said.{imageLine}
 use borrow.Author.Needs.{needs}
-use Rattle.playing.proofs.write_image.Statement.{statement}
-use Rattle.playing.proofs.write_image.Tie as tie
+use Rattle.scripts.proofs.write_image.Statement.{statement}
+use Rattle.scripts.proofs.write_image.Tie as tie
 
 slice-aggregate-put-all : tie.Need-slice-aggregate-put-all
 slice-aggregate-put-all c = search needs

@@ -1,11 +1,11 @@
--- `playing::write_row` meets its contract: each word stands behind the one before it.
+-- `scripts::write_row` meets its contract: each word stands behind the one before it.
 use Rattle.texts.specs.Texts.{decimal, spaced}
 use Rattle.texts.proofs.Writing.{word-then}
-use Rattle.playing.specs.Said.{rowLine}
-use Rattle.playing.proofs.Lines.{before}
+use Rattle.scripts.specs.Said.{rowLine}
+use Rattle.scripts.proofs.Lines.{before}
 use borrow.Author.Needs.{needs}
-use Rattle.playing.proofs.write_row.Statement.{statement}
-use Rattle.playing.proofs.write_row.Tie as tie
+use Rattle.scripts.proofs.write_row.Statement.{statement}
+use Rattle.scripts.proofs.write_row.Tie as tie
 
 put-number-requires : tie.Need-put-number-requires
 put-number-requires c κs = search needs
