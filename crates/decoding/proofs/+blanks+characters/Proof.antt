@@ -1,4 +1,4 @@
--- `coding::blanks` and `coding::characters`, which call each other, meet their contracts: each answers for its run, and the call that it ends with
+-- `decoding::blanks` and `decoding::characters`, which call each other, meet their contracts: each answers for its run, and the call that it ends with
 -- for what follows. The measure is twice the bytes that are left, and one more for runs of characters.
 use mathlib.Core.Path.{sym, _∙_}
 use Prim.Native.Nat.{ℕ, _<_, _+_, _*_, _-_}
@@ -6,15 +6,15 @@ use native.Mathlib.Omega.{arith}
 use lib.ListN.{length}
 use borrow.Fn.Kinds.{In}
 use borrow.Fn.PlainCycle.{Measures, is, falls, and}
-use Rattle.coding.proofs.Measured.{stops, few-short, few-over, few-taken, most-none, most-over, most-taken, ends}
-use Rattle.coding.proofs.blanks.Reads as blanks
-use Rattle.coding.proofs.blanks.Kinds as blanks-kinds
-use Rattle.coding.proofs.+blanks+characters.Lts-blanks as blanks-lts
-use Rattle.coding.proofs.characters.Reads as characters
-use Rattle.coding.proofs.characters.Kinds as characters-kinds
-use Rattle.coding.proofs.+blanks+characters.Lts-characters as characters-lts
-use Rattle.coding.proofs.+blanks+characters.{statement}
-use Rattle.coding.proofs.+blanks+characters.Tie.{close}
+use Rattle.decoding.proofs.Measured.{stops, few-short, few-over, few-taken, most-none, most-over, most-taken, ends}
+use Rattle.decoding.proofs.blanks.Reads as blanks
+use Rattle.decoding.proofs.blanks.Kinds as blanks-kinds
+use Rattle.decoding.proofs.+blanks+characters.Lts-blanks as blanks-lts
+use Rattle.decoding.proofs.characters.Reads as characters
+use Rattle.decoding.proofs.characters.Kinds as characters-kinds
+use Rattle.decoding.proofs.+blanks+characters.Lts-characters as characters-lts
+use Rattle.decoding.proofs.+blanks+characters.{statement}
+use Rattle.decoding.proofs.+blanks+characters.Tie.{close}
 
 abbrev μ-blanks : Measures 2 blanks-kinds.ps ℕ
 μ-blanks κs a = 2 * (length (a .0 .now .now) - a .1 .0)

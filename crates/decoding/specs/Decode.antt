@@ -6,8 +6,8 @@ use Prim.Native.Nat.{ℕ, zero, suc, _+_, _-_, _≤_}
 use lib.ListN.{length, take, drop, getD, replicate}
 use lib.Dec.{eqb, leb, ltb}
 use Rattle.geometry.specs.Sizes.{blank, sector}
-use Rattle.coding.specs.declared.Coded.{Coded}
-use Rattle.coding.specs.declared.Coded.the-variants.{Good, Bad}
+use Rattle.decoding.specs.declared.Coded.{Coded}
+use Rattle.decoding.specs.declared.Coded.the-variants.{Good, Bad}
 
 -- what a control byte asks for
 pub data Control : Type 0 where

@@ -1,11 +1,11 @@
--- `coding::decode` meets its contract: a good code leaves the record in the buffer, and a bad one is found before the buffer is touched.
+-- `decoding::decode` meets its contract: a good code leaves the record in the buffer, and a bad one is found before the buffer is touched.
 use mathlib.Core.Path.{sym, _∙_}
 use lib.ListN.{length}
 use borrow.Author.Needs.{needs}
-use Rattle.coding.specs.Decode.{decode}
-use Rattle.coding.proofs.Filled.{awaited, decoded-good, decoded-bad}
-use Rattle.coding.proofs.decode.Statement.{statement}
-use Rattle.coding.proofs.decode.Tie as tie
+use Rattle.decoding.specs.Decode.{decode}
+use Rattle.decoding.proofs.Filled.{awaited, decoded-good, decoded-bad}
+use Rattle.decoding.proofs.decode.Statement.{statement}
+use Rattle.decoding.proofs.decode.Tie as tie
 
 measure-requires : tie.Need-measure-requires
 measure-requires c κs = search needs

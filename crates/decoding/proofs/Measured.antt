@@ -13,10 +13,10 @@ use lib.Dec.{eqb, ltb}
 use borrow.Author.Tests.{lt-ltb, le-ltb, ne-eqb}
 use Rattle.geometry.specs.Sizes.{sector}
 use Rattle.geometry.specs.Bytes.{part}
-use Rattle.coding.specs.declared.Coded.{Coded}
-use Rattle.coding.specs.declared.Coded.the-variants.{Good, Bad}
-use Rattle.coding.specs.Decode.{Decoded, good, bad, before, decodeFrom, decode, answer, stopped}
-use Rattle.coding.proofs.Reader.{at-end, at-stop, at-goOn, at-short, at-over, at-run, at-full, at-blanks}
+use Rattle.decoding.specs.declared.Coded.{Coded}
+use Rattle.decoding.specs.declared.Coded.the-variants.{Good, Bad}
+use Rattle.decoding.specs.Decode.{Decoded, good, bad, before, decodeFrom, decode, answer, stopped}
+use Rattle.decoding.proofs.Reader.{at-end, at-stop, at-goOn, at-short, at-over, at-run, at-full, at-blanks}
 
 -- what is answered from the place `at` on
 abbrev pub Answer : List ℕ → ℕ → ℕ → Coded

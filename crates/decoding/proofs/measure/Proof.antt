@@ -1,4 +1,4 @@
--- `coding::measure` meets its contract: the two decoding functions read a sector's bytes, from the first on, and the byte at which they stop says the answer.
+-- `decoding::measure` meets its contract: the two decoding functions read a sector's bytes, from the first on, and the byte at which they stop says the answer.
 use mathlib.Core.Path.{_≡_, ap}
 use mathlib.Core.Bool.{Bool, true, false, _&&_}
 use Prim.Native.Nat.{_<_}
@@ -10,10 +10,10 @@ use borrow.Author.Tests.{ltb-true}
 use Rattle.geometry.specs.Sizes.{sector}
 use Rattle.geometry.proofs.Tests.{and-left}
 use Rattle.geometry.proofs.Bytes.{length-part-min}
-use Rattle.coding.specs.Decode.{decode, answer}
-use Rattle.coding.proofs.Measured.{told, read-told}
-use Rattle.coding.proofs.measure.Statement.{statement}
-use Rattle.coding.proofs.measure.Tie as tie
+use Rattle.decoding.specs.Decode.{decode, answer}
+use Rattle.decoding.proofs.Measured.{told, read-told}
+use Rattle.decoding.proofs.measure.Statement.{statement}
+use Rattle.decoding.proofs.measure.Tie as tie
 
 part-requires : tie.Need-part-requires
 part-requires c κs = search needs

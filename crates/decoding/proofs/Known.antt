@@ -12,8 +12,8 @@ use lib.ListN.{length, take, drop, getD, replicate, length-append, length-take, 
 use lib.Seq.{length-take-le, take-take}
 use lib.Dec.{leb}
 use Rattle.geometry.specs.Sizes.{blank, sector}
-use Rattle.coding.specs.Decode.{Control, stop, goOn, characters, blanks, control, Decoded, good, bad, before, obey, decodeFrom, charactersFrom, decode}
-use Rattle.coding.proofs.Reader.{at-stop, at-goOn, at-short, at-over, at-on, at-full, at-blanks}
+use Rattle.decoding.specs.Decode.{Control, stop, goOn, characters, blanks, control, Decoded, good, bad, before, obey, decodeFrom, charactersFrom, decode}
+use Rattle.decoding.proofs.Reader.{at-stop, at-goOn, at-short, at-over, at-on, at-full, at-blanks}
 
 no-good : (k : ℕ) (xs : List ℕ) (e : ℕ) → bad k ≡ good xs e → ⊥
 no-good k xs e h = let z : _≡_ {A = ℕ} 0 1 = cc in omega arith

@@ -11,11 +11,11 @@ use lib.ListN.{length, take, drop, getD, replicate, length-append, length-drop, 
 use lib.Seq.{take-at, drop-at, take-add, drop-drop, getD-drop, length-take-le}
 use Rattle.geometry.specs.Sizes.{blank}
 use Rattle.geometry.specs.Bytes.{lay}
-use Rattle.coding.specs.declared.Coded.{Coded}
-use Rattle.coding.specs.Decode.{Decoded, good, bad, before, decodeFrom, decode, answer, given, isGood, Awaited, filled}
+use Rattle.decoding.specs.declared.Coded.{Coded}
+use Rattle.decoding.specs.Decode.{Decoded, good, bad, before, decodeFrom, decode, answer, given, isGood, Awaited, filled}
 use Rattle.geometry.proofs.Bytes.{lay-fits, lay-all, length-lay}
-use Rattle.coding.proofs.Reader.{at-end, at-stop, at-goOn, at-short, at-over, at-run, at-full, at-blanks, answer-good, answer-bad}
-use Rattle.coding.proofs.Known.{decode-all}
+use Rattle.decoding.proofs.Reader.{at-end, at-stop, at-goOn, at-short, at-over, at-run, at-full, at-blanks, answer-good, answer-bad}
+use Rattle.decoding.proofs.Known.{decode-all}
 
 -- ---- good codes
 

@@ -1,14 +1,14 @@
--- `coding::place` meets its contract. The invariant: what is still to be read, from i on into the room from j on, fills out as the whole does.
+-- `decoding::place` meets its contract. The invariant: what is still to be read, from i on into the room from j on, fills out as the whole does.
 use mathlib.Core.Path.{_≡_, refl, sym, _∙_}
 use Prim.Native.Nat.{_<_, _≤_, _+_, _-_}
 use native.Mathlib.Nat.{sub-zero}
 use native.Mathlib.Omega.{arith}
 use lib.ListN.{length, getD}
 use borrow.Author.Needs.{needs}
-use Rattle.coding.specs.Decode.{Awaited, filled}
-use Rattle.coding.proofs.Filled.{Next, Passed, inside, stops, passes, over, run-fits, laid}
-use Rattle.coding.proofs.place.Statement.{statement}
-use Rattle.coding.proofs.place.Tie as tie
+use Rattle.decoding.specs.Decode.{Awaited, filled}
+use Rattle.decoding.proofs.Filled.{Next, Passed, inside, stops, passes, over, run-fits, laid}
+use Rattle.decoding.proofs.place.Statement.{statement}
+use Rattle.decoding.proofs.place.Tie as tie
 
 abbrev Inv-loop : tie.InvT-loop
 Inv-loop s out₀ i₀ j₀ out i j = (length out ≡ length out₀) × Awaited (Next s i out j) out j × (filled (Next s 0 out₀ 0) out₀ 0 ≡ filled (Next s i out j) out j)

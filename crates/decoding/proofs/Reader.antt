@@ -8,8 +8,8 @@ use native.Mathlib.Omega.{arith}
 use lib.ListN.{length, take, drop, getD, replicate}
 use borrow.Author.Tests.{lt-ltb, le-ltb, le-leb, lt-leb, ne-eqb}
 use Rattle.geometry.specs.Sizes.{blank}
-use Rattle.coding.specs.declared.Coded.{Coded}
-use Rattle.coding.specs.Decode.{Decoded, answer, Control, stop, goOn, characters, blanks, control, good, bad, before, obey, decodeFrom, charactersFrom}
+use Rattle.decoding.specs.declared.Coded.{Coded}
+use Rattle.decoding.specs.Decode.{Decoded, answer, Control, stop, goOn, characters, blanks, control, good, bad, before, obey, decodeFrom, charactersFrom}
 
 -- ---- control bytes
 
