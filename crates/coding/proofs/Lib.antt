@@ -1,7 +1,3 @@
-pub mod Reader
-pub mod Filled
-pub mod Measured
-pub mod Known
 pub mod Runs
 pub mod Round
 pub mod Sizes

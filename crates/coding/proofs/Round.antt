@@ -11,9 +11,9 @@ use lib.Seq.{take-at, drop-at, length-take-le, take-length, take-append-le, take
 use Rattle.geometry.specs.Sizes.{blank, sector}
 use Rattle.geometry.specs.Bytes.{padded}
 use Rattle.geometry.proofs.Bytes.{length-padded}
-use Rattle.coding.specs.Decode.{control, good, before, obey, decodeFrom, decode}
+use Rattle.decoding.specs.Decode.{control, good, before, obey, decodeFrom, decode}
 use Rattle.coding.specs.Encode.{keeps, inGap, runLength, runCode, runsCode, encode, codeOf}
-use Rattle.coding.proofs.Reader.{at-run, at-blanks}
+use Rattle.decoding.proofs.Reader.{at-run, at-blanks}
 use Rattle.coding.proofs.Runs.{run-le, run-own, gap-blank, run-blanks, keeps-le, keeps-trims, keeps-front, keeps-blanks}
 
 -- a run is read as its characters

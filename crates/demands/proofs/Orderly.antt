@@ -14,8 +14,8 @@ use Rattle.geometry.specs.Lists.{every}
 use Rattle.geometry.specs.Places.{placeOf, byteOf}
 use Rattle.geometry.specs.Sizes.{sector, compressed}
 use Rattle.geometry.proofs.Bytes.{same-bytes, length-part-min, length-lay, getD-lay-behind}
-use Rattle.coding.specs.Decode.{Decoded, good, bad, decode}
-use Rattle.coding.proofs.Known.{decode-good}
+use Rattle.decoding.specs.Decode.{Decoded, good, bad, decode}
+use Rattle.decoding.proofs.Known.{decode-good}
 use Rattle.directory.specs.Entries.{entryAt, isKind}
 use Rattle.packing.specs.Reading.{got, lost, gotFrom, startOf, readAt, readBehind, extentEnd}
 use Rattle.requests.specs.Judge.{tests, whether, orElse, firstOf, judge, placeInLine, inOrder}

@@ -2,9 +2,9 @@
 use mathlib.Core.Path.{_≡_, refl}
 use Prim.Native.Nat.{ℕ, _≤_, _<_}
 use borrow.Author.Tests.{le-leb, lt-leb}
-use Rattle.coding.specs.Decode.{Decoded, good, bad, answer}
-use Rattle.coding.specs.declared.Coded.{Coded}
-use Rattle.coding.specs.declared.Coded.the-variants.{Good, Bad}
+use Rattle.decoding.specs.Decode.{Decoded, good, bad, answer}
+use Rattle.decoding.specs.declared.Coded.{Coded}
+use Rattle.decoding.specs.declared.Coded.the-variants.{Good, Bad}
 use Rattle.requests.specs.Numbers.{numberOf}
 use Rattle.requests.specs.declared.Answer.{Answer}
 use Rattle.lleuadrys.specs.Codes.{unknownNumber, codeSize}

@@ -2,7 +2,7 @@
 use mathlib.Core.Bool.{true, false}
 use Prim.Native.Nat.{ℕ, _+_, _*_}
 use lib.Dec.{leb}
-use Rattle.coding.specs.Decode.{Decoded, good, bad}
+use Rattle.decoding.specs.Decode.{Decoded, good, bad}
 use Rattle.requests.specs.Numbers.{numberOf}
 use Rattle.requests.specs.declared.Answer.{Answer}
 use Rattle.sessions.specs.declared.Spot.{Spot}

@@ -1,6 +1,6 @@
 // The calls from C: both engines on a lent image, with the session in lent bytes, whose number says which engine's they are. include/lleuadrys.h has the
 // declarations.
-use coding::Coded;
+use decoding::Coded;
 use finding::spot_in;
 use geometry::least;
 use geometry::part;
@@ -22,7 +22,7 @@ ghost use mathlib.Core.Bool.{true, false};
 ghost use Prim.Native.Nat.{min};
 ghost use lib.ListN.{length, getD};
 ghost use lib.Seq.{sets};
-ghost use Rattle.coding.specs.Decode as Decode;
+ghost use Rattle.decoding.specs.Decode as Decode;
 ghost use Rattle.coding.specs.Encode as Encode;
 ghost use Rattle.listing.specs.Listing.{listing};
 ghost use Rattle.requests.specs.Codes.{askedFor};
@@ -189,7 +189,7 @@ pub extern "C" fn lleuadrys_decode(code: &[u8], text: &mut [u8]) -> usize
     ensures { λ r. ⌜ (r ≡ codeSize (Decode.decode (length (now (text .entry))) (now (code .entry))))
         × (now (text .exit) ≡ Decode.given (Decode.decode (length (now (text .entry))) (now (code .entry))) (now (text .entry))) ⌝ }
 {
-    match coding::decode(code, text) {
+    match decoding::decode(code, text) {
         Coded::Good(n) => n,
         Coded::Bad(_) => 0,
     }

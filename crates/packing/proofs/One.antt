@@ -14,8 +14,8 @@ use Rattle.geometry.specs.Sizes.{sector}
 use Rattle.geometry.specs.Places.{byteOf}
 use Rattle.geometry.specs.declared.Place.{Place}
 use Rattle.geometry.proofs.Bytes.{length-part-min, same-parts}
-use Rattle.coding.specs.Decode.{Decoded, good, bad, decode}
-use Rattle.coding.proofs.Known.{decode-good, decode-upto}
+use Rattle.decoding.specs.Decode.{Decoded, good, bad, decode}
+use Rattle.decoding.proofs.Known.{decode-good, decode-upto}
 use Rattle.packing.specs.Reading.{nextSector, further, goesOn, startOf, Recorded, got, lost, gotFrom, extentEnd, readAt, readBehind}
 use Rattle.geometry.proofs.Tests.{neither-left}
 

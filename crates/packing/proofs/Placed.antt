@@ -14,9 +14,9 @@ use Rattle.geometry.specs.Sizes.{sector, blank}
 use Rattle.geometry.specs.Places.{byteOf}
 use Rattle.geometry.specs.declared.Place.{Place}
 use Rattle.geometry.proofs.Bytes.{length-lay, getD-lay-before, getD-lay-in, part-lay-same, length-padded, getD-padded-behind}
-use Rattle.coding.specs.Decode.{good, decode}
+use Rattle.decoding.specs.Decode.{good, decode}
 use Rattle.coding.specs.Encode.{codeOf}
-use Rattle.coding.proofs.Known.{decode-good, decode-128}
+use Rattle.decoding.proofs.Known.{decode-good, decode-128}
 use Rattle.coding.proofs.Round.{decode-codeOf}
 use Rattle.coding.proofs.Sizes.{codeOf-length}
 use Rattle.packing.specs.Placing.{fitsHere, goesTo, behindNew, hasRoom, Change, filled, changes, laid}

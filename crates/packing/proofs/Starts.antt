@@ -14,11 +14,11 @@ use Rattle.geometry.specs.Sizes.{sector}
 use Rattle.geometry.specs.Places.{byteOf}
 use Rattle.geometry.specs.declared.Place.{Place}
 use Rattle.geometry.proofs.Bytes.{getD-part, part-part, length-part-min}
-use Rattle.coding.specs.Decode.{Decoded, good, bad, decodeFrom, decode, answer, given}
-use Rattle.coding.specs.declared.Coded.{Coded}
-use Rattle.coding.specs.declared.Coded.the-variants.{Good, Bad}
-use Rattle.coding.proofs.Reader.{answer-good, answer-bad}
-use Rattle.coding.proofs.Known.{decode-good, decode-bad}
+use Rattle.decoding.specs.Decode.{Decoded, good, bad, decodeFrom, decode, answer, given}
+use Rattle.decoding.specs.declared.Coded.{Coded}
+use Rattle.decoding.specs.declared.Coded.the-variants.{Good, Bad}
+use Rattle.decoding.proofs.Reader.{answer-good, answer-bad}
+use Rattle.decoding.proofs.Known.{decode-good, decode-bad}
 use Rattle.packing.specs.Reading.{overlaid, further, goesOn, startOf, Got, lost, gotFrom, extentEnd, readAt, readBehind, ledTo, into}
 use Rattle.packing.specs.declared.Led.the-variants.{To, Lost}
 use Rattle.packing.specs.declared.Led.{Led}

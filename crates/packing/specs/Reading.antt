@@ -9,7 +9,7 @@ use Rattle.geometry.specs.Bytes.{part, lay}
 use Rattle.geometry.specs.Sizes.{sector}
 use Rattle.geometry.specs.Places.{byteOf, origin}
 use Rattle.geometry.specs.declared.Place.{Place}
-use Rattle.coding.specs.Decode.{Decoded, good, bad, decode}
+use Rattle.decoding.specs.Decode.{Decoded, good, bad, decode}
 use Rattle.packing.specs.declared.Led.{Led}
 use Rattle.packing.specs.declared.Led.the-variants.{To, Lost}
 

@@ -1,8 +1,8 @@
 // Compressed records in the sectors of an extent: document 01's "Compressed records".
 // The readers take an extent's bytes and, lent beside them, the held sector's, which stand in place of its own.
-use coding::Coded;
-use coding::decode;
-use coding::measure;
+use decoding::Coded;
+use decoding::decode;
+use decoding::measure;
 use geometry::Geometry;
 use geometry::Place;
 use geometry::byte_at;
@@ -18,9 +18,9 @@ ghost use Rattle.geometry.specs.Bytes as Bytes;
 ghost use Rattle.geometry.specs.Sizes.{sector};
 ghost use Rattle.geometry.specs.Sizes as Sizes;
 ghost use Rattle.geometry.specs.Places.{origin};
-ghost use Rattle.coding.specs.Decode.{Decoded, answer};
-ghost use Rattle.coding.specs.Decode as Decode;
-ghost use Rattle.coding.specs.declared.Coded.the-variants.{Good, Bad};
+ghost use Rattle.decoding.specs.Decode.{Decoded, answer};
+ghost use Rattle.decoding.specs.Decode as Decode;
+ghost use Rattle.decoding.specs.declared.Coded.the-variants.{Good, Bad};
 ghost use Rattle.packing.specs.Reading.{overlaid, goesOn, startOf, gotFrom, extentEnd, readBehind, ledTo, walkedTo, into};
 ghost use Rattle.packing.specs.Reading as Reading;
 ghost use Rattle.packing.specs.Placing.{fitsHere, goesTo, hasRoom};

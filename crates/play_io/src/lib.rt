@@ -3,9 +3,9 @@
 use geometry::part;
 use libc::STDOUT_FILENO;
 use lleuadrys::lleuadrys_mount;
-use playing::Fault;
-use playing::Found;
-use playing::Row;
+use scripts::Fault;
+use scripts::Found;
+use scripts::Row;
 ghost use Prim.Native.Nat.{_≤_};
 ghost use lib.ListN.{length};
 
@@ -39,7 +39,7 @@ fn next_row(script: i32) -> Ahead {
             return Ahead::End;
         }
     }
-    match playing::row_of(&row[..n]) {
+    match scripts::row_of(&row[..n]) {
         Found::InOrder(r) => Ahead::Row(r),
         Found::Wrong(f) => Ahead::Wrong(f),
     }
@@ -76,20 +76,20 @@ fn next(script: i32, bytes: i32, given: &mut [u8]) -> Ahead
 
 fn print_mount(number: u16) {
     let mut out = [0u8; 96];
-    let n = playing::write_mount(&mut out, number);
+    let n = scripts::write_mount(&mut out, number);
     io::write_all(STDOUT_FILENO, part(&out, 0, n));
 }
 
 fn print_fault(k: u32, f: Fault) {
     let mut out = [0u8; 96];
-    let n = playing::write_fault(&mut out, k, f);
+    let n = scripts::write_fault(&mut out, k, f);
     io::write_all(STDOUT_FILENO, part(&out, 0, n));
 }
 
 // Prints the sums of an image.
 pub fn print_image(image: &[u8]) {
     let mut out = [0u8; 96];
-    let n = playing::write_image(&mut out, playing::sums_of(image));
+    let n = scripts::write_image(&mut out, scripts::sums_of(image));
     io::write_all(STDOUT_FILENO, part(&out, 0, n));
 }
 
@@ -103,7 +103,7 @@ fn play_row(k: u32, image: &mut [u8], session: &mut [u8], row: Row, given: &[u8]
     let bytes = part(given, 0, row.uses as usize);
     let p = playing::play_row(image, session, row, bytes, &mut buffer[..n]);
     let mut out = [0u8; 96];
-    let m = playing::write_row(&mut out, k, p);
+    let m = scripts::write_row(&mut out, k, p);
     io::write_all(STDOUT_FILENO, part(&out, 0, m));
 }
 

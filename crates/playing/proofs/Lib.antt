@@ -1,4 +1,1 @@
-pub mod Rows
-pub mod Adding
-pub mod Lines
 pub mod Moved

@@ -10,9 +10,9 @@ use Rattle.geometry.specs.Bytes.{part}
 use Rattle.directory.specs.Entries.{entryAt, tableOf}
 use Rattle.looking.specs.Looking.{lookIn}
 use Rattle.lleuadrys.specs.Calls.{Left}
-use Rattle.playing.specs.Sums.{wordsOf, total, sumOf}
+use Rattle.scripts.specs.Sums.{wordsOf, total, sumOf}
 use Rattle.playing.specs.Played.{movedBy, moved}
-use Rattle.playing.specs.declared.Row.{Row}
+use Rattle.scripts.specs.declared.Row.{Row}
 
 pub no-words : 0 ≡ sumOf (wordsOf [])
 unfolding wordsOf total sumOf

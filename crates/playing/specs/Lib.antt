@@ -1,4 +1,1 @@
-pub mod Script
-pub mod Sums
-pub mod Said
 pub mod Played

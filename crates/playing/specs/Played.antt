@@ -13,9 +13,9 @@ use Rattle.storing.specs.Stored.{lentSession}
 use Rattle.looking.specs.Looking.{lookIn}
 use Rattle.lleuadrys.specs.Calls.{Left, requested}
 use Rattle.lleuadrys.specs.Codes.{standing, recordAt}
-use Rattle.playing.specs.declared.Played.{Played}
-use Rattle.playing.specs.declared.Row.{Row}
-use Rattle.playing.specs.Sums.{wordsOf, sumOf}
+use Rattle.scripts.specs.declared.Played.{Played}
+use Rattle.scripts.specs.declared.Row.{Row}
+use Rattle.scripts.specs.Sums.{wordsOf, sumOf}
 
 module _ (row : Row) (given : List ℕ) where
   -- what a row's request answers and leaves

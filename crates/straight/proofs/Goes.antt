@@ -13,7 +13,7 @@ use Rattle.geometry.specs.Bytes.{part}
 use Rattle.geometry.specs.Sizes.{sector, entries, free, compressed, sectorsOf}
 use Rattle.geometry.proofs.Places.{lawful-whole}
 use Rattle.geometry.proofs.Tests.{either, both-ways}
-use Rattle.coding.specs.Decode.{Decoded, good, bad}
+use Rattle.decoding.specs.Decode.{Decoded, good, bad}
 use Rattle.coding.specs.Encode.{codeOf}
 use Rattle.directory.specs.Entries.{entryAt, isFree, isKind}
 use Rattle.directory.proofs.Good.{Lies, lies, used-inside}

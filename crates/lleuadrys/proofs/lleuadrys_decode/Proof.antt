@@ -1,6 +1,6 @@
 -- By the answer of the decoding.
 use lib.ListN.{length}
-use Rattle.coding.specs.Decode.{decode}
+use Rattle.decoding.specs.Decode.{decode}
 use Rattle.lleuadrys.proofs.Codes.{good-size, bad-size}
 use borrow.Author.Needs.{needs}
 use Rattle.lleuadrys.proofs.lleuadrys_decode.Statement.{statement}

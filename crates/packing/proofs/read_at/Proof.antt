@@ -2,7 +2,7 @@
 use mathlib.Core.Path.{_∙_}
 use Prim.Native.Nat.{_-_}
 use lib.ListN.{length, drop}
-use Rattle.coding.specs.Decode.{decode}
+use Rattle.decoding.specs.Decode.{decode}
 use Rattle.packing.proofs.Starts.{leads-in, into-given}
 use borrow.Author.Needs.{needs}
 use Rattle.packing.proofs.read_at.Statement.{statement}

@@ -1,7 +1,7 @@
 -- The answer of measuring leads from the start on.
 use Prim.Native.Nat.{_-_}
 use lib.ListN.{length, drop}
-use Rattle.coding.specs.Decode.{decode}
+use Rattle.decoding.specs.Decode.{decode}
 use Rattle.packing.proofs.Starts.{leads-in}
 use borrow.Author.Needs.{needs}
 use Rattle.packing.proofs.skip_at.Statement.{statement}

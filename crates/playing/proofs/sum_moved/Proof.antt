@@ -1,6 +1,6 @@
 -- `playing::sum_moved` meets its contract: by the number, then by the code.
 use Rattle.lleuadrys.specs.Calls.{left}
-use Rattle.playing.specs.Sums.{sumsOf}
+use Rattle.scripts.specs.Sums.{sumsOf}
 use Rattle.playing.proofs.Moved.{no-words, refused, read, written, looked, other}
 use borrow.Author.Needs.{needs}
 use Rattle.playing.proofs.sum_moved.Statement.{statement}

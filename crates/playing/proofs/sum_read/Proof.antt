@@ -1,5 +1,5 @@
 -- `playing::sum_read` meets its contract: its parts are the definition's.
-use Rattle.playing.specs.Sums.{sumsOf}
+use Rattle.scripts.specs.Sums.{sumsOf}
 use borrow.Author.Needs.{needs}
 use Rattle.playing.proofs.sum_read.Statement.{statement}
 use Rattle.playing.proofs.sum_read.Tie as tie

@@ -1,0 +1,4 @@
+pub mod Reader
+pub mod Filled
+pub mod Measured
+pub mod Known

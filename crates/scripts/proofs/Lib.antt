@@ -1,0 +1,3 @@
+pub mod Rows
+pub mod Adding
+pub mod Lines
