@@ -21,7 +21,8 @@ use Rattle.steps.specs.Next.{Scene}
 use Rattle.steps.proofs.Buffer.{ofFile, any-file}
 use Rattle.steps.proofs.Inside.{AllSuit}
 use Rattle.straight.specs.Straight.{Encoded}
-use Rattle.held.specs.Held.{bench, stateWith, lent, scene, heldAll, readWith, writeWith}
+use Rattle.blocking.specs.Blocking.{bench, stateWith, lent, scene}
+use Rattle.held.specs.Held.{heldAll, readWith, writeWith}
 use Rattle.held.proofs.Agree.{held-same, held-all}
 use Rattle.buffered.specs.Buffered.{effectsWith}
 use Rattle.requests.proofs.Request as request

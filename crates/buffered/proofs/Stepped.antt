@@ -18,7 +18,7 @@ use Rattle.steps.specs.Verdict.{entryNext, fileNext, bufferNext}
 use Rattle.straight.specs.Straight.{codeGiven}
 use Rattle.straight.proofs.Judged.{judgement}
 use Rattle.straight.proofs.Goes.{there, room, suits, lies-in, encoded}
-use Rattle.held.specs.Held.{bench}
+use Rattle.blocking.specs.Blocking.{bench}
 use Rattle.buffered.proofs.Acts.{Goes}
 use Rattle.directory.specs.declared.Entry.{Entry}
 use Rattle.requests.specs.declared.Request.{Request}

@@ -6,7 +6,8 @@ use Prim.Native.Nat.{ℕ}
 use lib.Dec.{eqb}
 use Rattle.steps.specs.Effects.{Effect, storeEffect, effects}
 use Rattle.straight.specs.Straight.{writing}
-use Rattle.held.specs.Held.{scene, readWith, writeWith}
+use Rattle.blocking.specs.Blocking.{scene}
+use Rattle.held.specs.Held.{readWith, writeWith}
 use Rattle.directory.specs.declared.Entry.{Entry}
 use Rattle.requests.specs.declared.Request.{Request}
 use Rattle.requests.specs.declared.Request.the-variants.{Open, Read, Write, GranuleRead, GranuleWrite, GranuleLook, Position}

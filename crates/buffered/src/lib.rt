@@ -5,7 +5,8 @@ use sessions::Holding;
 use sessions::OpenFile;
 use straight::store;
 ghost use mathlib.Core.Path.{_≡_};
-ghost use Rattle.held.specs.Held.{lent, scene, heldAll};
+ghost use Rattle.blocking.specs.Blocking.{lent, scene};
+ghost use Rattle.held.specs.Held.{heldAll};
 ghost use Rattle.buffered.specs.Buffered.{effectsWith};
 
 // A request on entry i, with what its file holds; k is the sector that a record read of a compressed file lies in.

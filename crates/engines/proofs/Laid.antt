@@ -17,7 +17,7 @@ use Rattle.directory.specs.Stamp.{restamped}
 use Rattle.sessions.specs.Session.{idle, fresh}
 use Rattle.steps.specs.Step.{kept}
 use Rattle.steps.proofs.Standing.{kept-used, kept-unused}
-use Rattle.held.specs.Held.{stateWith}
+use Rattle.blocking.specs.Blocking.{stateWith}
 use Rattle.tables.specs.Rows.{rowIn}
 use Rattle.tables.specs.Tables.{twoWordsWide, hasRows, layRow, layCounts}
 use Rattle.tables.proofs.Laid.{row-there, row-not}

@@ -18,7 +18,8 @@ use Rattle.tables.specs.Tables.{twoWordsWide, layCounts}
 use Rattle.storing.specs.Stored.{width, sizeOf, hasBuffers, layState, layFresh}
 use Rattle.storing.proofs.Read.{size-buffered, told-by-size}
 use Rattle.finding.specs.Lent.{bufferAt}
-use Rattle.held.specs.Held.{lent, scene, heldAll}
+use Rattle.blocking.specs.Blocking.{lent, scene}
+use Rattle.held.specs.Held.{heldAll}
 use Rattle.plain.specs.Plain.{actedWith}
 use Rattle.buffered.specs.Buffered.{effectsWith}
 use Rattle.engines.specs.Parts.{readied, Acted, Moved, layNext}

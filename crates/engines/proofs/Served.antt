@@ -19,7 +19,8 @@ use Rattle.steps.specs.Verdict.{bufferNext}
 use Rattle.steps.proofs.Standing.{held-file}
 use Rattle.straight.specs.Straight.{codeGiven}
 use Rattle.straight.proofs.Judged.{judgement}
-use Rattle.held.specs.Held.{bench, stateWith, lent, scene, heldAll}
+use Rattle.blocking.specs.Blocking.{bench, stateWith, lent, scene}
+use Rattle.held.specs.Held.{heldAll}
 use Rattle.plain.proofs.Acts as plainly
 use Rattle.plain.proofs.Stepped as plain
 use Rattle.buffered.specs.Buffered.{effectsWith}

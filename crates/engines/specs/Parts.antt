@@ -11,7 +11,8 @@ use Rattle.steps.specs.Effects.{Bench}
 use Rattle.tables.specs.Tables.{twoWordsWide, layCounts}
 use Rattle.storing.specs.Stored.{layState, layFresh}
 use Rattle.finding.specs.Lent.{bufferAt}
-use Rattle.held.specs.Held.{lent, scene, heldAll}
+use Rattle.blocking.specs.Blocking.{lent, scene}
+use Rattle.held.specs.Held.{heldAll}
 use Rattle.plain.specs.Plain.{actedWith}
 use Rattle.buffered.specs.Buffered.{effectsWith}
 use Rattle.sessions.specs.declared.Holding.{Holding}

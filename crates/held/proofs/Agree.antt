@@ -21,9 +21,10 @@ use Rattle.steps.proofs.Inside.{Suits, AllSuit}
 use Rattle.sessions.specs.Session.{idle}
 use Rattle.straight.specs.Straight.{writing}
 use Rattle.directory.specs.declared.Entry.{Entry}
-use Rattle.held.proofs.Cases.{take-held, take-other}
 use Rattle.sessions.specs.declared.OpenFile.{OpenFile}
-use Rattle.held.specs.Held.{bench, scene, isThere, canDo, heldDo, heldAll, readWith, writeWith}
+use Rattle.blocking.specs.Blocking.{bench, scene, isThere, canDo, heldDo}
+use Rattle.blocking.proofs.Cases.{take-held, take-other}
+use Rattle.held.specs.Held.{heldAll, readWith, writeWith}
 
 -- ---- image and buffer keep their lengths
 

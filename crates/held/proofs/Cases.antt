@@ -1,21 +1,21 @@
--- What each definition of the buffer's work comes to, case by case: the tests of its definition, one way each.
-use mathlib.Core.Path.{_≡_, refl, sym, _∙_}
+-- What the effects of a read, a write and an order come to, case by case: the tests of each definition, one way each.
+use mathlib.Core.Path.{_≡_, refl}
 use mathlib.Core.Bool.{Bool, true, false, _&&_}
 use mathlib.Core.List.{List, [], _∷_, map}
 use Prim.Native.Nat.{ℕ, _+_, _-_, _≤_, _<_}
 use lib.ListN.{length}
-use lib.Dec.{eqb, ltb, leb}
-use borrow.Author.Tests.{eq-eqb, ne-eqb, le-leb, lt-leb, ltb-true, leb-true, eqb-true}
+use lib.Dec.{ltb}
+use borrow.Author.Tests.{eq-eqb, ne-eqb, le-leb, lt-leb}
 use types.Run.{OneOf, miss}
 use denote.Enum.Declared.{tagOf}
-use Rattle.geometry.specs.Bytes.{lay, padded}
+use Rattle.geometry.specs.Bytes.{padded}
 use Rattle.geometry.specs.Places.{placeOf}
 use Rattle.geometry.specs.Sizes.{sector, entries, blocked, compressed}
-use Rattle.geometry.proofs.Tests.{either, chosen, not-chosen, and-left, and-right}
+use Rattle.geometry.proofs.Tests.{either}
 use Rattle.directory.specs.Stamp.{stampBytes, stamped}
 use Rattle.packing.specs.Placing.{fitsHere, filled, changes}
-use Rattle.steps.specs.Effects.{hold, change, stamp, putBack, storeEffect, blockedEffect, effects, sectorAt, plainDo, holding, Bench, puttingBack, loaded, taking, working, bufferedDo}
-use Rattle.sessions.specs.Session.{idle, hasBuffer}
+use Rattle.steps.specs.Effects.{hold, change, stamp, putBack, storeEffect, blockedEffect, effects, plainDo, Bench, bufferedDo}
+use Rattle.sessions.specs.Session.{idle}
 use Rattle.straight.specs.Straight.{writing}
 use Rattle.requests.proofs.Order as order
 use Rattle.geometry.specs.declared.Place.{Place}
@@ -24,79 +24,8 @@ use Rattle.requests.specs.declared.Order.{Order}
 use Rattle.requests.specs.declared.Order.the-variants.{WriteMark, RewindOnline, RewindOffline, RecordForward, RecordBack, FileForward, FileBack}
 use Rattle.requests.specs.declared.Request.the-variants.{Position}
 use Rattle.sessions.specs.declared.OpenFile.{OpenFile}
-use Rattle.sessions.specs.declared.Holding.{Holding}
-use Rattle.held.specs.Held.{bench, lent, scene, isThere, isWhole, canDo, heldDo, heldAll, readWith, writeWith}
-
--- ---- the buffer
-
-module _ (e : Entry) (w : Bench) where
-  pub lay-changed : w .file .holds && w .file .changed ≡ true
-      → bench (lay (w .image) (sectorAt e (w .file .held)) (w .file .buffer)) (holding (w .file) (w .file .held) false (w .file .buffer)) ≡ puttingBack e w
-  unfolding puttingBack
-  lay-changed h = rw (h, puttingBack)
-
-  pub lay-unchanged : w .file .holds && w .file .changed ≡ false → w ≡ puttingBack e w
-  unfolding puttingBack
-  lay-unchanged h = rw (h, puttingBack)
-
-  -- t says whether the file has a buffer
-  module _ (t : Bool) (told : t ≡ hasBuffer e) where
-    pub put-there : isWhole w && t ≡ true → puttingBack e w ≡ heldDo (scene 0 e) putBack w
-    unfolding heldDo canDo bufferedDo
-    put-there h = sym (chosen (isWhole w) _ w (and-left (isWhole w) t h) ∙ chosen (hasBuffer e) (puttingBack e w) w (sym told ∙ and-right (isWhole w) t h))
-
-    pub put-nowhere : isWhole w && t ≡ false → w ≡ heldDo (scene 0 e) putBack w
-    unfolding heldDo canDo bufferedDo
-    put-nowhere h = either (isWhole w)
-        (λ (k : isWhole w ≡ true). sym (chosen (isWhole w) _ w k ∙ not-chosen (hasBuffer e) (puttingBack e w) w (sym told ∙ rw k at h)))
-        (λ (k : isWhole w ≡ false). sym (not-chosen (isWhole w) _ w k))
-
-  pub take-held : (k : ℕ) → w .file .holds && eqb (w .file .held) k ≡ true → w ≡ taking e k w
-  unfolding taking
-  take-held k h = rw (h, taking)
-
-  pub take-other : (k : ℕ) → w .file .holds && eqb (w .file .held) k ≡ false → loaded e k (puttingBack e w) ≡ taking e k w
-  unfolding taking
-  take-other k h = rw (h, taking)
-
--- bytes laid in a buffer that a file has taken a sector into
-pub worked : {image buffer new : List ℕ} {h : Holding} {w : Bench} (byte behind n : ℕ) (xs : List ℕ) → lent image h buffer ≡ w
-    → new ≡ lay buffer byte (padded behind n xs) → n ≡ sector - byte
-    → lent image (record { holds = true; held = h .held; changed = true }) new ≡ working byte (padded behind (sector - byte) xs) w
-unfolding working
-worked byte behind n xs p q z = rw (q, z, sym p)
-
--- ---- one effect
-
-module _ (e : Entry) (w : Bench) (k : ℕ) where
-  pub there-below : isWhole w && isThere e k (length (w .image)) ≡ true → k < e .sectors
-  unfolding isThere
-  there-below h = ltb-true k (e .sectors) (and-left (ltb k (e .sectors)) (leb (sectorAt e k + sector) (length (w .image))) (and-right (isWhole w) (isThere e k (length (w .image))) h))
-
-  pub there-inside : isWhole w && isThere e k (length (w .image)) ≡ true → (sectorAt e k + sector ≤ length (w .image)) × (length (w .file .buffer) ≡ sector)
-  unfolding isThere
-  there-inside h = (
-    leb-true (sectorAt e k + sector) (length (w .image)) (and-right (ltb k (e .sectors)) (leb (sectorAt e k + sector) (length (w .image))) (and-right (isWhole w) (isThere e k (length (w .image))) h)),
-    eqb-true (length (w .file .buffer)) sector (and-left (isWhole w) (isThere e k (length (w .image))) h),
-  )
-
-  pub hold-there : isWhole w && isThere e k (length (w .image)) ≡ true → taking e k w ≡ heldDo (scene 0 e) (hold k) w
-  unfolding heldDo canDo bufferedDo
-  hold-there h = rw (h, heldDo)
-
-  pub hold-nowhere : isWhole w && isThere e k (length (w .image)) ≡ false → w ≡ heldDo (scene 0 e) (hold k) w
-  unfolding heldDo canDo
-  hold-nowhere h = rw (h, heldDo)
-
-  pub change-there : isWhole w && isThere e k (length (w .image)) ≡ true → (byte : ℕ) (xs : List ℕ)
-      → working byte xs (taking e k w) ≡ heldDo (scene 0 e) (change (record { place = record { sector = k; byte = byte }; bytes = xs })) w
-  unfolding heldDo canDo bufferedDo
-  change-there h byte xs = rw (h, heldDo)
-
-  pub change-nowhere : isWhole w && isThere e k (length (w .image)) ≡ false → (byte : ℕ) (xs : List ℕ)
-      → w ≡ heldDo (scene 0 e) (change (record { place = record { sector = k; byte = byte }; bytes = xs })) w
-  unfolding heldDo canDo
-  change-nowhere h byte xs = rw (h, heldDo)
+use Rattle.blocking.specs.Blocking.{bench, scene, canDo, heldDo}
+use Rattle.held.specs.Held.{heldAll, readWith, writeWith}
 
 -- ---- a read
 

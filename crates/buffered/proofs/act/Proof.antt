@@ -1,7 +1,8 @@
 -- `buffered::act` meets its contract: one way for each request that the image or the buffer shows, one for the others.
 use mathlib.Core.Path.{_∙_, ap}
 use Rattle.steps.specs.Effects.{Bench}
-use Rattle.held.specs.Held.{lent, scene, heldAll}
+use Rattle.blocking.specs.Blocking.{lent, scene}
+use Rattle.held.specs.Held.{heldAll}
 use Rattle.held.proofs.Agree.{reads, writes, stores}
 use Rattle.buffered.specs.Buffered.{effectsWith}
 use Rattle.buffered.proofs.Acts.{orders, stays}

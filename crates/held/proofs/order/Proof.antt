@@ -3,7 +3,7 @@ use mathlib.Core.Path.{_∙_, ap}
 use Rattle.directory.specs.Stamp.{stampBytes}
 use Rattle.steps.specs.Effects.{stamp, Bench}
 use Rattle.held.proofs.Cases.{skips-forward, skips-back, stamps, closes, goes-back}
-use Rattle.held.specs.Held.{lent, scene, heldDo}
+use Rattle.blocking.specs.Blocking.{lent, scene, heldDo}
 use borrow.Author.Needs.{needs}
 use Rattle.held.proofs.order.Statement.{statement}
 use Rattle.held.proofs.order.Tie as tie

@@ -2,7 +2,7 @@
 use mathlib.Core.Path.{_∙_, ap}
 use Rattle.steps.specs.Effects.{hold, Bench}
 use Rattle.held.proofs.Cases.{read-blocked, read-both, read-one, read-none}
-use Rattle.held.specs.Held.{lent, scene, heldDo}
+use Rattle.blocking.specs.Blocking.{lent, scene, heldDo}
 use borrow.Author.Needs.{needs}
 use Rattle.held.proofs.read.Statement.{statement}
 use Rattle.held.proofs.read.Tie as tie

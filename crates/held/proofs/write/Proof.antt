@@ -2,7 +2,7 @@
 use mathlib.Core.Path.{_∙_, ap}
 use Rattle.steps.specs.Effects.{Bench}
 use Rattle.held.proofs.Cases as cases
-use Rattle.held.specs.Held.{lent}
+use Rattle.blocking.specs.Blocking.{lent}
 use borrow.Author.Needs.{needs}
 use Rattle.held.proofs.write.Statement.{statement}
 use Rattle.held.proofs.write.Tie as tie

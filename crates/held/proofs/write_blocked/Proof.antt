@@ -1,7 +1,7 @@
 -- `held::write_blocked` meets its contract: the record goes where geometry says that it lies.
 use mathlib.Core.Path.{_∙_}
 use Rattle.held.proofs.Cases.{blocked-at}
-use Rattle.held.specs.Held.{lent}
+use Rattle.blocking.specs.Blocking.{lent}
 use borrow.Author.Needs.{needs}
 use Rattle.held.proofs.write_blocked.Statement.{statement}
 use Rattle.held.proofs.write_blocked.Tie as tie

@@ -5,7 +5,7 @@ use Rattle.geometry.specs.Bytes.{padded}
 use Rattle.geometry.specs.Sizes.{sector}
 use Rattle.steps.specs.Effects.{change, Bench}
 use Rattle.held.proofs.Cases.{coded-here, coded-further, coded-both}
-use Rattle.held.specs.Held.{lent, scene, heldDo}
+use Rattle.blocking.specs.Blocking.{lent, scene, heldDo}
 use borrow.Author.Needs.{needs}
 use Rattle.held.proofs.write_coded.Statement.{statement}
 use Rattle.held.proofs.write_coded.Tie as tie

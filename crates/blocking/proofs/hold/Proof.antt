@@ -1,15 +1,15 @@
--- `held::hold` meets its contract: a sector that is there is taken.
+-- `blocking::hold` meets its contract: a sector that is there is taken.
 use mathlib.Core.Path.{_≡_, _∙_, ap, sym}
 use mathlib.Core.Bool.{true, false, _&&_}
 use native.Mathlib.Omega.{arith}
 use lib.ListN.{length}
 use Prim.Native.Nat.{_≤_}
 use Rattle.steps.specs.Effects.{Bench}
-use Rattle.held.proofs.Cases.{there-below, there-inside, hold-there, hold-nowhere}
-use Rattle.held.specs.Held.{lent, isThere, isWhole}
+use Rattle.blocking.proofs.Cases.{there-below, there-inside, hold-there, hold-nowhere}
+use Rattle.blocking.specs.Blocking.{lent, isThere, isWhole}
 use borrow.Author.Needs.{needs}
-use Rattle.held.proofs.hold.Statement.{statement}
-use Rattle.held.proofs.hold.Tie as tie
+use Rattle.blocking.proofs.hold.Statement.{statement}
+use Rattle.blocking.proofs.hold.Tie as tie
 
 is-there-requires : tie.Need-is-there-requires
 is-there-requires c κs = search needs

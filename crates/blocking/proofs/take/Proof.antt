@@ -1,12 +1,12 @@
--- `held::take` meets its contract: a held sector stays; else the buffer goes back and the sector comes.
+-- `blocking::take` meets its contract: a held sector stays; else the buffer goes back and the sector comes.
 use mathlib.Core.Path.{_∙_, ap}
 use mathlib.Core.Bool.{true, false}
 use Rattle.steps.specs.Effects.{loaded}
-use Rattle.held.proofs.Cases.{take-held, take-other}
-use Rattle.held.specs.Held.{lent}
+use Rattle.blocking.proofs.Cases.{take-held, take-other}
+use Rattle.blocking.specs.Blocking.{lent}
 use borrow.Author.Needs.{needs}
-use Rattle.held.proofs.take.Statement.{statement}
-use Rattle.held.proofs.take.Tie as tie
+use Rattle.blocking.proofs.take.Statement.{statement}
+use Rattle.blocking.proofs.take.Tie as tie
 
 lay-back-requires : tie.Need-lay-back-requires
 lay-back-requires c κs = search needs

@@ -1,11 +1,11 @@
--- `held::load` meets its contract: a whole sector is laid over a whole buffer.
+-- `blocking::load` meets its contract: a whole sector is laid over a whole buffer.
 use Rattle.geometry.specs.Bytes.{part, lay}
 use Rattle.geometry.specs.Sizes.{sector}
 use Rattle.geometry.proofs.Bytes.{lay-all, length-part}
 use Rattle.steps.specs.Effects.{sectorAt}
 use borrow.Author.Needs.{needs}
-use Rattle.held.proofs.load.Statement.{statement}
-use Rattle.held.proofs.load.Tie as tie
+use Rattle.blocking.proofs.load.Statement.{statement}
+use Rattle.blocking.proofs.load.Tie as tie
 
 sector-at-requires : tie.Need-sector-at-requires
 sector-at-requires c κs = search needs

@@ -1,4 +1,4 @@
--- `held::change` meets its contract: a sector that is there is taken, and the bytes laid in the buffer.
+-- `blocking::change` meets its contract: a sector that is there is taken, and the bytes laid in the buffer.
 use mathlib.Core.Path.{_≡_, _∙_, ap, sym}
 use mathlib.Core.Bool.{true, false, _&&_}
 use native.Mathlib.Omega.{arith}
@@ -7,11 +7,11 @@ use Prim.Native.Nat.{_≤_, _-_}
 use Rattle.geometry.specs.Bytes.{padded}
 use Rattle.geometry.specs.Sizes.{sector}
 use Rattle.steps.specs.Effects.{Bench}
-use Rattle.held.proofs.Cases.{worked, there-below, there-inside, change-there, change-nowhere}
-use Rattle.held.specs.Held.{lent, isThere, isWhole}
+use Rattle.blocking.proofs.Cases.{worked, there-below, there-inside, change-there, change-nowhere}
+use Rattle.blocking.specs.Blocking.{lent, isThere, isWhole}
 use borrow.Author.Needs.{needs}
-use Rattle.held.proofs.change.Statement.{statement}
-use Rattle.held.proofs.change.Tie as tie
+use Rattle.blocking.proofs.change.Statement.{statement}
+use Rattle.blocking.proofs.change.Tie as tie
 
 is-there-requires : tie.Need-is-there-requires
 is-there-requires c κs = search needs

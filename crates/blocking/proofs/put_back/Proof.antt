@@ -1,10 +1,10 @@
--- `held::put_back` meets its contract: where the file has a buffer, and 360 bytes are lent for it, it goes back; else nothing does.
+-- `blocking::put_back` meets its contract: where the file has a buffer, and 360 bytes are lent for it, it goes back; else nothing does.
 use mathlib.Core.Path.{_∙_}
-use Rattle.held.proofs.Cases.{put-there, put-nowhere}
-use Rattle.held.specs.Held.{lent}
+use Rattle.blocking.proofs.Cases.{put-there, put-nowhere}
+use Rattle.blocking.specs.Blocking.{lent}
 use borrow.Author.Needs.{needs}
-use Rattle.held.proofs.put_back.Statement.{statement}
-use Rattle.held.proofs.put_back.Tie as tie
+use Rattle.blocking.proofs.put_back.Statement.{statement}
+use Rattle.blocking.proofs.put_back.Tie as tie
 
 has-buffer-requires : tie.Need-has-buffer-requires
 has-buffer-requires c κs = search needs

@@ -1,12 +1,12 @@
--- `held::lay_back` meets its contract: a changed buffer is laid, any other left.
+-- `blocking::lay_back` meets its contract: a changed buffer is laid, any other left.
 use mathlib.Core.Path.{_∙_, ap}
 use mathlib.Core.Bool.{true, false}
 use Rattle.geometry.specs.Bytes.{lay}
-use Rattle.held.proofs.Cases.{lay-changed, lay-unchanged}
-use Rattle.held.specs.Held.{lent}
+use Rattle.blocking.proofs.Cases.{lay-changed, lay-unchanged}
+use Rattle.blocking.specs.Blocking.{lent}
 use borrow.Author.Needs.{needs}
-use Rattle.held.proofs.lay_back.Statement.{statement}
-use Rattle.held.proofs.lay_back.Tie as tie
+use Rattle.blocking.proofs.lay_back.Statement.{statement}
+use Rattle.blocking.proofs.lay_back.Tie as tie
 
 sector-at-requires : tie.Need-sector-at-requires
 sector-at-requires c κs = search needs

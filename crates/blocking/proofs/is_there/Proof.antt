@@ -1,9 +1,9 @@
--- `held::is_there` meets its contract: two tests.
+-- `blocking::is_there` meets its contract: two tests.
 use borrow.Author.Tests.{lt-ltb, le-ltb}
-use Rattle.held.specs.Held.{isThere}
+use Rattle.blocking.specs.Blocking.{isThere}
 use borrow.Author.Needs.{needs}
-use Rattle.held.proofs.is_there.Statement.{statement}
-use Rattle.held.proofs.is_there.Tie as tie
+use Rattle.blocking.proofs.is_there.Statement.{statement}
+use Rattle.blocking.proofs.is_there.Tie as tie
 
 cast-if1 : tie.Need-cast-if1
 cast-if1 c = search needs
