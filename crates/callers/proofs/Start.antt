@@ -12,8 +12,9 @@ use Rattle.geometry.specs.Lists.{all, every}
 use Rattle.geometry.specs.Sizes.{entries, mostOpen, mostSectors, blocked, compressed, blank, sectorsOf}
 use Rattle.geometry.proofs.Places.{lawful-most}
 use Rattle.geometry.proofs.Tests.{and-left, and-right, and-both, or-either, either, all-getD, every-any, every-from}
+use Rattle.names.specs.Names.{capital, digit, restOfName, isName}
 use Rattle.directory.specs.Entries.{freeEntry, entryAt, isFree, entryBytes, tableOf}
-use Rattle.directory.specs.Rules.{freeIsZero, capital, digit, restOfName, isName, longest, tableRules, tableGood}
+use Rattle.directory.specs.Rules.{freeIsZero, longest, tableRules, tableGood}
 use Rattle.directory.proofs.Free.{zero-entry}
 use Rattle.directory.proofs.Good.{Lies, lies}
 use Rattle.directory.proofs.Table.{length-table, table-name}

@@ -9,8 +9,9 @@ use Rattle.geometry.specs.Bytes.{part, padded, wordAt, word}
 use Rattle.geometry.specs.Lists.{all, every, pairwise, howMany, same}
 use Rattle.geometry.specs.Places.{origin, sectorsFor, perSector, capacity}
 use Rattle.geometry.specs.Sizes.{sectorsOf, lawfulLength}
+use Rattle.names.specs.Names.{capital, digit, restOfName, isName}
 use Rattle.directory.specs.Entries.{entryFrom, entryBytes, entriesFrom, tableOf, entryAt, isMarked}
-use Rattle.directory.specs.Rules.{kindKnown, freeIsZero, capital, digit, restOfName, isName, nameGood, namesDiffer, extentInside, extentsApart, flagsKnown, longest, lengthGood, countGood, randomBare, tableRules, tableGood}
+use Rattle.directory.specs.Rules.{kindKnown, freeIsZero, nameGood, namesDiffer, extentInside, extentsApart, flagsKnown, longest, lengthGood, countGood, randomBare, tableRules, tableGood}
 use Rattle.requests.proofs.First.{not-legal}
 use Rattle.sessions.specs.Session.{idle, fresh, bare, isOf, openFiles, ofUsedEntry, ofOther, positionGood, beyondGood, placeGood, placesGood, heldGood, sessionRules, legal, bufferedLegal}
 use Rattle.steps.specs.Next.{factsOf}

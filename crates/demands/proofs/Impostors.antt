@@ -10,8 +10,9 @@ use Rattle.geometry.specs.Bytes.{part, lay, wordAt, word, padded}
 use Rattle.geometry.specs.Lists.{all, every, pairwise, firstWith, howMany}
 use Rattle.geometry.specs.Places.{origin, perSector, capacity, placeOf}
 use Rattle.geometry.specs.Sizes.{sectorsOf, lawfulLength}
+use Rattle.names.specs.Names.{capital, digit, restOfName, isName}
 use Rattle.directory.specs.Entries.{entryFrom, entryBytes, entriesFrom, tableOf, entryAt, isMarked, isProtected}
-use Rattle.directory.specs.Rules.{kindKnown, freeIsZero, capital, digit, restOfName, isName, nameGood, namesDiffer, extentInside, extentsApart, flagsKnown, longest, lengthGood, countGood, randomBare, tableRules, tableGood}
+use Rattle.directory.specs.Rules.{kindKnown, freeIsZero, nameGood, namesDiffer, extentInside, extentsApart, flagsKnown, longest, lengthGood, countGood, randomBare, tableRules, tableGood}
 use Rattle.directory.specs.Stamp.{stampBytes}
 use Rattle.requests.specs.Judge.{isFull, tests, whether, orElse, firstOf, judge}
 use Rattle.sessions.specs.Session.{unheld, isOf, fileOf, slotOf, openFiles, spotOf, extent, ofUsedEntry, ofOther, positionGood, beyondGood, placesGood, sessionRules, legal}

@@ -9,10 +9,11 @@ use lib.Dec.{eqb}
 use borrow.Author.Tests.{eq-eqb, ne-eqb, eqb-true, eqb-false}
 use Rattle.geometry.specs.Lists.{every}
 use Rattle.geometry.specs.Bytes.{word}
+use Rattle.names.specs.Names.{isName}
 use Rattle.directory.specs.declared.Entry.{Entry}
 use Rattle.geometry.proofs.Tests.{either, and-left, and-right}
 use Rattle.directory.specs.Entries.{entryBytes}
-use Rattle.directory.specs.Rules.{kindKnown, freeIsZero, isName, nameGood, extentInside, flagsKnown, lengthGood, countGood, randomBare}
+use Rattle.directory.specs.Rules.{kindKnown, freeIsZero, nameGood, extentInside, flagsKnown, lengthGood, countGood, randomBare}
 use Rattle.directory.specs.Grouped.{isZero, entryGood, usedGood}
 use Rattle.directory.proofs.Grouped.{used-good}
 

@@ -11,9 +11,10 @@ use borrow.Author.Tests.{leb-true, eqb-true, eqb-false, ne-eqb, eq-eqb, not-true
 use Rattle.geometry.specs.Lists.{every}
 use Rattle.geometry.specs.Sizes.{unblocked, blocked, random, mostRecords, mostSectors}
 use Rattle.geometry.specs.Places.{capacity}
+use Rattle.names.specs.Names.{isName}
 use Rattle.directory.specs.declared.Entry.{Entry}
 use Rattle.directory.specs.Entries.{isFree, isKind, isMarked, entryAt, freeEntry}
-use Rattle.directory.specs.Rules.{kindKnown, isName, nameGood, extentInside, extentsApart, flagsKnown, longest, lengthGood, countGood, randomBare, tableRules, tableGood}
+use Rattle.directory.specs.Rules.{kindKnown, nameGood, extentInside, extentsApart, flagsKnown, longest, lengthGood, countGood, randomBare, tableRules, tableGood}
 use Rattle.geometry.proofs.Bytes.{Apart}
 use Rattle.geometry.proofs.Places.{capacity-word}
 use Rattle.geometry.proofs.Tests.{and-left, and-right, all-getD, every-getD, pairwise-getD}

@@ -12,8 +12,9 @@ use Rattle.geometry.specs.Lists.{all, every, pairwise}
 use Rattle.geometry.specs.Places.{sectorsFor, capacity}
 use Rattle.geometry.specs.Sizes.{unblocked, blocked, compressed, random, mostRecords}
 use Rattle.geometry.proofs.Tests.{alike, and-left, and-right, or-either, every-and, pairwise-and}
+use Rattle.names.specs.Names.{isName}
 use Rattle.directory.specs.Entries.{isFree, isMarked}
-use Rattle.directory.specs.Rules.{kindKnown, freeIsZero, isName, nameGood, namesDiffer, extentFits, extentInside, extentsApart, flagsKnown, longest, lengthGood, countGood, randomBare, tableRules, tableGood}
+use Rattle.directory.specs.Rules.{kindKnown, freeIsZero, nameGood, namesDiffer, extentFits, extentInside, extentsApart, flagsKnown, longest, lengthGood, countGood, randomBare, tableRules, tableGood}
 use Rattle.directory.specs.Grouped.{entryGood, lengthUpTo, sizesGood, usedGood, twoGood}
 use Rattle.directory.specs.declared.Entry.{Entry}
 

@@ -1,10 +1,8 @@
 pub mod Table
 pub mod Back
-pub mod Names
 pub mod Free
 pub mod Grouped
 pub mod Good
 pub mod Stamped
 pub mod Restamp
-pub mod Sets
 pub mod Find

@@ -4,8 +4,9 @@ use mathlib.Core.List.{List, [], _∷_}
 use Prim.Native.Nat.{ℕ, _+_, _%_}
 use lib.Dec.{eqb, leb}
 use Rattle.geometry.specs.Lists.{all, every, pairwise, same}
-use Rattle.geometry.specs.Sizes.{unblocked, blocked, compressed, random, mostRecords, blank}
+use Rattle.geometry.specs.Sizes.{unblocked, blocked, compressed, random, mostRecords}
 use Rattle.geometry.specs.Places.{capacity}
+use Rattle.names.specs.Names.{isName}
 use Rattle.directory.specs.Entries.{entryBytes, isFree, isKind, isMarked}
 use Rattle.directory.specs.declared.Entry.{Entry}
 
@@ -17,24 +18,7 @@ kindKnown e = leb (e .kind) 4
 unfoldable pub freeIsZero : Entry → Bool
 freeIsZero e = not (isFree e) || every (λ b. eqb b 0) (entryBytes e)
 
--- "a capital letter (C1–C9, D1–D9, E2–E9)"
-unfoldable pub capital : ℕ → Bool
-capital c = (leb 0xC1 c && leb c 0xC9) || ((leb 0xD1 c && leb c 0xD9) || (leb 0xE2 c && leb c 0xE9))
-
--- "digits (F0–F9)"
-unfoldable pub digit : ℕ → Bool
-digit c = leb 0xF0 c && leb c 0xF9
-
--- "followed by capitals or digits (F0–F9), then only blanks"
-unfoldable pub restOfName : List ℕ → Bool
-restOfName [] = true
-restOfName (c ∷ cs) = ((capital c || digit c) && restOfName cs) || every (λ b. eqb b blank) (c ∷ cs)
-
--- "a name is a capital letter (C1–C9, D1–D9, E2–E9)", and what follows it
-unfoldable pub isName : List ℕ → Bool
-isName [] = false
-isName (c ∷ cs) = capital c && restOfName cs
-
+-- what a name is: names/specs/Names.antt
 unfoldable pub nameGood : Entry → Bool
 nameGood e = isFree e || isName (e .name)
 

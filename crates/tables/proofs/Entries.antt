@@ -11,9 +11,9 @@ use borrow.Author.Tests.{eq-eqb, ne-eqb}
 use Rattle.geometry.specs.Bytes.{part, padded, wordAt}
 use Rattle.geometry.specs.Lists.{every}
 use Rattle.geometry.proofs.Bytes.{length-part, part-split, padded-long}
+use Rattle.names.specs.Names.{isName}
 use Rattle.directory.specs.Entries.{entryBytes}
 use Rattle.directory.specs.Grouped.{isZero, entryGood, usedGood}
-use Rattle.directory.specs.Rules.{isName}
 use Rattle.directory.proofs.Free.{every-append, zero-entry, free-good, other-good}
 use Rattle.directory.specs.declared.Entry.{Entry}
 use Rattle.tables.specs.Numbers.{longAt, numberIn}

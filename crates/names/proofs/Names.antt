@@ -12,7 +12,7 @@ use borrow.Author.Tests.{eq-eqb, ne-eqb, not-true, not-false}
 use Rattle.geometry.specs.Lists.{every}
 use Rattle.geometry.specs.Sizes.{blank}
 use Rattle.geometry.proofs.Left.{every-on, every-off, every-end}
-use Rattle.directory.specs.Rules.{capital, digit, isName, restOfName}
+use Rattle.names.specs.Names.{capital, digit, isName, restOfName}
 
 no-blank : (c : ℕ) → (capital c || digit c) ≡ true → eqb c blank ≡ false
 unfolding capital digit

@@ -1,8 +1,8 @@
--- `directory::is_capital_or_digit` meets its contract: the set of 36 bits is that of the capitals and digits.
-use Rattle.directory.proofs.Sets.{both-below, both-above}
+-- `names::is_capital_or_digit` meets its contract: the set of 36 bits is that of the capitals and digits.
+use Rattle.names.proofs.Sets.{both-below, both-above}
 use borrow.Author.Needs.{needs}
-use Rattle.directory.proofs.is_capital_or_digit.Statement.{statement}
-use Rattle.directory.proofs.is_capital_or_digit.Tie as tie
+use Rattle.names.proofs.is_capital_or_digit.Statement.{statement}
+use Rattle.names.proofs.is_capital_or_digit.Tie as tie
 
 returns : tie.Need-returns
 returns c = both-below (c .before .args .c) (search needs) (c .if1 .taken)

@@ -1,8 +1,8 @@
--- `directory::is_capital` meets its contract: the set of 26 bits is that of the capitals.
-use Rattle.directory.proofs.Sets.{capital-below, capital-above}
+-- `names::is_capital` meets its contract: the set of 26 bits is that of the capitals.
+use Rattle.names.proofs.Sets.{capital-below, capital-above}
 use borrow.Author.Needs.{needs}
-use Rattle.directory.proofs.is_capital.Statement.{statement}
-use Rattle.directory.proofs.is_capital.Tie as tie
+use Rattle.names.proofs.is_capital.Statement.{statement}
+use Rattle.names.proofs.is_capital.Tie as tie
 
 returns : tie.Need-returns
 returns c = capital-below (c .before .args .c) (search needs) (c .if1 .taken)

@@ -1,15 +1,15 @@
--- `directory::is_name` meets its contract: no bytes are no name; else what is asked of the bytes left decides, and then the first byte.
+-- `names::is_name` meets its contract: no bytes are no name; else what is asked of the bytes left decides, and then the first byte.
 use mathlib.Core.Path.{_≡_, refl, sym, _∙_}
 use mathlib.Core.Bool.{and-true, and-false}
 use mathlib.Core.Logic.{⊎-elim}
 use Prim.Native.Nat.{_-_}
 use native.Mathlib.Omega.{arith}
 use lib.ListN.{length, drop, getD}
-use Rattle.directory.specs.Rules.{capital, restOfName}
-use Rattle.directory.proofs.Names.{left, left-end, blank-on, blank-off, name-on, name-ends, name-off, name-whole, name-none}
+use Rattle.names.specs.Names.{capital, restOfName}
+use Rattle.names.proofs.Names.{left, left-end, blank-on, blank-off, name-on, name-ends, name-off, name-whole, name-none}
 use borrow.Author.Needs.{needs}
-use Rattle.directory.proofs.is_name.Statement.{statement}
-use Rattle.directory.proofs.is_name.Tie as tie
+use Rattle.names.proofs.is_name.Statement.{statement}
+use Rattle.names.proofs.is_name.Tie as tie
 
 abbrev Inv-loop : tie.InvT-loop
 Inv-loop x ended₀ k₀ ended k = restOfName (drop 1 x) ≡ left x ended k

@@ -11,7 +11,7 @@ use borrow.Author.Tests.{le-leb, lt-leb}
 use Rattle.geometry.specs.Lists.{every, numbersFrom}
 use Rattle.geometry.proofs.Tests.{every-getD}
 use Rattle.geometry.proofs.Numbered.{length-numbered, getD-numbered}
-use Rattle.directory.specs.Rules.{capital, digit}
+use Rattle.names.specs.Names.{capital, digit}
 
 abbrev agree : Bool → Bool → Bool
 agree true b = b
