@@ -1,19 +1,16 @@
 -- The first two tests, 12 and 8, are made before anything else; behind them the entry and its state are lawful, and the extent is whole.
-use mathlib.Core.Path.{_≡_, refl, sym, ap, _∙_}
+use mathlib.Core.Path.{_≡_, sym, ap, _∙_}
 use mathlib.Core.Bool.{Bool, true, false, not}
 use mathlib.Core.List.{List}
-use Prim.Native.Nat.{ℕ, _+_, _*_, _≤_, _<_, _^_}
+use Prim.Native.Nat.{ℕ, _+_, _*_, _≤_}
 use native.Mathlib.Omega.{arith}
-use lib.Dec.{eqb}
 use lib.ListN.{length}
 use borrow.Author.Tests.{eqb-false, eq-eqb, ne-eqb, not-true, not-false}
 use Rattle.geometry.specs.Sizes.{sector, sectorsOf}
 use Rattle.geometry.proofs.Bytes.{length-part}
 use Rattle.geometry.proofs.Places.{lawful-whole}
-use Rattle.geometry.proofs.Tests.{either}
 use Rattle.directory.specs.Entries.{entryAt, isFree}
 use Rattle.directory.proofs.Good.{Lies, lies}
-use Rattle.requests.specs.Numbers.{numberOf}
 use Rattle.requests.proofs.First.{not-legal, not-there}
 use Rattle.sessions.specs.Session.{bare, fileOf, extent, legal}
 use Rattle.sessions.proofs.Legal.{lawful-length, good-table, bare-legal}
@@ -25,9 +22,10 @@ use Rattle.finding.specs.Lent.{lentBy, lentIn, ownState, seenOf, seenIn}
 use Rattle.storing.specs.Stored.{lentSession}
 use Rattle.finding.proofs.Lent.{lent-own}
 use Rattle.straight.specs.Straight.{codeGiven}
+use Rattle.following.specs.Following.{entryFrom, fileFrom, verdictFrom}
 use Rattle.judging.specs.Judged.{sceneSeen, judgedBy, bufferBy}
 use Rattle.finding.specs.declared.Seen.{Seen}
-use Rattle.judging.specs.Turns.{Stands, sceneOf, fileFrom, verdictFrom}
+use Rattle.judging.specs.Turns.{Stands, sceneOf}
 use Rattle.geometry.specs.declared.Place.{Place}
 use Rattle.directory.specs.declared.Entry.{Entry}
 use Rattle.sessions.specs.declared.OpenFile.{OpenFile}
@@ -36,13 +34,13 @@ use Rattle.requests.specs.declared.Request.{Request}
 use Rattle.requests.specs.declared.Refusal.{Refusal}
 use Rattle.requests.specs.declared.Refusal.the-variants.{NotThere, NotLegal}
 use Rattle.requests.specs.declared.Answer.{Answer}
-use Rattle.requests.specs.declared.Answer.the-variants.{Done, Refused}
+use Rattle.requests.specs.declared.Answer.the-variants.{Refused}
 use Rattle.steps.specs.declared.Verdict.{Verdict}
 
 -- a refusal changes nothing
 module _ (lawful : Bool) (files buffer code : ℕ) (q : Request) (c : Scene) (x : Refusal) (h : answerOf lawful files buffer code q c ≡ Refused x) where
   refused-is : (p : Place) → verdictFrom (Refused x) q (c .number) (c .entry) (c .file) p ≡ verdictOf lawful files buffer code q c
-  unfolding verdictOf entryNext fileWith fileFrom
+  unfolding verdictOf entryNext fileWith entryFrom fileFrom
   refused-is p = rw h
 
   refused-buffer : (old : List ℕ) → old ≡ bufferNext (answerOf lawful files buffer code q c) q c old
@@ -91,20 +89,6 @@ module _ (image : List ℕ) (ok : Bool) (files : ℕ) (e : Entry) (f : OpenFile)
         × (b ≡ bufferNext (answerOf true files (length buffer) code q (sceneOf i e f (seenBytes e f bytes held over) given)) q (sceneOf i e f (seenBytes e f bytes held over) given) buffer)
         → Rules a p b
     ruled bytes a p b eb h2 = rw (not-false ok h) (rw eb at h2)
-
-  -- what is done is done in a legal session, whose positions are small
-  pub fits : Stands image ok e f → (a : Answer) (p : Place) (b : List ℕ) → Rules a p b → a ≡ Done → f .position + 1 < 2 ^ 32
-  fits s a p b r d =
-      either ok
-      (λ (l : ok ≡ true). either (isFree e)
-      (λ (k : isFree e ≡ true). absurd (other NotThere refl (not-there q (factsWith ok files (length buffer) code q scene) l k)))
-      (λ (k : isFree e ≡ false).
-      let w : Lawful e f = s l k .0 in
-      omega (arith, w .standing, w .words)))
-      (λ (l : ok ≡ false). absurd (other NotLegal refl (not-legal q (factsWith ok files (length buffer) code q scene) l)))
-    where
-      other : (x : Refusal) → eqb 0 (numberOf (Refused x)) ≡ false → answerOf ok files (length buffer) code q scene ≡ Refused x → ⊥
-      other x n h = eqb-false 0 (numberOf (Refused x)) n (ap numberOf (sym d ∙ r .0 ∙ h))
 
   -- the verdict that a ruling makes
   abbrev Comes : Verdict → List ℕ → Type 0

@@ -3,7 +3,7 @@
 use mathlib.Core.Path.{_≡_, refl, sym, ap, ap₂, subst, _∙_}
 use mathlib.Core.Bool.{Bool, true, false, not, false≢true}
 use mathlib.Core.List.{List, []}
-use Prim.Native.Nat.{ℕ, _+_, _<_}
+use Prim.Native.Nat.{ℕ, _+_, _<_, _^_}
 use lib.Dec.{ltb}
 use lib.ListN.{length}
 use borrow.Author.Tests.{lt-ltb, ltb-true, eq-eqb, ne-eqb}
@@ -13,6 +13,7 @@ use Rattle.geometry.specs.Sizes.{compressed}
 use Rattle.geometry.proofs.Bytes.{lay-nil}
 use Rattle.geometry.proofs.Tests.{either, both-ways}
 use Rattle.directory.specs.Entries.{isKind}
+use Rattle.packing.specs.Placing.{behindNew}
 use Rattle.packing.specs.Reading.{Got, got, lost, Walk, decodes, recordsOf, behind, behindFrom, walk, walkedTo, ledTo}
 use Rattle.packing.proofs.Walks.{walk-length, decodes-walked, to-decodes, lost-breaks}
 use Rattle.requests.specs.Judge.{judge, behindCode}
@@ -21,10 +22,12 @@ use Rattle.requests.proofs.Done.{Allows, done-allows}
 use Rattle.requests.proofs.InTurn.{isBad, stands, turn, Then, ReadsThen, reads-on}
 use Rattle.requests.proofs.InTurn as InTurn
 use Rattle.mounting.specs.Mounting.{countedWalk}
-use Rattle.steps.specs.Next.{Scene, recordHere, fixedAt, isLost, bytesGot, behindGot, theCounted, theNext, decoding, badIn, endPlace, moved, fileMet, fileDone, intoBuffer, entryDone}
+use Rattle.steps.specs.Next.{Scene, recordHere, fixedAt, isLost, bytesGot, behindGot, theCounted, theNext, decoding, badIn, endPlace, moved, fileMet, fileDone, intoBuffer}
 use Rattle.steps.proofs.Compressed.{end-is}
 use Rattle.steps.specs.Verdict.{entryNext, bufferNext, doneWith, fileWith, verdictOf}
-use Rattle.judging.specs.Turns.{factsBut, sight, endLed, hereLed, laidFirst, hereInto, turnLed, turnInto, isAstray, placeIn, writtenAt, carriedTo, carriedInto, orderFrom, doneFrom, fileFrom, verdictFrom}
+use Rattle.following.specs.Following.{oneMore, orderFrom, doneFrom, fileFrom, verdictFrom}
+use Rattle.following.proofs.Following.{one-more, entry-from}
+use Rattle.judging.specs.Turns.{factsBut, sight, endLed, hereLed, laidFirst, hereInto, turnLed, turnInto, isAstray, placeIn, writtenAt, carriedTo, carriedInto}
 use Rattle.geometry.specs.declared.Place.{Place}
 use Rattle.directory.specs.declared.Entry.{Entry}
 use Rattle.packing.specs.declared.Led.{Led}
@@ -140,24 +143,6 @@ here-spared c old b = either (ltb (c .file .position) (c .entry .count))
 
 -- ---- the verdict
 
-entry-seen : (a : Answer) (q : Request) (c : Scene) → entryNext a q (sight (c .entry) (c .file) []) ≡ entryNext a q c
-unfolding entryNext entryDone
-entry-seen (Met x) q c = refl
-entry-seen (Refused x) q c = refl
-entry-seen Done Open c = refl
-entry-seen Done Read c = refl
-entry-seen Done Write c = refl
-entry-seen Done (GranuleRead g) c = refl
-entry-seen Done (GranuleWrite g) c = refl
-entry-seen Done (GranuleLook g) c = refl
-entry-seen Done (Position WriteMark) c = refl
-entry-seen Done (Position RewindOnline) c = refl
-entry-seen Done (Position RewindOffline) c = refl
-entry-seen Done (Position RecordForward) c = refl
-entry-seen Done (Position RecordBack) c = refl
-entry-seen Done (Position FileForward) c = refl
-entry-seen Done (Position FileBack) c = refl
-
 -- no bytes move but where the answer is 0
 buffer-kept : (a : Answer) (q : Request) (c : Scene) (old : List ℕ) → (a ≡ Done → ⊥) → bufferNext a q c old ≡ old
 unfolding bufferNext
@@ -172,7 +157,7 @@ unmoved Done q c old h = rw (h, lay-nil old 0)
 unmoved (Met x) q c old h = refl
 unmoved (Refused x) q c old h = refl
 
-module _ (files buffer code : ℕ) (c : Scene) where
+module _ (files buffer code : ℕ) (c : Scene) (small : c .file .position + 1 < 2 ^ 32) where
   abbrev facts : Bool → Facts
   facts b = factsBut b true files (c .entry) (c .file) (length (c .given)) code buffer
 
@@ -196,21 +181,26 @@ module _ (files buffer code : ℕ) (c : Scene) where
     where
       go : (x : Answer) → (x ≡ Done → doneFrom q (c .number) (c .entry) (c .file) p ≡ doneWith code q c)
           → verdictFrom x q (c .number) (c .entry) (c .file) p ≡ record { answer = x; entry = entryNext x q c; file = fileWith code x q c }
-      go Done d = ap₂ (λ (e : Entry) (f : OpenFile). record { answer = Done; entry = e; file = f }) (entry-seen Done q c) (d refl)
-      go (Met x) d = ap (λ (e : Entry). record { answer = Met x; entry = e; file = fileMet x (c .file) }) (entry-seen (Met x) q c)
-      go (Refused x) d = ap (λ (e : Entry). record { answer = Refused x; entry = e; file = c .file }) (entry-seen (Refused x) q c)
+      go Done d = ap₂ (λ (e : Entry) (f : OpenFile). record { answer = Done; entry = e; file = f }) (entry-from Done q c small) (d refl)
+      go (Met x) d = ap (λ (e : Entry). record { answer = Met x; entry = e; file = fileMet x (c .file) }) (entry-from (Met x) q c small)
+      go (Refused x) d = ap (λ (e : Entry). record { answer = Refused x; entry = e; file = c .file }) (entry-from (Refused x) q c small)
 
   -- ---- another answer than 11
 
   stays : (q : Request) → isBad (first q) ≡ false → ans q ≡ first q
   stays q h = stands q (facts true) (badIn (decoding q) c) h
 
+  past-is : oneMore (c .file .position) ≡ c .file .position + 1
+  past-is = one-more (c .file .position) small
+
   -- done: a request that decodes nothing
   carried : (q : Request) → Allows q (facts true) → doneFrom q (c .number) (c .entry) (c .file) (carriedTo code q (c .entry) (c .file)) ≡ doneWith code q c
   unfolding doneFrom orderFrom doneWith fileDone carriedTo writtenAt
   carried Open a = absurd (false≢true (sym (a .sound)))
   carried Read a = absurd (false≢true (sym (a .advances .sound)))
-  carried Write a = refl
+  carried Write a =
+      let p : Place = elim (isKind compressed (c .entry)) [ true ↦ behindNew (c .file .here) code | false ↦ c .file .here ] in
+      ap (λ (n : ℕ). moved (c .file) n false p p) past-is
   carried (GranuleRead g) a = refl
   carried (GranuleWrite g) a = refl
   carried (GranuleLook g) a = refl
@@ -270,7 +260,7 @@ module _ (files buffer code : ℕ) (c : Scene) where
   unfolding turnLed decoding doneFrom orderFrom doneWith fileDone
   turn-done Open t a = ap (λ (p : Place). record { used = true; entry = c .number; position = 0; beyond = false; here = origin; end = p }) (end-place c (a .sound))
   turn-done Read t a =
-      ap (λ (p : Place). moved (c .file) (c .file .position + 1) false p (c .file .end)) (here-place c (lt-ltb _ _ (a .advances .ahead)) (a .advances .sound))
+      ap₂ (λ (n : ℕ) (p : Place). moved (c .file) n false p (c .file .end)) past-is (here-place c (lt-ltb _ _ (a .advances .ahead)) (a .advances .sound))
   turn-done Write t a = absurd t
   turn-done (GranuleRead g) t a = absurd t
   turn-done (GranuleWrite g) t a = absurd t
@@ -279,7 +269,7 @@ module _ (files buffer code : ℕ) (c : Scene) where
   turn-done (Position RewindOnline) t a = absurd t
   turn-done (Position RewindOffline) t a = absurd t
   turn-done (Position RecordForward) t a =
-      ap (λ (p : Place). moved (c .file) (c .file .position + 1) false p (c .file .end)) (here-place c (lt-ltb _ _ (a .ahead)) (a .sound))
+      ap₂ (λ (n : ℕ) (p : Place). moved (c .file) n false p (c .file .end)) past-is (here-place c (lt-ltb _ _ (a .ahead)) (a .sound))
   turn-done (Position RecordBack) t a = absurd t
   turn-done (Position FileForward) t a = absurd t
   turn-done (Position FileBack) t a = absurd t

@@ -1,9 +1,9 @@
--- How a request is judged with decoding only in its turn: what it is judged by at first, where its decoding leads, and the file's state by that place.
--- proofs/Turns.antt shows that this comes to `verdictOf`. Definitions only.
+-- How a request is judged with decoding only in its turn: what it is judged by at first, and where its decoding leads. proofs/Turns.antt shows that this,
+-- and the next entry and state that `following` makes by that place, come to `verdictOf`. Definitions only.
 use mathlib.Core.Bool.{Bool, true, false}
 use mathlib.Core.Path.{_≡_}
 use mathlib.Core.List.{List, []}
-use Prim.Native.Nat.{ℕ, _+_, _-_, _*_, _≤_, _<_, _^_}
+use Prim.Native.Nat.{ℕ, _+_, _*_, _≤_, _<_, _^_}
 use lib.ListN.{length}
 use lib.Dec.{ltb}
 use Rattle.geometry.specs.Bytes.{part, lay}
@@ -13,23 +13,16 @@ use Rattle.directory.specs.Entries.{isFree, isKind, isMarked, isProtected}
 use Rattle.packing.specs.Placing.{behindNew}
 use Rattle.packing.specs.Reading.{overlaid, Got, got, lost, walkedTo, ledTo}
 use Rattle.mounting.specs.Mounting.{countedWalk}
-use Rattle.sessions.specs.Session.{idle}
-use Rattle.steps.specs.Next.{Scene, recordHere, fixedAt, moved, fileMet}
-use Rattle.steps.specs.Verdict.{entryNext}
+use Rattle.steps.specs.Next.{Scene, recordHere, fixedAt}
 use Rattle.steps.proofs.Lawful.{Lawful}
 use Rattle.geometry.specs.declared.Place.{Place}
 use Rattle.directory.specs.declared.Entry.{Entry}
 use Rattle.packing.specs.declared.Led.{Led}
 use Rattle.packing.specs.declared.Led.the-variants.{To, Lost}
 use Rattle.requests.specs.declared.Facts.{Facts}
-use Rattle.requests.specs.declared.Order.{Order}
-use Rattle.requests.specs.declared.Order.the-variants.{WriteMark, RewindOnline, RewindOffline, RecordForward, RecordBack, FileForward, FileBack}
 use Rattle.requests.specs.declared.Request.{Request}
 use Rattle.requests.specs.declared.Request.the-variants.{Open, Read, Write, GranuleRead, GranuleWrite, GranuleLook, Position}
-use Rattle.requests.specs.declared.Answer.{Answer}
-use Rattle.requests.specs.declared.Answer.the-variants.{Done, Met, Refused}
 use Rattle.sessions.specs.declared.OpenFile.{OpenFile}
-use Rattle.steps.specs.declared.Verdict.{Verdict}
 
 -- the facts but for the codes, which are supposed to be bad or not
 abbrev pub factsBut : Bool → Bool → ℕ → Entry → OpenFile → ℕ → ℕ → ℕ → Facts
@@ -179,33 +172,3 @@ CarryOf (GranuleRead g) code e f n = (Fixed e g n) × (f .used ≡ true) × (isK
 CarryOf (GranuleWrite g) code e f n = Unit {0}
 CarryOf (GranuleLook g) code e f n = Unit {0}
 CarryOf (Position o) code e f n = Unit {0}
-
--- ---- the next state of the file
-
--- answer 0, p being the end place of an opening, or the place behind the record read or written
-unfoldable pub orderFrom : Order → Entry → OpenFile → Place → OpenFile
-orderFrom WriteMark e f p = moved f (f .position) true (f .here) (f .here)
-orderFrom RewindOnline e f p = moved f 0 false origin (f .end)
-orderFrom RewindOffline e f p = idle
-orderFrom RecordForward e f p = moved f (f .position + 1) false p (f .end)
-orderFrom RecordBack e f p = moved f (f .position - 1) false (f .here) (f .end)
-orderFrom FileForward e f p = moved f (e .count) true (f .end) (f .end)
-orderFrom FileBack e f p = moved f (f .position) false (f .here) (f .end)
-
-unfoldable pub doneFrom : Request → ℕ → Entry → OpenFile → Place → OpenFile
-doneFrom Open i e f p = record { used = true; entry = i; position = 0; beyond = false; here = origin; end = p }
-doneFrom Read i e f p = moved f (f .position + 1) false p (f .end)
-doneFrom Write i e f p = moved f (f .position + 1) false p p
-doneFrom (GranuleRead g) i e f p = f
-doneFrom (GranuleWrite g) i e f p = f
-doneFrom (GranuleLook g) i e f p = f
-doneFrom (Position o) i e f p = orderFrom o e f p
-
--- any answer
-unfoldable pub fileFrom : Answer → Request → ℕ → Entry → OpenFile → Place → OpenFile
-fileFrom Done q i e f p = doneFrom q i e f p
-fileFrom (Met x) q i e f p = fileMet x f
-fileFrom (Refused x) q i e f p = f
-
-abbrev pub verdictFrom : Answer → Request → ℕ → Entry → OpenFile → Place → Verdict
-verdictFrom a q i e f p = record { answer = a; entry = entryNext a q (sight e f []); file = fileFrom a q i e f p }

@@ -1,4 +1,5 @@
-// One request, judged once for both engines: document 01's "The tape a file is" and "Answer numbers".
+// One request, judged once for both engines: document 01's "The tape a file is" and "Answer numbers". The next entry and the next state of its
+// file are made by `following`.
 // Decoding happens only in its turn: a request is first judged as if a bad code were met, and only where that gives 11 is anything decoded.
 use directory::Entry;
 use directory::is_marked;
@@ -6,6 +7,8 @@ use directory::is_protected;
 use finding::Seen;
 use finding::find_in;
 use finding::lent_in;
+use following::next;
+use following::start;
 use geometry::Geometry;
 use geometry::Place;
 use geometry::lay;
@@ -16,9 +19,7 @@ use packing::read_behind;
 use packing::skip_behind;
 use packing::walk;
 use requests::Answer;
-use requests::Edge;
 use requests::Facts;
-use requests::Order;
 use requests::Refusal;
 use requests::Request;
 use requests::judge;
@@ -26,33 +27,29 @@ use requests::judge_granule_look;
 use requests::number;
 use requests::past_code;
 use sessions::OpenFile;
-use sessions::idle;
 use steps::Verdict;
 use straight::encode_given;
 ghost use mathlib.Core.Path.{_≡_};
 ghost use mathlib.Core.Bool.{true, false, _&&_};
-ghost use mathlib.Core.List.{[]};
-ghost use Prim.Native.Nat.{_+_, _-_, _*_, _≤_, _<_, _^_};
+ghost use Prim.Native.Nat.{_+_, _*_, _≤_};
 ghost use lib.Dec.{eqb};
 ghost use lib.ListN.{length};
 ghost use lib.Seq.{sets};
 ghost use Rattle.geometry.specs.Bytes as Bytes;
-ghost use Rattle.geometry.specs.Places.{origin};
-ghost use Rattle.geometry.specs.Sizes.{blocked, compressed, random};
+ghost use Rattle.geometry.specs.Sizes.{blocked, random};
 ghost use Rattle.geometry.specs.Sizes as Sizes;
 ghost use Rattle.directory.specs.Entries.{entryAt, isKind};
 ghost use Rattle.sessions.specs.Session.{extent};
 ghost use Rattle.steps.specs.Look.{bufferedLookAnswer};
-ghost use Rattle.requests.specs.declared.Answer.the-variants.{Done};
 ghost use Rattle.storing.specs.Stored.{lentSession};
 ghost use Rattle.finding.specs.Lent.{seenIn};
 ghost use Rattle.straight.specs.Straight.{codeGiven};
+ghost use Rattle.following.specs.Following.{verdictFrom};
 ghost use Rattle.judging.specs.Judged.{sceneSeen, judgedIn, bufferIn};
 ghost use Rattle.judging.specs.Looks.{lookedBy};
-ghost use Rattle.steps.specs.Next.{moved, counted, fileMet, entryDone};
 ghost use Rattle.steps.specs.Verdict.{seenBytes, bufferNext, answerOf, verdictOf};
 ghost use Rattle.steps.proofs.Lawful.{Lawful};
-ghost use Rattle.judging.specs.Turns.{factsBut, sight, Ready, Stands, endLed, hereLed, hereInto, turnLed, turnInto, TurnOf, writtenAt, Reaches, carriedTo, carriedInto, CarryOf, Fixed, recordIn, blockedBytes, orderFrom, doneFrom, sceneOf, verdictFrom};
+ghost use Rattle.judging.specs.Turns.{factsBut, Ready, Stands, endLed, hereLed, hereInto, turnLed, turnInto, TurnOf, writtenAt, Reaches, carriedTo, carriedInto, CarryOf, Fixed, recordIn, blockedBytes, sceneOf};
 
 // ---- what a request is judged by
 
@@ -87,154 +84,6 @@ fn facts(
         given: given,
         code: code,
         buffer: buffer,
-    }
-}
-
-// ---- the next entry and the next state
-
-// The place before the first record.
-fn start() -> Place
-    ensures { λ r. ⌜ r ≡ origin ⌝ }
-{
-    Place { sector: 0, byte: 0 }
-}
-
-// One less, and 0 of 0.
-fn less_one(n: u32) -> u32
-    ensures { λ r. ⌜ r ≡ n - 1 ⌝ }
-{
-    if n == 0 { 0 } else { n - 1 }
-}
-
-// The file at another position and place.
-fn moved(f: OpenFile, position: u32, beyond: bool, here: Place, end: Place) -> OpenFile
-    ensures { λ r. ⌜ r ≡ moved f position beyond here end ⌝ }
-{
-    OpenFile {
-        used: true,
-        entry: f.entry,
-        position: position,
-        beyond: beyond,
-        here: here,
-        end: end,
-    }
-}
-
-// The entry with another count and mark.
-fn counted(e: Entry, n: u32, marked: u16) -> Entry
-    requires { ⌜ marked ≤ 1 ⌝ }
-    ensures { λ r. ⌜ r ≡ counted e n marked ⌝ }
-{
-    let name = e.name;
-    Entry {
-        name: name,
-        kind: e.kind,
-        length: e.length,
-        first: e.first,
-        sectors: e.sectors,
-        count: n,
-        flags: 2 * (e.flags / 2) + marked,
-    }
-}
-
-// The entry behind a request answered 0: a write leaves p + 1 records, unmarked; a write file mark p records, marked.
-fn done_entry(q: Request, e: Entry, f: OpenFile) -> Entry
-    requires { ⌜ f .position + 1 < 2 ^ 32 ⌝ }
-    ensures { λ r. ⌜ r ≡ entryDone q (sight e f []) ⌝ }
-{
-    let past = f.position + 1;
-    match q {
-        Request::Write => counted(e, past, 0),
-        Request::Position(o) => match o {
-            Order::WriteMark => counted(e, f.position, 1),
-            _ => e,
-        },
-        _ => e,
-    }
-}
-
-// The state behind an answer 1, which crosses the mark, or 2, which stands at the start.
-fn met_file(x: Edge, f: OpenFile) -> OpenFile
-    ensures { λ r. ⌜ r ≡ fileMet x f ⌝ }
-{
-    let here = f.here;
-    let end = f.end;
-    match x {
-        Edge::EndOfFile => moved(f, f.position, !f.beyond, here, end),
-        Edge::BeginningOfTape => moved(f, 0, false, start(), end),
-    }
-}
-
-// The state behind an order answered 0; p is the place behind the record passed over.
-fn done_order(o: Order, e: Entry, f: OpenFile, p: Place) -> OpenFile
-    requires { ⌜ f .position + 1 < 2 ^ 32 ⌝ }
-    ensures { λ r. ⌜ r ≡ orderFrom o e f p ⌝ }
-{
-    let past = f.position + 1;
-    let here = f.here;
-    let end = f.end;
-    match o {
-        Order::WriteMark => moved(f, f.position, true, here, here),
-        Order::RewindOnline => moved(f, 0, false, start(), end),
-        Order::RewindOffline => idle(),
-        Order::RecordForward => moved(f, past, false, p, end),
-        Order::RecordBack => moved(f, less_one(f.position), false, here, end),
-        Order::FileForward => moved(f, e.count, true, end, end),
-        Order::FileBack => moved(f, f.position, false, here, end),
-    }
-}
-
-// The state of file i behind a request answered 0; p is the end place of an opening, or the place behind the record read or written.
-fn done_file(q: Request, i: usize, e: Entry, f: OpenFile, p: Place) -> OpenFile
-    requires { ⌜ f .position + 1 < 2 ^ 32 ⌝ }
-    ensures { λ r. ⌜ r ≡ doneFrom q i e f p ⌝ }
-{
-    let past = f.position + 1;
-    let end = f.end;
-    match q {
-        Request::Open => OpenFile {
-            used: true,
-            entry: i,
-            position: 0,
-            beyond: false,
-            here: start(),
-            end: p,
-        },
-        Request::Read => moved(f, past, false, p, end),
-        Request::Write => moved(f, past, false, p, p),
-        Request::Position(o) => done_order(o, e, f, p),
-        _ => f,
-    }
-}
-
-// An answer, with the entry and the state behind it; p as above.
-fn next(a: Answer, q: Request, i: usize, e: Entry, f: OpenFile, p: Place) -> Verdict
-    requires { ⌜ (a ≡ Done → f .position + 1 < 2 ^ 32) ⌝ }
-    ensures { λ r. ⌜ r ≡ verdictFrom a q i e f p ⌝ }
-{
-    match a {
-        Answer::Done => {
-            let entry = done_entry(q, e, f);
-            let file = done_file(q, i, e, f, p);
-            Verdict {
-                answer: a,
-                entry: entry,
-                file: file,
-            }
-        }
-        Answer::Met(x) => {
-            let file = met_file(x, f);
-            Verdict {
-                answer: a,
-                entry: e,
-                file: file,
-            }
-        }
-        Answer::Refused(_) => Verdict {
-            answer: a,
-            entry: e,
-            file: f,
-        },
     }
 }
 

@@ -2,6 +2,7 @@
 -- Any other answer stands.
 use Rattle.judging.proofs.Turns.{is-bad, is-done, good-rules, lost-rules, done-rules, other-rules}
 use Rattle.judging.proofs.Here.{turn-of, carry-of}
+use Rattle.following.proofs.Following.{small}
 use Rattle.judging.specs.Turns.{sceneOf}
 use Rattle.steps.specs.Verdict.{seenBytes}
 use Rattle.requests.proofs.InTurn.{turn}
@@ -25,7 +26,7 @@ decode-requires c κs =
     let a = c .before .before .before .before .before .before .before .before .before .args in
     let p = c .before .before .before .before .before .before .before .before .before .pre in
     turn-of (a .files) (length (a .buffer .now)) (a .code) (length (a .given .now)) (length (a .bytes .now)) (a .e) (a .f) (p .0) (p .1) (a .q)
-    (turn (a .q) _ (is-bad (a .files) (length (a .buffer .now)) (a .code) (sceneOf (a .i) (a .e) (a .f) (seenBytes (a .e) (a .f) (a .bytes .now) (a .held) (a .over .now)) (a .given .now)) (a .q) (c .before .before .before .before .facts .result) (c .before .before .before .judge .result) (c .before .before .number .result) (c .before .before .before .before .facts .ensures) (c .before .before .before .judge .ensures) (c .before .before .number .ensures) (c .before .if1 .taken)))
+    (turn (a .q) _ (is-bad (a .files) (length (a .buffer .now)) (a .code) (sceneOf (a .i) (a .e) (a .f) (seenBytes (a .e) (a .f) (a .bytes .now) (a .held) (a .over .now)) (a .given .now)) (small (a .e) (a .f) (p .0)) (a .q) (c .before .before .before .before .facts .result) (c .before .before .before .judge .result) (c .before .before .number .result) (c .before .before .before .before .facts .ensures) (c .before .before .before .judge .ensures) (c .before .before .number .ensures) (c .before .if1 .taken)))
 
 enum-known-led : tie.Need-enum-known-led
 enum-known-led c = search needs
@@ -42,7 +43,8 @@ same-length c = search needs
 returns : tie.Need-returns
 returns c =
     let a = c .before .before .before .before .before .before .before .before .before .before .before .before .before .before .before .before .args in
-    good-rules (a .files) (length (a .buffer .now)) (a .code) (sceneOf (a .i) (a .e) (a .f) (seenBytes (a .e) (a .f) (a .bytes .now) (a .held) (a .over .now)) (a .given .now)) (a .q) (c .before .before .before .before .before .before .before .before .before .before .before .facts .result) (c .before .before .before .before .before .before .before .before .before .before .judge .result) (c .before .before .before .before .before .before .before .before .before .number .result) (c .before .before .before .before .before .before .before .before .before .before .before .facts .ensures) (c .before .before .before .before .before .before .before .before .before .before .judge .ensures) (c .before .before .before .before .before .before .before .before .before .number .ensures) (c .before .before .before .before .before .before .before .before .if1 .taken)
+    let p = c .before .before .before .before .before .before .before .before .before .before .before .before .before .before .before .before .pre in
+    good-rules (a .files) (length (a .buffer .now)) (a .code) (sceneOf (a .i) (a .e) (a .f) (seenBytes (a .e) (a .f) (a .bytes .now) (a .held) (a .over .now)) (a .given .now)) (small (a .e) (a .f) (p .0)) (a .q) (c .before .before .before .before .before .before .before .before .before .before .before .facts .result) (c .before .before .before .before .before .before .before .before .before .before .judge .result) (c .before .before .before .before .before .before .before .before .before .number .result) (c .before .before .before .before .before .before .before .before .before .before .before .facts .ensures) (c .before .before .before .before .before .before .before .before .before .before .judge .ensures) (c .before .before .before .before .before .before .before .before .before .number .ensures) (c .before .before .before .before .before .before .before .before .if1 .taken)
     (a .buffer .now) _ (c .before .before .before .before .before .before .decode .result) (c .before .before .before .before .before .before .decode .ensures) _ (c .before .before .led .given .1) (c .past-code .result) (c .past-code .ensures)
 
 same-length-2 : tie.Need-same-length-2
@@ -51,7 +53,8 @@ same-length-2 c = search needs
 returns-2 : tie.Need-returns-2
 returns-2 c =
     let a = c .before .before .before .before .before .before .before .before .before .before .before .before .before .before .before .args in
-    lost-rules (a .files) (length (a .buffer .now)) (a .code) (sceneOf (a .i) (a .e) (a .f) (seenBytes (a .e) (a .f) (a .bytes .now) (a .held) (a .over .now)) (a .given .now)) (a .q) (c .before .before .before .before .before .before .before .before .before .before .facts .result) (c .before .before .before .before .before .before .before .before .before .judge .result) (c .before .before .before .before .before .before .before .before .number .result) (c .before .before .before .before .before .before .before .before .before .before .facts .ensures) (c .before .before .before .before .before .before .before .before .before .judge .ensures) (c .before .before .before .before .before .before .before .before .number .ensures) (c .before .before .before .before .before .before .before .if1 .taken)
+    let p = c .before .before .before .before .before .before .before .before .before .before .before .before .before .before .before .pre in
+    lost-rules (a .files) (length (a .buffer .now)) (a .code) (sceneOf (a .i) (a .e) (a .f) (seenBytes (a .e) (a .f) (a .bytes .now) (a .held) (a .over .now)) (a .given .now)) (small (a .e) (a .f) (p .0)) (a .q) (c .before .before .before .before .before .before .before .before .before .before .facts .result) (c .before .before .before .before .before .before .before .before .before .judge .result) (c .before .before .before .before .before .before .before .before .number .result) (c .before .before .before .before .before .before .before .before .before .before .facts .ensures) (c .before .before .before .before .before .before .before .before .before .judge .ensures) (c .before .before .before .before .before .before .before .before .number .ensures) (c .before .before .before .before .before .before .before .if1 .taken)
     (a .buffer .now) _ (c .before .before .before .before .before .decode .result) (c .before .before .before .before .before .decode .ensures) _ (c .before .led2 .given .1)
 
 carry-requires : tie.Need-carry-requires
@@ -59,7 +62,7 @@ carry-requires c κs =
     let a = c .before .before .before .before .before .before .before .before .before .before .args in
     let p = c .before .before .before .before .before .before .before .before .before .before .pre in
     carry-of (a .files) (length (a .buffer .now)) (a .code) (length (a .given .now)) (length (a .bytes .now)) (a .e) (a .f) (p .0) (p .1) (a .q)
-    (done-allows (a .q) _ (is-done (a .files) (length (a .buffer .now)) (a .code) (sceneOf (a .i) (a .e) (a .f) (seenBytes (a .e) (a .f) (a .bytes .now) (a .held) (a .over .now)) (a .given .now)) (a .q) (c .before .before .before .before .before .facts .result) (c .before .before .before .before .judge .result) (c .before .before .before .number .result) (c .before .before .before .before .before .facts .ensures) (c .before .before .before .before .judge .ensures) (c .before .before .before .number .ensures) (c .before .if2 .taken)))
+    (done-allows (a .q) _ (is-done (a .files) (length (a .buffer .now)) (a .code) (sceneOf (a .i) (a .e) (a .f) (seenBytes (a .e) (a .f) (a .bytes .now) (a .held) (a .over .now)) (a .given .now)) (small (a .e) (a .f) (p .0)) (a .q) (c .before .before .before .before .before .facts .result) (c .before .before .before .before .judge .result) (c .before .before .before .number .result) (c .before .before .before .before .before .facts .ensures) (c .before .before .before .before .judge .ensures) (c .before .before .before .number .ensures) (c .before .if2 .taken)))
 
 same-length-3 : tie.Need-same-length-3
 same-length-3 c = search needs
@@ -67,7 +70,8 @@ same-length-3 c = search needs
 returns-3 : tie.Need-returns-3
 returns-3 c =
     let a = c .before .before .before .before .before .before .before .before .before .before .before .before .before .args in
-    done-rules (a .files) (length (a .buffer .now)) (a .code) (sceneOf (a .i) (a .e) (a .f) (seenBytes (a .e) (a .f) (a .bytes .now) (a .held) (a .over .now)) (a .given .now)) (a .q) (c .before .before .before .before .before .before .before .before .facts .result) (c .before .before .before .before .before .before .before .judge .result) (c .before .before .before .before .before .before .number .result) (c .before .before .before .before .before .before .before .before .facts .ensures) (c .before .before .before .before .before .before .before .judge .ensures) (c .before .before .before .before .before .before .number .ensures) (c .before .before .before .before .if2 .taken)
+    let p = c .before .before .before .before .before .before .before .before .before .before .before .before .before .pre in
+    done-rules (a .files) (length (a .buffer .now)) (a .code) (sceneOf (a .i) (a .e) (a .f) (seenBytes (a .e) (a .f) (a .bytes .now) (a .held) (a .over .now)) (a .given .now)) (small (a .e) (a .f) (p .0)) (a .q) (c .before .before .before .before .before .before .before .before .facts .result) (c .before .before .before .before .before .before .before .judge .result) (c .before .before .before .before .before .before .number .result) (c .before .before .before .before .before .before .before .before .facts .ensures) (c .before .before .before .before .before .before .before .judge .ensures) (c .before .before .before .before .before .before .number .ensures) (c .before .before .before .before .if2 .taken)
     (a .buffer .now) _ (c .before .before .carry .result) (c .before .before .carry .ensures)
 
 start-requires : tie.Need-start-requires
@@ -76,7 +80,8 @@ start-requires c κs = search needs
 returns-4 : tie.Need-returns-4
 returns-4 c =
     let a = c .before .before .before .before .before .before .before .before .before .before .args in
-    other-rules (a .files) (length (a .buffer .now)) (a .code) (sceneOf (a .i) (a .e) (a .f) (seenBytes (a .e) (a .f) (a .bytes .now) (a .held) (a .over .now)) (a .given .now)) (a .q) (c .before .before .before .before .before .facts .result) (c .before .before .before .before .judge .result) (c .before .before .before .number .result) (c .before .before .before .before .before .facts .ensures) (c .before .before .before .before .judge .ensures) (c .before .before .before .number .ensures) (c .before .before .if1 .left) (c .before .if2 .left)
+    let p = c .before .before .before .before .before .before .before .before .before .before .pre in
+    other-rules (a .files) (length (a .buffer .now)) (a .code) (sceneOf (a .i) (a .e) (a .f) (seenBytes (a .e) (a .f) (a .bytes .now) (a .held) (a .over .now)) (a .given .now)) (small (a .e) (a .f) (p .0)) (a .q) (c .before .before .before .before .before .facts .result) (c .before .before .before .before .judge .result) (c .before .before .before .number .result) (c .before .before .before .before .before .facts .ensures) (c .before .before .before .before .judge .ensures) (c .before .before .before .number .ensures) (c .before .before .if1 .left) (c .before .if2 .left)
     (a .buffer .now) _
 
 pub lawful-ruling-spec : {M : Type 1} → statement M

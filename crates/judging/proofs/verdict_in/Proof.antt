@@ -5,7 +5,7 @@ use Rattle.straight.specs.Straight.{codeGiven}
 use Rattle.finding.specs.Lent.{lentBy, ownState, seenIn}
 use Rattle.storing.specs.Stored.{lentSession}
 use Rattle.finding.specs.declared.Seen.{Seen}
-use Rattle.judging.proofs.Entered.{seen-stands, seen-lent, fits, judged}
+use Rattle.judging.proofs.Entered.{seen-stands, seen-lent, judged}
 use borrow.Author.Needs.{needs}
 use Rattle.judging.proofs.verdict_in.Statement.{statement}
 use Rattle.judging.proofs.verdict_in.Tie as tie
@@ -26,14 +26,7 @@ ruling-on-requires c κs =
     seen-stands (a .image .now) (a .session .now) (a .i) (d .find-in .result) (d .find-in .ensures)
 
 next-requires : tie.Need-next-requires
-next-requires c κs =
-    let r = c .before .before .before .before in
-    let n = r .before .before .before .before .before .before in
-    let d = n .before .before .before in
-    let a = d .before .before .before .before .before .before .args in
-    let x = d .find-in .result in
-    fits (a .image .now) (x .lawful) (x .opened) (x .entry) (x .file) (x .hold .held) (r .before .before .lent-in .result .now) (a .i) (a .q) (a .given .now) (n .encode-given .result) (a .buffer .now)
-    (seen-stands (a .image .now) (a .session .now) (a .i) x (d .find-in .ensures)) _ _ _ (r .ruling-on .ensures)
+next-requires c κs = search needs
 
 same-length : tie.Need-same-length
 same-length c = search needs

@@ -2,8 +2,8 @@
 use mathlib.Core.Path.{refl}
 use Rattle.steps.specs.Next.{counted}
 use borrow.Author.Needs.{needs}
-use Rattle.judging.proofs.counted.Statement.{statement}
-use Rattle.judging.proofs.counted.Tie as tie
+use Rattle.following.proofs.counted.Statement.{statement}
+use Rattle.following.proofs.counted.Tie as tie
 
 mul-t6 : tie.Need-mul-t6
 mul-t6 c = search needs

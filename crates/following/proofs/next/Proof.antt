@@ -1,18 +1,17 @@
 -- By the answer, as the definitions go.
 use borrow.Author.Needs.{needs}
-use Rattle.steps.specs.Verdict.{entryNext}
-use Rattle.judging.specs.Turns.{fileFrom}
-use Rattle.judging.proofs.next.Statement.{statement}
-use Rattle.judging.proofs.next.Tie as tie
+use Rattle.following.specs.Following.{entryFrom, fileFrom}
+use Rattle.following.proofs.next.Statement.{statement}
+use Rattle.following.proofs.next.Tie as tie
 
 enum-told : tie.Need-enum-told
 enum-told c = search needs
 
 done-entry-requires : tie.Need-done-entry-requires
-done-entry-requires c κs = c .before .before .pre (c .enum-told .given .1)
+done-entry-requires c κs = search needs
 
 done-file-requires : tie.Need-done-file-requires
-done-file-requires c κs = c .before .before .before .pre (c .before .enum-told .given .1)
+done-file-requires c κs = search needs
 
 enum-known-a : tie.Need-enum-known-a
 enum-known-a c = search needs
@@ -24,15 +23,15 @@ enum-told-2 : tie.Need-enum-told-2
 enum-told-2 c = search needs
 
 returns : tie.Need-returns
-unfolding entryNext fileFrom
+unfolding entryFrom fileFrom
 returns c = rw (c .before .before .enum-told .given .1, c .done-file .ensures, c .before .done-entry .ensures)
 
 returns-2 : tie.Need-returns-2
-unfolding entryNext fileFrom
+unfolding entryFrom fileFrom
 returns-2 c = rw (c .before .before .a .given .1, c .met-file .ensures)
 
 returns-3 : tie.Need-returns-3
-unfolding entryNext fileFrom
+unfolding entryFrom fileFrom
 returns-3 c = rw (c .enum-told2 .given .1)
 
 pub next-spec : {M : Type 1} → statement M

@@ -1,11 +1,11 @@
 -- By the order, as the definition goes.
 use borrow.Author.Needs.{needs}
-use Rattle.judging.proofs.done_order.Statement.{statement}
-use Rattle.judging.proofs.done_order.Tie as tie
-use Rattle.judging.specs.Turns.{orderFrom}
+use Rattle.following.proofs.done_order.Statement.{statement}
+use Rattle.following.proofs.done_order.Tie as tie
+use Rattle.following.specs.Following.{orderFrom}
 
-add-past : tie.Need-add-past
-add-past c = search needs
+one-more-requires : tie.Need-one-more-requires
+one-more-requires c κs = search needs
 
 enum-told : tie.Need-enum-told
 enum-told c = search needs
@@ -69,7 +69,7 @@ returns-3 c = rw (c .before .enum-told3 .given .1, c .idle .ensures)
 
 returns-4 : tie.Need-returns-4
 unfolding orderFrom
-returns-4 c = rw (c .before .enum-told4 .given .1, c .moved3 .ensures)
+returns-4 c = rw (c .before .enum-told4 .given .1, c .moved3 .ensures, c .before .before .before .before .before .one-more .ensures)
 
 returns-5 : tie.Need-returns-5
 unfolding orderFrom
@@ -87,7 +87,7 @@ pub done-order-spec : {M : Type 1} → statement M
 done-order-spec =
     tie.close
     (tie.spec
-    add-past
+    one-more-requires
     enum-told
     moved-requires
     enum-told-2

@@ -1,8 +1,8 @@
 -- By the edge, as the definition goes.
 use Rattle.steps.specs.Next.{fileMet}
 use borrow.Author.Needs.{needs}
-use Rattle.judging.proofs.met_file.Statement.{statement}
-use Rattle.judging.proofs.met_file.Tie as tie
+use Rattle.following.proofs.met_file.Statement.{statement}
+use Rattle.following.proofs.met_file.Tie as tie
 
 enum-told : tie.Need-enum-told
 enum-told c = search needs

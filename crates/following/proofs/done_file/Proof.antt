@@ -1,7 +1,7 @@
 -- By the request, as the definition goes; a granule's requests leave the state as it is.
 use borrow.Author.Needs.{needs}
-use Rattle.judging.proofs.done_file.Statement.{statement}
-use Rattle.judging.proofs.done_file.Tie as tie
+use Rattle.following.proofs.done_file.Statement.{statement}
+use Rattle.following.proofs.done_file.Tie as tie
 use mathlib.Core.Path.{_≡_, refl}
 use mathlib.Core.List.{[], _∷_}
 use Prim.Native.Nat.{ℕ}
@@ -13,7 +13,7 @@ use Rattle.sessions.specs.declared.OpenFile.{OpenFile}
 use Rattle.requests.specs.declared.Request.{Request}
 use Rattle.requests.specs.declared.Request.the-variants.{Open, Read, Write, GranuleRead, GranuleWrite, GranuleLook, Position}
 use Rattle.requests.proofs.Request as Request
-use Rattle.judging.specs.Turns.{doneFrom}
+use Rattle.following.specs.Following.{doneFrom}
 
 -- a granule's requests leave the state as it is
 granules : (q : Request) (i : ℕ) (e : Entry) (f : OpenFile) (p : Place) → OneOf (3 ∷ 4 ∷ 5 ∷ []) (tagOf (Request.the-type) q) → f ≡ doneFrom q i e f p
@@ -26,8 +26,8 @@ granules (GranuleWrite g) i e f p k = refl
 granules (GranuleLook g) i e f p k = refl
 granules (Position o) i e f p k = absurd (miss (3 ∷ 4 ∷ 5 ∷ []) 6 tt k)
 
-add-past : tie.Need-add-past
-add-past c = search needs
+one-more-requires : tie.Need-one-more-requires
+one-more-requires c κs = search needs
 
 enum-told : tie.Need-enum-told
 enum-told c = search needs
@@ -59,11 +59,11 @@ returns c = rw (c .before .enum-told .given .1, c .start .ensures)
 
 returns-2 : tie.Need-returns-2
 unfolding doneFrom
-returns-2 c = rw (c .before .enum-told2 .given .1, c .moved .ensures)
+returns-2 c = rw (c .before .enum-told2 .given .1, c .moved .ensures, c .before .before .before .before .one-more .ensures)
 
 returns-3 : tie.Need-returns-3
 unfolding doneFrom
-returns-3 c = rw (c .before .enum-told3 .given .1, c .moved2 .ensures)
+returns-3 c = rw (c .before .enum-told3 .given .1, c .moved2 .ensures, c .before .before .before .before .one-more .ensures)
 
 returns-4 : tie.Need-returns-4
 unfolding doneFrom
@@ -78,7 +78,7 @@ pub done-file-spec : {M : Type 1} → statement M
 done-file-spec =
     tie.close
     (tie.spec
-    add-past
+    one-more-requires
     enum-told
     start-requires
     enum-told-2
