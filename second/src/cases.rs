@@ -10,22 +10,27 @@ use crate::disk::Disk;
 use crate::engine::Order;
 use crate::fixed::fixed_cases;
 use crate::generate::{empty_image, fill_compressed, new_entry, put_entry};
-use crate::generate::{random_image, random_script, random_text};
+use crate::generate::{random_image, random_script, random_text, script_on};
 use crate::image::{BLANK, SECTOR};
 use crate::listing::listing;
 use crate::notation::script;
+use crate::patch::Patch;
 use crate::play::{play, Played};
 use crate::random::Random;
 use crate::script::Script;
 use crate::session::Engine;
+use crate::stored::read_session;
+use crate::strange::{strange_bytes, strange_session};
 
-/// A case: the rule of document 01 that it tries, an image and a script for it.
+/// A case: the rule of document 01 that it tries, an image, a script for it, and the patches of the
+/// plain and of the buffered engine's session behind the mounting.
 #[derive(Clone)]
 pub struct Case {
     pub name: String,
     pub rule: &'static str,
     pub image: Vec<u8>,
     pub script: Script,
+    pub sessions: [Vec<Patch>; 2],
 }
 
 impl Case {
@@ -40,12 +45,29 @@ impl Case {
             rule,
             image,
             script,
+            sessions: [Vec::new(), Vec::new()],
+        }
+    }
+
+    /// The case with patches of its sessions.
+    pub fn with_sessions(mut self, sessions: [Vec<Patch>; 2]) -> Case {
+        self.sessions = sessions;
+        self
+    }
+
+    /// The patches of an engine's session.
+    pub fn session_patches(&self, engine: Engine) -> &[Patch] {
+        let [plain, buffered] = &self.sessions;
+        match engine {
+            Engine::Plain => plain,
+            Engine::Buffered => buffered,
         }
     }
 
     /// The text of play and the image at the end, expected of an engine.
     pub fn expected(&self, engine: Engine) -> Played {
-        play(engine, self.image.clone(), &self.script)
+        let patches = self.session_patches(engine);
+        play(engine, self.image.clone(), patches, &self.script)
     }
 }
 
@@ -111,7 +133,7 @@ pub fn foreign_cases(random: &mut Random, count: usize) -> Vec<Case> {
         fill_compressed(random, &mut image, &mut entry, wanted);
         entry.flags = random.pick(&[0, MARKED]);
         put_entry(&mut image, 2, &entry);
-        let script = foreign_script(random, usize::from(entry.count), r);
+        let script = foreign_script(random, entry.count as usize, r);
         cases.push(Case::new(
             format!("foreign-random-{number:02}"),
             "a run may also follow one of its own sort; 128 ... means go on in the next sector",
@@ -243,6 +265,36 @@ pub fn random_case(seed: u64, number: usize, requests: usize) -> Case {
         image,
         script,
     )
+}
+
+/// Case `number` of a wide run: of four, one begins with a session that no mounting hands out.
+pub fn wide_case(seed: u64, number: usize, requests: usize) -> Case {
+    if numbered(!seed, 2 * number).chance(25) {
+        session_case(seed, number, requests)
+    } else {
+        random_case(seed, number, requests)
+    }
+}
+
+/// Random case `number` of a seed that begins with a strange session, its image disturbed by half.
+pub fn session_case(seed: u64, number: usize, requests: usize) -> Case {
+    let mut image = random_image(&mut numbered(seed, 2 * (number / SHARED)));
+    let mut random = numbered(!seed, 2 * number + 1);
+    let mut disturbed = image.clone();
+    let session = strange_session(&mut random, &mut disturbed);
+    if random.chance(50) {
+        image = disturbed;
+    }
+    let made = strange_bytes(&mut random, &image, &session);
+    let session = read_session(made.buffered()).unwrap_or(session);
+    let script = script_on(&mut random, &session, requests);
+    Case::new(
+        format!("session-script-{number:05}"),
+        "A session is legal exactly if ...; requests in any order",
+        image,
+        script,
+    )
+    .with_sessions(made.patches())
 }
 
 /// The random numbers of a seed's part.

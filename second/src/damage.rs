@@ -76,9 +76,9 @@ fn changed(name: String, rule: &'static str, image: Vec<u8>, entry: usize) -> Ca
 pub struct Break {
     pub name: &'static str,
     pub rule: &'static str,
-    entry: usize,
-    at: usize,
-    word: u16,
+    pub entry: usize,
+    pub at: usize,
+    pub word: u16,
 }
 
 const KINDS: &str = "kinds are 0 to 4";
@@ -177,21 +177,22 @@ fn single_cases() -> Vec<Case> {
 
 /// Rules that a file with records breaks only together with the rule for its count: the count is
 /// 0 here.
+pub const EMPTIED: [Break; 10] = [
+    broken("sectors-0", LEAST, 0, 14, 0),
+    broken("sectors-0-blocked", LEAST, 1, 14, 0),
+    broken("sectors-0-compressed", LEAST, 2, 14, 0),
+    broken("sectors-0-random", LEAST, 3, 14, 0),
+    broken("length-0", LENGTHS, 0, 10, 0),
+    broken("length-odd-blocked", EVEN, 1, 10, 99),
+    broken("length-odd-compressed", EVEN, 2, 10, 79),
+    broken("length-over-3600", LENGTHS, 0, 10, 3_602),
+    broken("length-over-360", LENGTHS, 1, 10, 362),
+    broken("length-over-132", LENGTHS, 2, 10, 134),
+];
+
 fn emptied_cases() -> Vec<Case> {
-    let ways = [
-        broken("sectors-0", LEAST, 0, 14, 0),
-        broken("sectors-0-blocked", LEAST, 1, 14, 0),
-        broken("sectors-0-compressed", LEAST, 2, 14, 0),
-        broken("sectors-0-random", LEAST, 3, 14, 0),
-        broken("length-0", LENGTHS, 0, 10, 0),
-        broken("length-odd-blocked", EVEN, 1, 10, 99),
-        broken("length-odd-compressed", EVEN, 2, 10, 79),
-        broken("length-over-3600", LENGTHS, 0, 10, 3_602),
-        broken("length-over-360", LENGTHS, 1, 10, 362),
-        broken("length-over-132", LENGTHS, 2, 10, 134),
-    ];
     let mut cases = Vec::new();
-    for way in &ways {
+    for way in &EMPTIED {
         let mut image = small_image();
         put_word(&mut image, way.entry * ENTRY_BYTES + 16, 0);
         way.apply(&mut image);
@@ -222,30 +223,31 @@ fn pair_cases() -> Vec<Case> {
 }
 
 /// Words at the very edge of the rules, on the good side.
+pub const EDGES: [Break; 19] = [
+    broken("length-least", LENGTHS, 0, 10, 2),
+    broken("length-3600", LENGTHS, 3, 10, 3_600),
+    broken("length-other", LENGTHS, 1, 10, 60),
+    broken("length-132", LENGTHS, 2, 10, 132),
+    broken("length-just-codes", LENGTHS, 2, 10, 80),
+    broken("length-under-codes", LENGTHS, 2, 10, 78),
+    broken("sectors-fewer", LEAST, 3, 14, 1),
+    broken("count-0", COUNT, 0, 16, 0),
+    broken("count-0-blocked", COUNT, 1, 16, 0),
+    broken("count-0-compressed", COUNT, 2, 16, 0),
+    broken("count-1-compressed", COUNT, 2, 16, 1),
+    broken("flags-3", FLAGS, 0, 18, 3),
+    broken("random-protected", RANDOMS, 3, 18, 2),
+    broken("name-one-letter-more", NAMES, 0, 4, 0xC1E9),
+    broken("name-all-digits-behind", NAMES, 0, 2, 0xF0F9),
+    broken("kind-2-for-1", KINDS, 0, 8, 2),
+    broken("kind-4-for-1", KINDS, 0, 8, 4),
+    broken("kind-1-for-4", KINDS, 3, 8, 1),
+    broken("kind-3-for-2", KINDS, 1, 8, 3),
+];
+
 fn edge_cases() -> Vec<Case> {
-    let edges = [
-        broken("length-least", LENGTHS, 0, 10, 2),
-        broken("length-3600", LENGTHS, 3, 10, 3_600),
-        broken("length-other", LENGTHS, 1, 10, 60),
-        broken("length-132", LENGTHS, 2, 10, 132),
-        broken("length-just-codes", LENGTHS, 2, 10, 80),
-        broken("length-under-codes", LENGTHS, 2, 10, 78),
-        broken("sectors-fewer", LEAST, 3, 14, 1),
-        broken("count-0", COUNT, 0, 16, 0),
-        broken("count-0-blocked", COUNT, 1, 16, 0),
-        broken("count-0-compressed", COUNT, 2, 16, 0),
-        broken("count-1-compressed", COUNT, 2, 16, 1),
-        broken("flags-3", FLAGS, 0, 18, 3),
-        broken("random-protected", RANDOMS, 3, 18, 2),
-        broken("name-one-letter-more", NAMES, 0, 4, 0xC1E9),
-        broken("name-all-digits-behind", NAMES, 0, 2, 0xF0F9),
-        broken("kind-2-for-1", KINDS, 0, 8, 2),
-        broken("kind-4-for-1", KINDS, 0, 8, 4),
-        broken("kind-1-for-4", KINDS, 3, 8, 1),
-        broken("kind-3-for-2", KINDS, 1, 8, 3),
-    ];
     let mut cases = Vec::new();
-    for edge in &edges {
+    for edge in &EDGES {
         let mut image = small_image();
         edge.apply(&mut image);
         cases.push(damaged(format!("edge-{}", edge.name), edge.rule, image));
@@ -470,7 +472,7 @@ fn disturb_codes(random: &mut Random, image: &mut [u8]) {
     extent[..before].fill(0);
     let end = extent.len().min(before + code.len());
     extent[before..end].copy_from_slice(&code[..end - before]);
-    entry.count = before as u16 + 1;
+    entry.count = before as u32 + 1;
     put_entry(image, number, &entry);
 }
 

@@ -3,7 +3,7 @@
 use crate::answer::Answer;
 use crate::coding;
 use crate::image::{is_capital, is_digit, number_of_sectors, put_word, word, BLANK};
-use crate::layout::{capacity, Place};
+use crate::layout::{capacity, Place, MOST_RECORDS};
 
 /// "18 entries of 20 bytes, numbered 0 to 17"
 pub const ENTRIES: usize = 18;
@@ -20,7 +20,8 @@ pub const RANDOM: u16 = 4;
 pub const MARKED: u16 = 1;
 pub const PROTECTED: u16 = 2;
 
-/// An entry as its bytes say it, good or not.
+/// An entry as its bytes say it, good or not. A directory has a word for the count, a session's
+/// bytes have two (`stored.rs`).
 #[derive(Clone, Copy, Debug, Default, PartialEq, Eq)]
 pub struct Entry {
     pub name: [u8; 8],
@@ -28,7 +29,7 @@ pub struct Entry {
     pub length: u16,
     pub first: u16,
     pub sectors: u16,
-    pub count: u16,
+    pub count: u32,
     pub flags: u16,
 }
 
@@ -46,12 +47,12 @@ impl Entry {
             length: word(bytes, 10),
             first: word(bytes, 12),
             sectors: word(bytes, 14),
-            count: word(bytes, 16),
+            count: u32::from(word(bytes, 16)),
             flags: word(bytes, 18),
         }
     }
 
-    /// The 20 bytes of an entry.
+    /// The 20 bytes of an entry whose count is a word.
     pub fn to_bytes(self) -> [u8; ENTRY_BYTES] {
         let mut bytes = [0; ENTRY_BYTES];
         bytes[..8].copy_from_slice(&self.name);
@@ -60,7 +61,7 @@ impl Entry {
             self.length,
             self.first,
             self.sectors,
-            self.count,
+            self.count as u16,
             self.flags,
         ];
         for (i, value) in words.into_iter().enumerate() {
@@ -116,7 +117,7 @@ pub fn table_is_good(table: &Table, n: usize) -> bool {
 /// The rules for one entry alone.
 fn entry_is_good(entry: &Entry, n: usize) -> bool {
     match entry.kind {
-        // "free entries are 20 zero bytes"
+        // "free entries are 20 zero bytes" (22 in a session's bytes)
         FREE => *entry == Entry::default(),
         // "kinds are 0 to 4"
         UNBLOCKED..=RANDOM => {
@@ -159,13 +160,14 @@ fn length_is_good(entry: &Entry) -> bool {
     entry.length.is_multiple_of(2) && (2..=most).contains(&entry.length)
 }
 
-/// "the count is at most the capacity for kinds 1 and 2; kind 4 has count 0".
-/// Asked only of an entry whose R is good.
+/// "the count is at most the capacity for kinds 1 and 2; kind 4 has count 0". Kind 3's count has no
+/// capacity, but it is a word of the directory: a session's table with one over 65,535 does not keep
+/// the directory's rules. Asked only of an entry whose R is good.
 fn count_is_good(entry: &Entry) -> bool {
     match (entry.kind, capacity(entry)) {
         (RANDOM, _) => entry.count == 0,
-        (_, Some(most)) => usize::from(entry.count) <= most,
-        (_, None) => true,
+        (_, Some(most)) => entry.count as usize <= most,
+        (_, None) => entry.count as usize <= MOST_RECORDS,
     }
 }
 
@@ -201,7 +203,7 @@ fn records_decode(image: &[u8], entry: &Entry) -> bool {
 pub fn end_place(image: &[u8], entry: &Entry) -> Option<Place> {
     let view = |sector| crate::image::sector(image, entry.image_sector(sector));
     coding::place_behind(
-        usize::from(entry.count),
+        entry.count as usize,
         entry.r(),
         usize::from(entry.sectors),
         view,

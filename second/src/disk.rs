@@ -64,7 +64,7 @@ impl Disk {
                 (0..count).map(|k| some_record(k, self.entry.r())).collect();
             return self.records(&records);
         }
-        self.entry.count = count as u16;
+        self.entry.count = count as u32;
         self.put()
     }
 
@@ -81,7 +81,7 @@ impl Disk {
             extent[to..to + code.len()].copy_from_slice(&code);
             at = to + code.len();
         }
-        self.entry.count = records.len() as u16;
+        self.entry.count = records.len() as u32;
         self.put()
     }
 
@@ -91,7 +91,7 @@ impl Disk {
         for &(at, code) in codes {
             extent[at..at + code.len()].copy_from_slice(code);
         }
-        self.entry.count = count as u16;
+        self.entry.count = count as u32;
         self.put()
     }
 

@@ -332,7 +332,7 @@ impl<'a> Work<'a> {
     }
 
     fn position(&self) -> usize {
-        usize::from(self.file.position)
+        self.file.position as usize
     }
 
     fn sectors(&self) -> usize {
@@ -576,11 +576,11 @@ impl<'a> Work<'a> {
     }
 
     /// "Rewind off-line: close, writing count and flags to bytes 16–19 of the entry. Also lawful
-    /// for random."
+    /// for random." (A legal session's count is a word.)
     fn rewind_off_line(&mut self) -> Outcome {
         self.put_back();
         let at = self.file.entry * ENTRY_BYTES;
-        put_word(self.image, at + 16, self.entry.count);
+        put_word(self.image, at + 16, self.entry.count as u16);
         put_word(self.image, at + 18, self.entry.flags);
         *self.file = OpenFile::UNUSED;
         Ok(Answer::Done)

@@ -9,7 +9,7 @@ use crate::layout::{capacity, Place};
 use crate::model::Model;
 use crate::random::Random;
 use crate::script::Script;
-use crate::session::MOST_OPEN;
+use crate::session::{Session, MOST_OPEN};
 
 // ---------------------------------------------------------------------------------------------
 // Images.
@@ -126,7 +126,7 @@ fn fill_file(random: &mut Random, image: &mut [u8], entry: &mut Entry) {
             1 => most,
             _ => random.between(0, most),
         };
-        entry.count = count as u16;
+        entry.count = count as u32;
     }
 }
 
@@ -157,7 +157,7 @@ pub fn fill_compressed(random: &mut Random, image: &mut [u8], entry: &mut Entry,
         place.byte += code.len();
         count += 1;
     }
-    entry.count = count as u16;
+    entry.count = count as u32;
 }
 
 /// Some lawful code of some record, from byte `o` of a sector on.
@@ -259,22 +259,20 @@ pub fn random_script(random: &mut Random, image: &[u8], requests: usize) -> Scri
     } else {
         table_of(image)
     };
-    let mut maker = Maker {
-        random,
-        table,
-        used: (0..ENTRIES).filter(|&i| table[i].is_used()).collect(),
-        open: Vec::new(),
-        model: good.then(|| Model::of_good_image(image)),
-        script: Script::default(),
-    };
+    let mut maker = Maker::of_table(random, table);
+    maker.model = good.then(|| Model::of_good_image(image));
     for _ in 0..maker.random.between(1, MOST_OPEN) {
         maker.open_some();
     }
-    while maker.script.rows.len() < requests {
-        maker.phrase();
-    }
-    maker.script.shorten(requests);
-    maker.script
+    maker.finish(requests)
+}
+
+/// A script of this many requests for a session of any origin, mostly on the files that it has open.
+pub fn script_on(random: &mut Random, session: &Session, requests: usize) -> Script {
+    let mut maker = Maker::of_table(random, session.table);
+    let open = session.open_files().map(|file| file.entry);
+    maker.open = open.filter(|&number| number < ENTRIES).collect();
+    maker.finish(requests)
 }
 
 /// Makes a script. The tiny model follows it, so that most requests it would refuse are left out.
@@ -287,10 +285,32 @@ struct Maker<'a> {
     script: Script,
 }
 
+/// A bad directory, or a session's table, may have a larger R: scripts are kept short.
+const MOST_R: usize = 3_700;
+
 /// How many in a hundred refused requests are left out.
 const REFUSED_LEFT_OUT: usize = 75;
 
 impl Maker<'_> {
+    fn of_table(random: &mut Random, table: [Entry; ENTRIES]) -> Maker<'_> {
+        Maker {
+            random,
+            table,
+            used: (0..ENTRIES).filter(|&i| table[i].is_used()).collect(),
+            open: Vec::new(),
+            model: None,
+            script: Script::default(),
+        }
+    }
+
+    fn finish(mut self, requests: usize) -> Script {
+        while self.script.rows.len() < requests {
+            self.phrase();
+        }
+        self.script.shorten(requests);
+        self.script
+    }
+
     /// Puts a request into the script, or leaves it out.
     fn offer(&mut self, request: &Script) {
         for (row, data) in request.steps() {
@@ -414,7 +434,8 @@ impl Maker<'_> {
     }
 
     fn r_of(&self, number: usize) -> usize {
-        self.table.get(number).map_or(80, Entry::r)
+        let r = self.table.get(number).map_or(80, Entry::r);
+        r.min(MOST_R)
     }
 
     fn tape_phrase(&mut self, number: usize) {

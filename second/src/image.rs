@@ -27,6 +27,14 @@ pub fn put_word(bytes: &mut [u8], at: usize, value: u16) {
     bytes[at..at + 2].copy_from_slice(&value.to_be_bytes());
 }
 
+/// The words of bytes that are summed, one behind another: "An odd last byte counts as the high byte of
+/// a word."
+pub fn words(bytes: &[u8]) -> impl Iterator<Item = u32> + '_ {
+    bytes
+        .chunks(2)
+        .map(|pair| u32::from(pair[0]) << 8 | pair.get(1).map_or(0, |&low| u32::from(low)))
+}
+
 /// The bytes of sector `number` of the image.
 pub fn sector(image: &[u8], number: usize) -> &[u8] {
     &image[number * SECTOR..(number + 1) * SECTOR]

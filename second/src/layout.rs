@@ -3,7 +3,7 @@
 use crate::directory::{Entry, BLOCKED, RANDOM, UNBLOCKED};
 use crate::image::SECTOR;
 
-/// "Capacity is q·sectors, at most 65,535."
+/// "Capacity is q·sectors, at most 65,535."; the largest count that a directory's word can say.
 pub const MOST_RECORDS: usize = 65_535;
 
 /// A place in an extent: its sector, counted from 0 at the extent's first,

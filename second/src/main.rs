@@ -16,17 +16,22 @@ mod disk;
 mod engine;
 mod fixed;
 mod generate;
+mod handmade;
 mod image;
 mod layout;
 mod listed;
 mod listing;
 mod model;
 mod notation;
+mod patch;
 mod play;
 mod random;
 mod script;
 mod selfcheck;
 mod session;
+mod sessions;
+mod stored;
+mod strange;
 #[cfg(test)]
 mod tests;
 
@@ -138,7 +143,7 @@ fn play(engine: &str, inputs: [&str; 3], out: &str) -> Result<String, String> {
         return Err(format!("image longer than {} bytes", play::MOST_PLAYED));
     }
     let script = Script::parse(&read(script_path)?, read(bytes_path)?)?;
-    let played = play::play(engine, image, &script);
+    let played = play::play(engine, image, &[], &script);
     write(Path::new(out), &played.image)?;
     Ok(played.text)
 }
@@ -179,14 +184,16 @@ fn wide(paths: [&str; 2], options: &[&str]) -> ExitCode {
     };
     let numbers = first as usize..(first + count) as usize;
     let cases: Vec<cases::Case> = numbers
-        .map(|number| cases::random_case(seed, number, requests as usize))
+        .map(|number| cases::wide_case(seed, number, requests as usize))
         .collect();
     let written = write(Path::new(paths[0]), &bundle::bundle(&cases))
         .and_then(|()| write(Path::new(paths[1]), bundle::expected(&cases).as_bytes()));
     answer(written.map(|()| String::new()))
 }
 
-/// `second extract`: one case of a file, as the files that `play` takes.
+/// `second extract`: one case of a file, as the files that `play` takes, and by itself as a file for
+/// `play_cases`. `play` takes no patches of sessions; if there are some, standard error tells that they
+/// are left out.
 fn extract(file: &str, number: &str, dir: &str) -> Result<String, String> {
     let cases = bundle::unbundle(&read(file)?)?;
     let index = number.parse::<usize>().ok().and_then(|n| n.checked_sub(1));
@@ -197,6 +204,10 @@ fn extract(file: &str, number: &str, dir: &str) -> Result<String, String> {
     write(&path("image"), &case.image)?;
     write(&path("script"), &case.script.row_bytes())?;
     write(&path("bytes"), &case.script.bytes)?;
+    write(&path("case"), &bundle::bundle(std::slice::from_ref(case)))?;
+    if case.sessions.iter().any(|patches| !patches.is_empty()) {
+        eprintln!("case {number}: the patches of its sessions are left out of what 'play' takes; the file 'case' has them, for 'play_cases'");
+    }
     Ok(String::new())
 }
 
@@ -239,6 +250,7 @@ fn selfcheck(options: &[&str]) -> ExitCode {
                 "{} illegal sessions gave 12\n",
                 tally.illegal_sessions
             ));
+            print(&format!("{} bytes were no session\n", tally.no_sessions));
             ExitCode::SUCCESS
         }
         Err(why) => {

@@ -4,17 +4,22 @@ use crate::answer::Answer;
 use crate::cases::all_cases;
 use crate::coding;
 use crate::directory::{
-    directory_is_good, Entry, BLOCKED, COMPRESSED, ENTRIES, ENTRY_BYTES, MARKED, RANDOM,
+    directory_is_good, Entry, BLOCKED, COMPRESSED, ENTRIES, ENTRY_BYTES, RANDOM,
 };
 use crate::engine::Order;
-use crate::generate::{extent_mut, foreign_code, random_image, random_script, random_text};
+use crate::generate::{
+    extent_mut, foreign_code, random_image, random_script, random_text, script_on,
+};
 use crate::image::{sector, sector_mut, BLANK, SECTOR};
-use crate::layout::{blocked_place, capacity, sectors_per_record, Place};
+use crate::layout::{blocked_place, capacity, sectors_per_record, Place, MOST_RECORDS};
 use crate::model::{hand_code, hand_decode, Model};
-use crate::play::{perform, Performed};
+use crate::play::{patched_session, perform, Performed};
 use crate::random::Random;
 use crate::script::{Code, Row, Script};
-use crate::session::{mount, Buffer, Engine, OpenFile, Session, MOST_OPEN};
+use crate::session::{mount, Buffer, Engine, OpenFile, Session};
+use crate::sessions::session_cases;
+use crate::stored::{read_session, store};
+use crate::strange::{strange_bytes, strange_session};
 
 /// A promise that does not hold, or nothing.
 type Check = Result<(), String>;
@@ -35,14 +40,16 @@ pub struct Tally {
     pub answers: [usize; 13],
     pub strange_answers: [usize; 13],
     pub illegal_sessions: usize,
+    pub no_sessions: usize,
     pub cases: usize,
 }
 
-/// Checks the fixed cases, then `count` random images with scripts of `requests` requests, and as many strange
+/// Checks the fixed cases and those of sessions, then `count` random images with scripts of `requests` requests, and as many strange
 /// sessions (legal, but made by hand) and illegal ones.
 pub fn selfcheck(seed: u64, count: usize, requests: usize) -> Result<Tally, String> {
     let mut tally = Tally::default();
     check_cases(seed, &mut tally)?;
+    check_session_cases(&mut tally)?;
     for script in 0..count {
         let mut random = Random::new(seed.wrapping_mul(1_000_003).wrapping_add(script as u64));
         let name = |why: String| format!("seed {seed} script {script}: {why}");
@@ -62,6 +69,13 @@ pub fn selfcheck(seed: u64, count: usize, requests: usize) -> Result<Tally, Stri
 struct Side {
     image: Vec<u8>,
     session: Session,
+}
+
+impl Side {
+    /// The file has a blocking buffer: nothing comes of what another says that it holds.
+    fn has_buffer(&self, file: &OpenFile) -> bool {
+        self.session.gives_buffer(&self.session.table[file.entry])
+    }
 }
 
 /// What a file and its engine were before a request.
@@ -166,7 +180,6 @@ impl Run {
         let buffered = perform_checked(&mut self.buffered, row, data)?;
         must(plain.answer == buffered.answer, "same answers")?;
         must(plain.moved == buffered.moved, "same bytes")?;
-        must(plain.buffer == buffered.buffer, "same caller's buffers")?;
         self.check_sessions_agree()?;
         self.check_model(row, data, &plain)?;
         check_plain(&plain_before, &self.plain, row, data, plain.answer)?;
@@ -202,19 +215,19 @@ impl Run {
         for (number, tape) in model.tapes.iter().enumerate() {
             let slot = self.plain.session.slot_of(number);
             let file = slot.map(|slot| &self.plain.session.open[slot]);
-            let stands = file.map(|file| (usize::from(file.position), file.beyond));
+            let stands = file.map(|file| (file.position as usize, file.beyond));
             let tape_stands = tape.as_ref().and_then(|tape| tape.stands);
             must(tape_stands == stands, "the model's position")?;
             if let Some(tape) = tape {
                 let entry = &self.plain.session.table[number];
-                let length = usize::from(entry.count);
+                let length = entry.count as usize;
                 must(
                     entry.kind == RANDOM || tape.records.len() == length,
                     "the tape's length",
                 )?;
                 must(tape.marked == entry.is_marked(), "the tape's mark")?;
                 if let (Some(file), COMPRESSED) = (file, entry.kind) {
-                    let place = tape.places[usize::from(file.position)];
+                    let place = tape.places[file.position as usize];
                     let end = tape.places[length];
                     must(
                         (file.place.sector, file.place.byte) == place,
@@ -251,10 +264,13 @@ impl Run {
             file: side.session.open[slot],
             side,
         };
-        if !matches!(before.entry.kind, BLOCKED | COMPRESSED) {
-            return Ok(());
-        }
         let after = &self.buffered.session.open[slot];
+        if !before.side.has_buffer(&before.file) {
+            return must(
+                after.buffer == before.file.buffer || *after == OpenFile::UNUSED,
+                "what a file without a buffer says that it holds is left",
+            );
+        }
         match row.code {
             Code::Read | Code::Write => self.check_moving(&before, after, row),
             Code::Order(Order::RecordForward | Order::RecordBack) => {
@@ -320,7 +336,12 @@ impl Run {
     /// At all times the buffered engine's image, with the held buffers laid over it, is the plain
     /// engine's; an unchanged buffer is as the image.
     fn check_overlay(&self) -> Check {
-        for file in self.buffered.session.open_files() {
+        let side = &self.buffered;
+        for file in side
+            .session
+            .open_files()
+            .filter(|file| side.has_buffer(file))
+        {
             let number = self.buffered.session.table[file.entry].image_sector(file.buffer.sector);
             let as_image = sector(&self.buffered.image, number) == file.buffer.bytes;
             let as_said = !file.buffer.holds || file.buffer.changed || as_image;
@@ -392,7 +413,7 @@ impl Buffer {
 /// the one that its record lies in.
 fn sectors_worked(before: &Before, after: &OpenFile, writes: bool) -> Vec<usize> {
     if before.entry.kind == BLOCKED {
-        let k = usize::from(before.file.position);
+        let k = before.file.position as usize;
         return vec![blocked_place(before.entry.r(), k).sector];
     }
     let (old, new) = (before.file.place, after.place);
@@ -409,7 +430,7 @@ fn sectors_worked(before: &Before, after: &OpenFile, writes: bool) -> Vec<usize>
 fn overlaid(side: &Side) -> Vec<u8> {
     let mut image = side.image.clone();
     for file in side.session.open_files() {
-        if file.buffer.holds {
+        if file.buffer.holds && side.has_buffer(file) {
             let number = side.session.table[file.entry].image_sector(file.buffer.sector);
             sector_mut(&mut image, number).copy_from_slice(&file.buffer.bytes);
         }
@@ -421,7 +442,8 @@ fn overlaid(side: &Side) -> Vec<u8> {
 fn perform_checked(side: &mut Side, row: &Row, data: &[u8]) -> Result<Performed, String> {
     const FILLER: u8 = 0xA5;
     let before = side.clone();
-    let performed = perform(&mut side.image, &mut side.session, row, data, FILLER);
+    let mut buffer = vec![FILLER; usize::from(row.length)];
+    let performed = perform(&mut side.image, &mut side.session, row, data, &mut buffer);
     let answer = performed.answer;
     if answer.is_refusal() {
         // ""Nothing changed" covers image, session and caller's buffer."
@@ -433,15 +455,14 @@ fn perform_checked(side: &mut Side, row: &Row, data: &[u8]) -> Result<Performed,
     }
     // "A read answered 0 changes the first R bytes of the buffer only; any other read changes
     // none."
-    let changed = if answer == Answer::Done {
-        performed.moved.len()
-    } else {
-        0
+    let entry = before.session.table.get(usize::from(row.entry));
+    let changed = match (row.code, answer, entry) {
+        (Code::Read | Code::GranuleRead, Answer::Done, Some(entry)) => entry.r(),
+        _ => 0,
     };
-    let rest = performed.buffer.get(changed..).unwrap_or_default();
-    let is_read = matches!(row.code, Code::Read | Code::GranuleRead);
+    let rest = buffer.get(changed..).unwrap_or_default();
     must(
-        !is_read || rest.iter().all(|&byte| byte == FILLER),
+        rest.iter().all(|&byte| byte == FILLER),
         "the caller's buffer behind R",
     )?;
     // "Every other session handed out passes, save one handed back with 12."
@@ -470,7 +491,7 @@ fn check_plain(before: &Side, after: &Side, row: &Row, data: &[u8], answer: Answ
             }
             (Code::Order(Order::RewindOffLine), Some(_)) => {
                 let at = number * ENTRY_BYTES + 16;
-                expected[at..at + 2].copy_from_slice(&entry.count.to_be_bytes());
+                expected[at..at + 2].copy_from_slice(&(entry.count as u16).to_be_bytes());
                 expected[at + 2..at + 4].copy_from_slice(&entry.flags.to_be_bytes());
             }
             _ => {}
@@ -481,7 +502,7 @@ fn check_plain(before: &Side, after: &Side, row: &Row, data: &[u8], answer: Answ
 
 /// What a write leaves in the image, by the sentences on where a record lies.
 fn write_by_hand(image: &mut [u8], entry: &Entry, file: &OpenFile, data: &[u8]) {
-    let (r, k) = (entry.r(), usize::from(file.position));
+    let (r, k) = (entry.r(), file.position as usize);
     match entry.kind {
         BLOCKED => {
             let q = 360 / r;
@@ -518,17 +539,15 @@ fn write_whole(image: &mut [u8], entry: &Entry, k: usize, data: &[u8]) {
 }
 
 // ---------------------------------------------------------------------------------------------
-// Strange sessions: legal, but made by hand, over extents of any bytes. Both engines must agree
-// on them too (their buffers laid over the one image give the other), and meet bad codes.
+// Strange sessions (`strange.rs`). Both engines must agree on the legal ones too (their buffers laid
+// over the one image give the other), and meet bad codes.
 
 fn check_strange(random: &mut Random, requests: usize, tally: &mut Tally) -> Check {
     let mut image = random_image(random);
-    let (_, mut session) = mount(Engine::Buffered, &image);
-    disturb_extents(random, &mut image, &session);
-    disturb_table(random, &mut session);
-    disturb_open_files(random, &image, &mut session);
+    let session = strange_session(random, &mut image);
     must(session.is_legal(&image), "a strange session is legal")?;
     check_illegal(random, &image, &session, tally)?;
+    check_bytes(random, &image, &session, tally)?;
     let script = random_script(random, &image, requests);
     let mut run = strange_run(image, session);
     for (number, (row, data)) in script.steps().into_iter().enumerate() {
@@ -547,9 +566,7 @@ fn strange_run(image: Vec<u8>, session: Session) -> Run {
         session: buffered.session.clone(),
     };
     plain.session.engine = Engine::Plain;
-    for file in &mut plain.session.open {
-        file.buffer = Buffer::EMPTY;
-    }
+    forget_buffers(&mut plain.session);
     let mut opened = [false; ENTRIES];
     for file in buffered.session.open_files() {
         opened[file.entry] = true;
@@ -563,95 +580,57 @@ fn strange_run(image: Vec<u8>, session: Session) -> Run {
     }
 }
 
-/// Changes some bytes of the extents.
-fn disturb_extents(random: &mut Random, image: &mut [u8], session: &Session) {
-    for entry in session.table.iter().filter(|entry| entry.is_used()) {
-        for _ in 0..random.pick(&[0, 1, 3, 20]) {
-            let extent = extent_mut(image, entry);
-            let at = random.between(0, extent.len() - 1);
-            extent[at] = random.pick(&[0, 1, 5, 127, 128, 129, 200, 255]);
-        }
+/// The plain engine's states have no buffers.
+fn forget_buffers(session: &mut Session) {
+    for file in &mut session.open {
+        file.buffer = Buffer::EMPTY;
     }
 }
 
-/// Other counts and marks, within the rules.
-fn disturb_table(random: &mut Random, session: &mut Session) {
-    for entry in session
-        .table
-        .iter_mut()
-        .filter(|entry| entry.is_sequential())
-    {
-        if random.chance(30) {
-            let most = capacity(entry).unwrap_or(65_535);
-            entry.count = random.pick(&[0, 1, 2, most / 2, most]).min(most) as u16;
+/// The cases of sessions: what holds for either engine by itself.
+fn check_session_cases(tally: &mut Tally) -> Check {
+    for case in session_cases() {
+        for engine in [Engine::Plain, Engine::Buffered] {
+            let patches = case.session_patches(engine);
+            let (_, session) = patched_session(engine, &case.image, patches);
+            let Some(session) = session else {
+                tally.no_sessions += 1;
+                continue;
+            };
+            let mut side = Side {
+                image: case.image.clone(),
+                session,
+            };
+            for (row, data) in case.script.steps() {
+                perform_checked(&mut side, &row, data)
+                    .map_err(|why| format!("case {}: {why}", case.name))?;
+            }
         }
-        if random.chance(30) {
-            entry.flags ^= MARKED;
-        }
+        tally.cases += 1;
     }
+    Ok(())
 }
 
-/// Opens some files with any lawful position, places and buffer.
-fn disturb_open_files(random: &mut Random, image: &[u8], session: &mut Session) {
-    let mut slot = 0;
-    for number in 0..ENTRIES {
-        let entry = session.table[number];
-        if slot < MOST_OPEN && entry.is_used() && random.chance(60) {
-            session.open[slot] = strange_file(random, image, number, &entry);
-            slot += 1;
-        }
-    }
-}
-
-fn strange_file(random: &mut Random, image: &[u8], number: usize, entry: &Entry) -> OpenFile {
-    let count = usize::from(entry.count);
-    let position = random.between(0, count);
-    let position = random.pick(&[0, position, count.saturating_sub(1), count]);
-    let mut file = OpenFile {
-        in_use: true,
-        entry: number,
-        position: position as u16,
-        beyond: entry.is_marked() && position == count && random.chance(50),
-        ..OpenFile::UNUSED
+/// A session's bytes are read as the session; other bytes are no session, or one that they are stored
+/// as, and a request on it hands out a legal session or is answered 12.
+fn check_bytes(random: &mut Random, image: &[u8], session: &Session, tally: &mut Tally) -> Check {
+    let back = read_session(&store(session));
+    must(back.as_ref() == Some(session), "a session comes back")?;
+    let made = strange_bytes(random, image, session);
+    let Some(session) = read_session(made.buffered()) else {
+        tally.no_sessions += 1;
+        return Ok(());
     };
-    if entry.kind == COMPRESSED {
-        file.place = strange_place(random, entry);
-        file.end_place = strange_place(random, entry);
-    }
-    if matches!(entry.kind, BLOCKED | COMPRESSED) && random.chance(70) {
-        file.buffer = strange_buffer(random, image, entry, file.place.sector);
-    }
-    file
-}
-
-fn strange_place(random: &mut Random, entry: &Entry) -> Place {
-    let byte = random.between(0, SECTOR);
-    Place {
-        sector: random.between(0, usize::from(entry.sectors) - 1),
-        byte: random.pick(&[0, byte, SECTOR - 1, SECTOR]),
-    }
-}
-
-/// A held sector: as in the image, or changed.
-fn strange_buffer(random: &mut Random, image: &[u8], entry: &Entry, near: usize) -> Buffer {
-    let last = usize::from(entry.sectors) - 1;
-    let any = random.between(0, last);
-    let of_extent = random.pick(&[any, near, near + 1]).min(last);
-    let mut buffer = Buffer {
-        holds: true,
-        sector: of_extent,
-        changed: random.chance(50),
-        bytes: [0; SECTOR],
+    must(store(&session) == made.buffered(), "bytes come back")?;
+    let script = script_on(random, &session, 20);
+    let mut side = Side {
+        image: image.to_vec(),
+        session,
     };
-    buffer
-        .bytes
-        .copy_from_slice(sector(image, entry.image_sector(of_extent)));
-    if buffer.changed {
-        let text = random_text(random, 100);
-        let at = random.between(0, SECTOR - 100);
-        buffer.bytes[at..at + 100].copy_from_slice(&text);
+    for (row, data) in script.steps() {
+        perform_checked(&mut side, &row, data)?;
     }
-    buffer
+    Ok(())
 }
 
 // ---------------------------------------------------------------------------------------------
@@ -663,6 +642,9 @@ fn check_illegal(random: &mut Random, image: &[u8], session: &Session, tally: &m
             let mut image = image.to_vec();
             let mut broken = session.clone();
             broken.engine = engine;
+            if engine == Engine::Plain {
+                forget_buffers(&mut broken);
+            }
             if !break_session(random, &mut image, &mut broken, way) {
                 continue;
             }
@@ -683,7 +665,7 @@ fn check_illegal(random: &mut Random, image: &[u8], session: &Session, tally: &m
 }
 
 /// The ways of `break_session`.
-const WAYS: usize = 22;
+const WAYS: usize = 24;
 
 /// Breaks one rule of a legal session; false if this session has nothing to break that way.
 fn break_session(
@@ -700,7 +682,6 @@ fn break_session(
     }
     let number = random.pick(&used);
     let n = image.len() / SECTOR;
-    let buffered = session.engine == Engine::Buffered;
     let entry = &mut session.table[number];
     match way {
         0 => image.truncate(image.len() - 1),
@@ -727,42 +708,41 @@ fn break_session(
             session.table[free] = session.table[number];
             session.table[free].name[1] = 0xE9;
         }
-        13 => match capacity(entry) {
-            Some(most) if entry.kind != RANDOM && most < 65_535 => entry.count = most as u16 + 1,
-            Some(_) if entry.kind == RANDOM => entry.count = 1,
-            _ => return false,
-        },
-        _ => return break_open_file(session, way, buffered),
+        13 if entry.kind == RANDOM => entry.count = 1,
+        13 => entry.count = capacity(entry).unwrap_or(MOST_RECORDS) as u32 + 1,
+        14 => entry.count += 1 << 16, // a word's worth more
+        _ => return break_open_file(session, way),
     }
     true
 }
 
-fn break_open_file(session: &mut Session, way: usize, buffered: bool) -> bool {
+fn break_open_file(session: &mut Session, way: usize) -> bool {
     let Some(slot) = session.open.iter().position(|file| file.in_use) else {
         return false;
     };
     let entry = session.table[session.open[slot].entry];
+    let says_what_it_holds = session.engine == Engine::Buffered;
     let twin = session.open[slot];
     let file = &mut session.open[slot];
     match way {
-        14 => file.entry = ENTRIES,
-        15 => match session.table.iter().position(|entry| !entry.is_used()) {
+        15 => file.entry = ENTRIES,
+        16 => match session.table.iter().position(|entry| !entry.is_used()) {
             Some(free) => file.entry = free,
             None => return false,
         },
-        16 if entry.count < 65_535 => file.position = entry.count + 1,
-        17 if !entry.is_marked() => file.beyond = true,
-        18 if entry.count > 0 => {
+        17 => file.position = entry.count + 1,
+        18 if !entry.is_marked() => file.beyond = true,
+        19 if entry.count > 0 => {
             file.position = entry.count - 1;
             file.beyond = true;
         }
-        19 if entry.kind == COMPRESSED => file.place.byte = SECTOR + 1,
-        20 if entry.kind == COMPRESSED => file.end_place.sector = usize::from(entry.sectors),
-        21 if buffered => {
+        20 if entry.kind == COMPRESSED => file.place.byte = SECTOR + 1,
+        21 if entry.kind == COMPRESSED => file.end_place.sector = usize::from(entry.sectors),
+        22 if says_what_it_holds => {
             file.buffer.holds = true;
             file.buffer.sector = usize::from(entry.sectors);
         }
-        21 => match session.unused_slot() {
+        23 => match session.unused_slot() {
             Some(other) => session.open[other] = twin,
             None => return false,
         },

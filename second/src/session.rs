@@ -32,14 +32,16 @@ pub struct OpenFile {
     pub in_use: bool,
     pub entry: usize,
     /// "a position p from 0 to its length"
-    pub position: u16,
+    pub position: u32,
     /// "a state "beyond", possible only if marked with p at the end"
     pub beyond: bool,
-    /// Compressed files: the place just behind the last record read or written.
+    /// Compressed files: the place just behind the last record read or written. Nothing comes of the
+    /// places of other files.
     pub place: Place,
     /// Compressed files: the place just behind the last record.
     pub end_place: Place,
-    /// Stays all zero in the plain engine, and for unblocked and random files.
+    /// All zero in the plain engine, and from a mounting on for unblocked and random files. Nothing
+    /// comes of other bytes there, but that a held sector must lie in the extent.
     pub buffer: Buffer,
 }
 
@@ -140,7 +142,7 @@ impl Session {
             Some(entry) if entry.is_used() => {
                 position_is_legal(file, entry)
                     && places_are_legal(file, entry)
-                    && (self.engine == Engine::Plain || buffer_is_legal(file, entry))
+                    && held_sector_is_legal(file, entry)
             }
             _ => false,
         }
@@ -148,7 +150,8 @@ impl Session {
 }
 
 /// "each open p is at most the count, beyond occurs only as above":
-/// "possible only if marked with p at the end"
+/// "possible only if marked with p at the end". Asked of a random file too: its count is 0, and it is
+/// never marked.
 fn position_is_legal(file: &OpenFile, entry: &Entry) -> bool {
     let may_be_beyond = entry.is_marked() && file.position == entry.count;
     file.position <= entry.count && (!file.beyond || may_be_beyond)
@@ -161,7 +164,8 @@ fn places_are_legal(file: &OpenFile, entry: &Entry) -> bool {
     entry.kind != COMPRESSED || (lies_in_extent(file.place) && lies_in_extent(file.end_place))
 }
 
-/// "a held sector lies in its file's extent"
-fn buffer_is_legal(file: &OpenFile, entry: &Entry) -> bool {
+/// "a held sector lies in its file's extent": of whatever kind the file is, also one without a blocking
+/// buffer.
+fn held_sector_is_legal(file: &OpenFile, entry: &Entry) -> bool {
     !file.buffer.holds || file.buffer.sector < usize::from(entry.sectors)
 }
