@@ -6,18 +6,13 @@ use geometry::same;
 use geometry::word_at;
 ghost use mathlib.Core.Path.{_≡_};
 ghost use mathlib.Core.List.{_++_};
-ghost use lib.Dec.{eqb};
-ghost use lib.ListN.{replicate};
 ghost use Rattle.geometry.specs.Bytes.{padded, word};
 ghost use Rattle.geometry.specs.Bytes as Bytes;
-ghost use Rattle.geometry.specs.Lists.{every};
-ghost use Rattle.geometry.specs.Lists as Lists;
 ghost use Rattle.geometry.specs.Sizes.{unblocked, blocked, compressed, random};
 ghost use Rattle.directory.specs.Entries.{entryFrom, entryBytes, oneWord, freeEntry, tableOf, entryAt, isMarked, isProtected};
-ghost use Rattle.directory.specs.Rules.{extentFits, tableGood};
-ghost use Rattle.directory.specs.Grouped.{entryGood, lengthUpTo, sizesGood, usedGood, twoGood};
-ghost use Rattle.directory.specs.Search.{matches, told};
-ghost use Rattle.directory.specs.Search as Search;
+ghost use Rattle.directory.specs.Rules.{extentFits};
+ghost use Rattle.directory.specs.Grouped.{lengthUpTo, sizesGood, usedGood};
+ghost use Rattle.directory.specs.Search.{matches};
 ghost use Rattle.directory.specs.Stamp.{stampBytes, stamped};
 
 // A directory entry: bytes 0-7 name, then kind, R, first sector, number of sectors, count of records, flags.

@@ -31,7 +31,6 @@ use Rattle.storing.proofs.Illegal.{none-legal, none-legal-bare}
 use Rattle.storing.proofs.Read.{session-is}
 use Rattle.finding.proofs.Lent.{plain-good}
 use Rattle.looking.specs.Looking.{lookIn, lookAnswerIn, shownBy, shownIn}
-use Rattle.looking.specs.declared.Shown.{Shown}
 
 module _ (R g : ℕ) where
   whole : placeOf random R g ≡ record { sector = sectorsFor R * g; byte = 0 }

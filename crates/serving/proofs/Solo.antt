@@ -1,7 +1,7 @@
 -- One file by itself: its entry, its open-file state and the bytes of its extent; the tape or row that they show; what a request makes of them.
 -- A request on an entry touches that entry's file alone, so what is proved of one file is lifted to the whole image in Lifting.
 use mathlib.Core.Path.{_≡_}
-use mathlib.Core.Bool.{Bool, true, false}
+use mathlib.Core.Bool.{true, false}
 use mathlib.Core.List.{List}
 use Prim.Native.Nat.{ℕ, _*_}
 use lib.ListN.{length}

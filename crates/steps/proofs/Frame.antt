@@ -4,13 +4,12 @@ use mathlib.Core.Path.{_≡_, refl, ap, _∙_}
 use mathlib.Core.Logic.{_⊎_, inl, inr}
 use mathlib.Core.List.{List, [], _∷_, map}
 use mathlib.Core.Bool.{Bool, true, false, _&&_}
-use Prim.Native.Nat.{ℕ, suc, _+_, _*_, _≤_, _<_, min, max}
+use Prim.Native.Nat.{ℕ, _+_, _*_, _≤_, _<_, min, max}
 use native.Mathlib.Omega.{arith}
 use lib.Dec.{ltb}
 use lib.ListN.{length, getD}
-use Rattle.geometry.specs.Bytes.{part, lay}
 use Rattle.geometry.specs.Sizes.{sector, entries, entrySize, blocked, compressed}
-use Rattle.geometry.specs.Places.{byteOf, placeOf}
+use Rattle.geometry.specs.Places.{byteOf}
 use Rattle.geometry.proofs.Bytes.{Apart, length-lay, getD-lay-out, part-lay-apart, part-lay-within, same-parts}
 use Rattle.coding.specs.Encode.{codeOf}
 use Rattle.directory.specs.Entries.{tableOf, isKind}

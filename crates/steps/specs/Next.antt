@@ -11,7 +11,7 @@ use Rattle.coding.specs.Encode.{codeOf}
 use Rattle.directory.specs.Entries.{isKind, isMarked, isProtected}
 use Rattle.packing.specs.Placing.{behindNew}
 use Rattle.packing.specs.Reading.{Got, lost, got, readBehind, recordsOf, decodes, behind}
-use Rattle.sessions.specs.Session.{idle, openFiles, legal}
+use Rattle.sessions.specs.Session.{idle, legal}
 use Rattle.mounting.specs.Mounting.{countedWalk}
 use Rattle.geometry.specs.declared.Place.{Place}
 use Rattle.directory.specs.declared.Entry.{Entry}

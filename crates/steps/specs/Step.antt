@@ -1,7 +1,7 @@
 -- A request in either engine: answer, image, session and caller's buffer. Document 01, "The tape a file is" and "Answer numbers". Definitions only.
 use mathlib.Core.Bool.{true, false}
 use mathlib.Core.List.{List}
-use Prim.Native.Nat.{ℕ, _-_}
+use Prim.Native.Nat.{ℕ}
 use lib.ListN.{length, getD, set}
 use Rattle.geometry.specs.Bytes.{lay}
 use Rattle.directory.specs.Entries.{entryAt}

@@ -1,9 +1,9 @@
 -- The tapes and rows that an image shows, and how they run by themselves. Definitions only.
 use mathlib.Core.Bool.{Bool, true, false, _&&_, not}
-use mathlib.Core.List.{List, [], _∷_, _++_, map}
-use Prim.Native.Nat.{ℕ, zero, suc, _+_, _*_}
+use mathlib.Core.List.{List, [], _∷_, map}
+use Prim.Native.Nat.{ℕ}
 use lib.ListN.{length, getD, set}
-use lib.Dec.{eqb, leb, ltb}
+use lib.Dec.{eqb}
 use Rattle.geometry.specs.Bytes.{lay}
 use Rattle.geometry.specs.Lists.{howMany, every}
 use Rattle.geometry.specs.Places.{origin}
