@@ -78,13 +78,17 @@ module _ (e : Entry) where
 
 -- ---- words
 
-module _ {old new : List ℕ} {b : ℕ} where
-  pub words-put : (n k : ℕ) → n ≡ k → Wrote old 0 (wordsOf k) new b → Wrote old 0 (wordsOf n) new b
-  words-put n k e = subst (λ (x : ℕ). Wrote old 0 (wordsOf x) new b) (sym e)
+module _ (xs : List ℕ) where
+  pub words-there : (n k : ℕ) → n ≡ k → xs ≡ wordsOf k → xs ≡ wordsOf n
+  words-there n k e h = h ∙ ap wordsOf (sym e)
 
-  pub no-words : (n : ℕ) → length words ≤ n → Wrote old 0 (spelled "no such number") new b → Wrote old 0 (wordsOf n) new b
+  pub no-words : (n : ℕ) → length words ≤ n → xs ≡ spelled "no such number" → xs ≡ wordsOf n
   unfolding wordsOf
-  no-words n h = subst (λ (xs : List ℕ). Wrote old 0 xs new b) (sym (List·getD-eq-default words (spelled "no such number") {n = n} h))
+  no-words n h e = e ∙ sym (List·getD-eq-default words (spelled "no such number") {n = n} h)
+
+-- what is put is what stands there
+pub words-put : {old new : List ℕ} {b : ℕ} (xs ys : List ℕ) → xs ≡ ys → Wrote old 0 xs new b → Wrote old 0 ys new b
+words-put {old} {new} {b} xs ys e = subst (λ (zs : List ℕ). Wrote old 0 zs new b) e
 
 -- room for 50 bytes leaves nothing out
 pub words-short : (n : ℕ) → length (wordsOf n) ≤ 50

@@ -1,11 +1,12 @@
 -- What a caller is told of a session in lent bytes, entry by entry, and of an answer's number. Definitions only.
 use mathlib.Core.Bool.{true, false}
-use mathlib.Core.List.{List, [], _∷_}
+use mathlib.Core.List.{List, [], _∷_, _++_}
 use Prim.Native.Nat.{ℕ}
 use lib.ListN.{getD}
 use Rattle.directory.specs.Entries.{entryAt, isFree}
 use Rattle.directory.specs.Search.{find}
 use Rattle.directory.specs.declared.Entry.{Entry}
+use Rattle.tables.specs.Rows.{rowOf}
 use Rattle.storing.specs.Stored.{hasBuffers, isSession, lentSession}
 use Rattle.texts.specs.Texts.{spelled}
 
@@ -41,3 +42,7 @@ words =
 
 unfoldable pub wordsOf : ℕ → List ℕ
 wordsOf n = getD words n (spelled "no such number")
+
+-- the words of all, one behind another, and those of no answer last
+unfoldable pub allWords : List ℕ
+allWords = rowOf (λ w. w) words ++ spelled "no such number"

@@ -3,6 +3,7 @@ use directory::Entry;
 use directory::Found;
 use finding::is_session;
 use geometry::Geometry;
+use geometry::part;
 use storing::has_buffers;
 use tables::Width;
 use tables::entry_in;
@@ -10,8 +11,9 @@ use tables::search_in;
 use texts::put_all;
 ghost use mathlib.Core.Path.{_≡_};
 ghost use lib.ListN.{getD};
+ghost use Rattle.geometry.specs.Bytes as Bytes;
 ghost use Rattle.texts.specs.Texts.{Wrote};
-ghost use Rattle.telling.specs.Told.{found, fieldOf, fieldIn, wordsOf};
+ghost use Rattle.telling.specs.Told.{found, fieldOf, fieldIn, wordsOf, allWords};
 
 // ---- entries of a session in lent bytes
 
@@ -63,28 +65,40 @@ pub fn field_in(b: &[u8], i: usize, field: u16) -> u32
 
 // ---- answers in words
 
-// Puts the words of an answer's number into out, as far as there is room. How many bytes that is.
+// Where the words of an answer's number begin among those of all, and how many bytes they have.
+struct Words {
+    at: usize,
+    size: usize,
+}
+
+fn words_at(number: u16) -> Words
+    ensures { λ r. ⌜ Bytes.part allWords (r .at) (r .size) ≡ wordsOf number ⌝ }
+{
+    match number {
+        0 => Words { at: 0, size: 4 },
+        1 => Words { at: 4, size: 15 },
+        2 => Words { at: 19, size: 21 },
+        3 => Words { at: 40, size: 7 },
+        4 => Words { at: 47, size: 33 },
+        5 => Words { at: 80, size: 25 },
+        6 => Words { at: 105, size: 50 },
+        7 => Words { at: 155, size: 46 },
+        8 => Words { at: 201, size: 26 },
+        9 => Words { at: 227, size: 20 },
+        10 => Words { at: 247, size: 17 },
+        11 => Words { at: 264, size: 26 },
+        12 => Words { at: 290, size: 32 },
+        _ => Words { at: 322, size: 14 },
+    }
+}
+
+// Puts the words of an answer's number into out, as far as there is room. How many bytes that is. The words of all stand one behind another:
+// a text for each would be a loop for each in the machine.
 pub fn put_words(number: u16, out: &mut [u8]) -> usize
     ensures { λ r. ⌜ Wrote (now (out .entry)) 0 (wordsOf number) (now (out .exit)) r ⌝ }
 {
-    match number {
-        0 => put_all(out, 0, b"done"),
-        1 => put_all(out, 0, b"end of file met"),
-        2 => put_all(out, 0, b"beginning of tape met"),
-        3 => put_all(out, 0, b"no room"),
-        4 => put_all(out, 0, b"write or mark on a protected file"),
-        5 => put_all(out, 0, b"odd byte count in a write"),
-        6 => put_all(
-            out,
-            0,
-            b"write of 0 or over R bytes, or read buffer under R",
-        ),
-        7 => put_all(out, 0, b"wrong kind for the request, or out of sequence"),
-        8 => put_all(out, 0, b"no such entry, or not open"),
-        9 => put_all(out, 0, b"opening an open file"),
-        10 => put_all(out, 0, b"a fifth open file"),
-        11 => put_all(out, 0, b"bad image, or bad code met"),
-        12 => put_all(out, 0, b"session not legal for this image"),
-        _ => put_all(out, 0, b"no such number"),
-    }
+    let all =
+        b"doneend of file metbeginning of tape metno roomwrite or mark on a protected fileodd byte count in a writewrite of 0 or over R bytes, or read buffer under Rwrong kind for the request, or out of sequenceno such entry, or not openopening an open filea fifth open filebad image, or bad code metsession not legal for this imageno such number";
+    let w = words_at(number);
+    put_all(out, 0, part(all, w.at, w.size))
 }
