@@ -151,7 +151,7 @@ pub fn is_session(b: &[u8], buffers: bool) -> bool
 {
     let w = state_width(buffers);
     let at = Form::FILES;
-    if b.len() == at + 4 * w {
+    if b.len() == at + Geometry::MOST_OPEN * w {
         state_flags(b, buffers, at)
             & (state_flags(b, buffers, at + w)
                 & (state_flags(b, buffers, at + 2 * w) & state_flags(b, buffers, at + 3 * w)))
@@ -210,7 +210,7 @@ fn files_good(b: &[u8], w: usize) -> bool
     ensures { λ r. ⌜ r ≡ filesGood (tableIn (now (b .entry))) (filesIn w (now (b .entry))) ⌝ }
 {
     let mut k: usize = 0;
-    while k < 4 {
+    while k < Geometry::MOST_OPEN {
         let at = state_place(w, k);
         if is_set(b, at) {
             let f = file_at(b, at);
@@ -233,7 +233,7 @@ fn held_good(b: &[u8]) -> bool
     ensures { λ r. ⌜ r ≡ every (heldGood (tableIn (now (b .entry)))) (statesIn true (now (b .entry))) ⌝ }
 {
     let mut k: usize = 0;
-    while k < 4 {
+    while k < Geometry::MOST_OPEN {
         let at = state_place(Form::HELD, k);
         if is_set(b, at) & is_set(b, at + 30) {
             let e = entry_of(b, wide_at(b, at + 1));
@@ -277,14 +277,14 @@ fn first_of(b: &[u8], w: usize, i: usize) -> usize
     ensures { λ r. ⌜ r ≡ firstWith (isOf i) (filesIn w (now (b .entry))) ⌝ }
 {
     let mut k: usize = 0;
-    while k < 4 {
+    while k < Geometry::MOST_OPEN {
         let at = state_place(w, k);
         if is_of_at(b, at, i) {
             return k;
         }
         k += 1;
     }
-    4
+    Geometry::MOST_OPEN
 }
 
 // The number of the first state that is not in use; 4 where there is none.
@@ -293,14 +293,14 @@ fn first_idle(b: &[u8], w: usize) -> usize
     ensures { λ r. ⌜ r ≡ firstWith (λ f. not (f .used)) (filesIn w (now (b .entry))) ⌝ }
 {
     let mut k: usize = 0;
-    while k < 4 {
+    while k < Geometry::MOST_OPEN {
         let at = state_place(w, k);
         if !is_set(b, at) {
             return k;
         }
         k += 1;
     }
-    4
+    Geometry::MOST_OPEN
 }
 
 // The truth value at a place as a number, 0 or 1.
@@ -353,8 +353,12 @@ fn slot_in(b: &[u8], w: usize, i: usize) -> usize
     requires { ⌜ Spaced w (now b) ⌝ }
     ensures { λ r. ⌜ r ≡ slotOf (filesIn w (now (b .entry))) i ⌝ }
 {
-    let k = first_of(b, w, i);
-    if k < 4 { k } else { first_idle(b, w) }
+    let own = first_of(b, w, i);
+    if own < Geometry::MOST_OPEN {
+        own
+    } else {
+        first_idle(b, w)
+    }
 }
 
 // The file in the state at a place; idle where it is not in use.
@@ -374,7 +378,7 @@ fn file_in(b: &[u8], w: usize, i: usize, k: usize) -> OpenFile
     requires { ⌜ Spaced w (now b) × (k ≡ slotOf (filesIn w (now b)) i) ⌝ }
     ensures { λ r. ⌜ r ≡ fileOf (filesIn w (now (b .entry))) i ⌝ }
 {
-    if k < 4 {
+    if k < Geometry::MOST_OPEN {
         used_at(b, state_place(w, k))
     } else {
         idle()
@@ -445,7 +449,7 @@ pub fn find_in(image: &[u8], b: &[u8], i: usize) -> Seen
 pub fn lent_in(b: &[u8], k: usize, holds: bool) -> &[u8]
     ensures { λ r. ⌜ now r ≡ lentIn (now (b .entry)) k holds ⌝ }
 {
-    if holds & (k < 4) {
+    if holds & (k < Geometry::MOST_OPEN) {
         part(
             b,
             state_place(Form::HELD, k) + Form::BUFFER,

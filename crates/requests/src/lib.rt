@@ -174,7 +174,7 @@ fn sequential(f: Facts, later: Answer) -> Answer
 fn granular(f: Facts, later: Answer) -> Answer
     ensures { λ r. ⌜ r ≡ orElse (notLegal ∷ noEntry ∷ notOpen ∷ notRandom ∷ []) f later ⌝ }
 {
-    let a = refuse(f.kind != 4, Refusal::WrongSequence, later);
+    let a = refuse(f.kind != Geometry::RANDOM, Refusal::WrongSequence, later);
     running(f, a)
 }
 
@@ -230,7 +230,11 @@ fn judge_open(f: Facts) -> Answer
     ensures { λ r. ⌜ r ≡ judge Open f ⌝ }
 {
     let bad = refuse(f.bad, Refusal::BadImage, Answer::Done);
-    let fifth = refuse(4 <= f.files, Refusal::FifthFile, bad);
+    let fifth = refuse(
+        Geometry::MOST_OPEN <= (f.files as usize),
+        Refusal::FifthFile,
+        bad,
+    );
     let again = refuse(f.opened, Refusal::AlreadyOpen, fifth);
     entered(f, again)
 }

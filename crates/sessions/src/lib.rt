@@ -35,14 +35,14 @@ pub struct Holding {
 
 // A session of the engine with no buffer. In memory a session stands in lent bytes (storing); this is what they are read as.
 pub struct Session {
-    pub table: [Entry; 18],
-    pub files: [OpenFile; 4],
+    pub table: [Entry; Geometry::ENTRIES],
+    pub files: [OpenFile; Geometry::MOST_OPEN],
 }
 
 // A session of the engine with a blocking buffer for each open file.
 pub struct BufferedSession {
-    pub table: [Entry; 18],
-    pub files: [BufferedFile; 4],
+    pub table: [Entry; Geometry::ENTRIES],
+    pub files: [BufferedFile; Geometry::MOST_OPEN],
 }
 
 // Where an entry's file stands.

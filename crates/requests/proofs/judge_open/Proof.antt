@@ -7,6 +7,9 @@ use Rattle.requests.proofs.judge_open.Tie as tie
 refuse-requires : tie.Need-refuse-requires
 refuse-requires c κs = search needs
 
+cast-refuse : tie.Need-cast-refuse
+cast-refuse c = search needs
+
 refuse-requires-2 : tie.Need-refuse-requires-2
 refuse-requires-2 c κs = search needs
 
@@ -23,4 +26,4 @@ returns c = rw (c .entered .ensures, c .before .refuse3 .ensures, c .before .bef
 pub judge-open-spec : {M : Type 1} → statement M
 judge-open-spec =
     tie.close
-    (tie.spec refuse-requires refuse-requires-2 refuse-requires-3 entered-requires returns)
+    (tie.spec refuse-requires cast-refuse refuse-requires-2 refuse-requires-3 entered-requires returns)
