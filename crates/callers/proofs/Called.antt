@@ -19,7 +19,7 @@ use Rattle.judging.specs.Lent.{lentAfter}
 use Rattle.engines.specs.Engines as Engines
 use Rattle.looking.specs.Looking.{lookIn}
 use Rattle.lleuadrys.specs.Calls.{requested, mountNumber, mountBytes}
-use Rattle.lleuadrys.proofs.Shown.{look-is}
+use Rattle.looking.proofs.Shown.{look-is}
 use Rattle.callers.specs.Lent.{lentEngine, leftOf, Called}
 use Rattle.requests.specs.declared.Asked.the-variants.{For}
 use Rattle.requests.specs.declared.Request.{Request}

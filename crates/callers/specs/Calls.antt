@@ -13,8 +13,8 @@ use Rattle.requests.specs.Codes.{askedFor}
 use Rattle.sessions.specs.Session.{bare, spotOf}
 use Rattle.tapes.specs.Model.{Asked, Report, modelsOf, modelReports}
 use Rattle.storing.specs.Stored.{sizeOf, lentSession}
-use Rattle.looking.specs.Looking.{lookIn}
-use Rattle.lleuadrys.specs.Calls.{Left, requested, mountNumber, mountBytes, lookPlace}
+use Rattle.looking.specs.Looking.{lookIn, lookPlace}
+use Rattle.lleuadrys.specs.Calls.{Left, requested, mountNumber, mountBytes}
 use Rattle.demands.specs.Engine.{Standing, ifLook, inBytes}
 use Rattle.requests.specs.declared.Asked.the-variants.{For}
 use Rattle.requests.specs.declared.Request.{Request}

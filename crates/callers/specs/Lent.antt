@@ -12,8 +12,8 @@ use Rattle.steps.specs.Step.{After}
 use Rattle.storing.specs.Stored.{sizeOf, hasBuffers, isSession, sessionIn, stored, lentSession, plainIn, plainStored}
 use Rattle.judging.specs.Lent.{lentAfter}
 use Rattle.engines.specs.Engines as Engines
-use Rattle.looking.specs.Looking.{lookIn}
-use Rattle.lleuadrys.specs.Calls.{Left, left, requested, mountNumber, mountBytes, lookPlace}
+use Rattle.looking.specs.Looking.{lookIn, lookPlace}
+use Rattle.lleuadrys.specs.Calls.{Left, left, requested, mountNumber, mountBytes}
 use Rattle.demands.specs.Engine.{Engine, plainEngine, bufferedEngine}
 use Rattle.requests.specs.declared.Asked.the-variants.{For}
 use Rattle.requests.specs.declared.Request.{Request}

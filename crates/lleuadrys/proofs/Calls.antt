@@ -7,7 +7,6 @@ use native.Mathlib.Omega.{arith}
 use lib.Dec.{eqb}
 use lib.ListN.{length}
 use borrow.Author.Tests.{eq-eqb, ne-eqb}
-use Rattle.geometry.specs.Bytes.{part}
 use Rattle.geometry.specs.Sizes.{sector, entries, lawfulLength, sectorsOf}
 use Rattle.geometry.proofs.Places.{lawful-whole, lawful-some}
 use Rattle.geometry.proofs.Tests.{either, and-left}
@@ -17,9 +16,7 @@ use Rattle.requests.specs.Numbers.{numberOf}
 use Rattle.mounting.specs.Mounting.{mounts, startWith, plainMount}
 use Rattle.storing.specs.Stored.{sizeOf, hasBuffers, startTable, layStart}
 use Rattle.storing.proofs.Start.{sized, other-number, start-other}
-use Rattle.looking.specs.Looking.{lookIn, lookAnswerIn, shownIn}
-use Rattle.looking.proofs.Looks.{part-shown}
-use Rattle.looking.specs.declared.Shown.{Shown}
+use Rattle.looking.specs.Looking.{lookAnswerIn}
 use Rattle.judging.specs.Lent.{afterIn}
 use Rattle.steps.specs.Step.{After}
 use Rattle.engines.specs.Engines as Engines
@@ -28,7 +25,7 @@ use Rattle.requests.specs.declared.Asked.{Asked}
 use Rattle.requests.specs.declared.Asked.the-variants.{For, Unknown}
 use Rattle.requests.specs.declared.Request.{Request}
 use Rattle.lleuadrys.specs.Codes.{unknownNumber}
-use Rattle.lleuadrys.specs.Calls.{left, requested, mountNumber, mountBytes, lookPlace}
+use Rattle.lleuadrys.specs.Calls.{left, requested, mountNumber, mountBytes}
 
 -- ---- mounting
 
@@ -75,23 +72,6 @@ module _ (image b : List ℕ) where
   pub mount-none : isSize ≡ false → (12 ≡ mountNumber image b) × (b ≡ mountBytes image b)
   unfolding mountNumber mountBytes
   mount-none t = (sym (rw (other-number b image t, mountNumber)), start-other b image (plainMount image .session .table) t)
-
--- ---- looks
-
-module _ (image b : List ℕ) (i g : ℕ) (w : Shown) (e : w ≡ shownIn image b i g) (n : ℕ) (p : n ≡ length (part image (w .at) (w .size))) (old : ℕ) where
-  shown-size : n ≡ length (lookIn image b i g)
-  shown-size = p ∙ ap (λ (s : Shown). length (part image (s .at) (s .size))) e ∙ ap length (part-shown image b i g)
-
-  pub look-none : n ≡ 0 → (0 ≡ length (lookIn image b i g)) × (old ≡ lookPlace image b i g old)
-  unfolding lookPlace
-  look-none z = (sym z ∙ shown-size, sym (rw (eq-eqb (length (lookIn image b i g)) 0 (sym shown-size ∙ z), lookPlace)))
-
-  pub look-some : ¬ (n ≡ 0) → (n ≡ length (lookIn image b i g)) × (w .at ≡ lookPlace image b i g old)
-  unfolding lookPlace
-  look-some z = (
-    shown-size,
-    ap (λ (s : Shown). s .at) e ∙ sym (rw (ne-eqb (length (lookIn image b i g)) 0 (λ (h : length (lookIn image b i g) ≡ 0). z (shown-size ∙ h)), lookPlace)),
-  )
 
 -- ---- requests
 

@@ -10,7 +10,7 @@ use Rattle.requests.specs.declared.Asked.the-variants.{For, Unknown}
 use Rattle.mounting.specs.Mounting.{plainMount}
 use Rattle.steps.specs.Step.{After}
 use Rattle.storing.specs.Stored.{sizeOf, hasBuffers, layStart}
-use Rattle.looking.specs.Looking.{lookIn, lookAnswerIn, shownIn}
+use Rattle.looking.specs.Looking.{lookAnswerIn}
 use Rattle.engines.specs.Engines as Engines
 use Rattle.lleuadrys.specs.Codes.{unknownNumber}
 
@@ -38,7 +38,3 @@ mountNumber image b = elim (eqb (length b) (sizeOf (hasBuffers b))) [ true ↦ n
 -- the session that mounting hands out; "A refused mounting hands out a table with no used entry and nothing open"
 unfoldable pub mountBytes : List ℕ → List ℕ → List ℕ
 mountBytes image b = layStart b (plainMount image .session .table)
-
--- where the granule that a look shows begins in the image; what was there before where it shows none
-unfoldable pub lookPlace : List ℕ → List ℕ → ℕ → ℕ → ℕ → ℕ
-lookPlace image b i g old = elim (eqb (length (lookIn image b i g)) 0) [ true ↦ old | false ↦ shownIn image b i g .at ]

@@ -3,9 +3,8 @@
 use decoding::Coded;
 use finding::spot_in;
 use geometry::least;
-use geometry::part;
+use looking::look;
 use looking::look_answer;
-use looking::shown_in;
 use mounting::mounts;
 use requests::Answer;
 use requests::Asked;
@@ -28,10 +27,10 @@ ghost use Rattle.listing.specs.Listing.{listing};
 ghost use Rattle.requests.specs.Codes.{askedFor};
 ghost use Rattle.sessions.specs.Session.{bare, spotOf};
 ghost use Rattle.storing.specs.Stored.{sizeOf, lentSession};
-ghost use Rattle.looking.specs.Looking.{lookIn};
+ghost use Rattle.looking.specs.Looking.{lookIn, lookPlace};
 ghost use Rattle.telling.specs.Told.{found, fieldIn, wordsOf};
 ghost use Rattle.lleuadrys.specs.Codes.{unknownNumber, standing, recordAt, codeSize, version};
-ghost use Rattle.lleuadrys.specs.Calls.{left, requested, mountNumber, mountBytes, lookPlace};
+ghost use Rattle.lleuadrys.specs.Calls.{left, requested, mountNumber, mountBytes};
 
 // ---- numbers for C
 
@@ -122,13 +121,7 @@ pub extern "C" fn lleuadrys_look(
     ensures { λ r. ⌜ (r ≡ length (lookIn (now (image .entry)) (now (session .entry)) entry granule))
         × (now (at .exit) ≡ lookPlace (now (image .entry)) (now (session .entry)) entry granule (now (at .entry))) ⌝ }
 {
-    let shown = shown_in(image, session, entry, granule);
-    let n = part(image, shown.at, shown.size).len();
-    if n == 0 {
-        return 0;
-    }
-    *at = shown.at;
-    n
+    look(image, session, entry, granule, at).len()
 }
 
 // Where an entry's file stands: 0 not open, 1 open, 2 open and beyond the mark; its record goes into at.

@@ -30,7 +30,7 @@ use Rattle.storing.specs.Stored.{hasBuffers, isSession, tableIn, sessionIn, pla
 use Rattle.storing.proofs.Illegal.{none-legal, none-legal-bare}
 use Rattle.storing.proofs.Read.{session-is}
 use Rattle.finding.proofs.Lent.{plain-good}
-use Rattle.looking.specs.Looking.{lookIn, lookAnswerIn, shownBy, shownIn}
+use Rattle.looking.specs.Looking.{lookIn, lookAnswerIn, placeBy, lookPlace}
 
 module _ (R g : ℕ) where
   whole : placeOf random R g ≡ record { sector = sectorsFor R * g; byte = 0 }
@@ -87,36 +87,48 @@ module _ (image b : List ℕ) (i g : ℕ) where
       by true = unfold bufferedLook in refl
       by false = unfold plainLook bare in ap (λ (a : Answer). shown a (entryAt (sessionIn false b .table) i) g image) (plain-look image b i g)
 
-  -- the part that is told is what the look shows
-  told-part : (a : Answer) (e : Entry) → part image (shownBy a e g .at) (shownBy a e g .size) ≡ shown a e g image
-  unfolding shownBy shown part
-  told-part Done e = refl
-  told-part (Met x) e = refl
-  told-part (Refused x) e = refl
+  pub shown-by : shown (lookAnswerIn image b i g) (entryAt (lentSession b .table) i) g image ≡ lookIn image b i g
+  shown-by = ap (λ (a : Answer). shown a (entryAt (lentSession b .table) i) g image) (sym (answered (bufferedLookAnswer image (lentSession b) i g) refl)) ∙ shown-is
 
-  pub part-shown : part image (shownIn image b i g .at) (shownIn image b i g .size) ≡ lookIn image b i g
-  unfolding shownIn
-  part-shown =
-      let e : Entry = entryAt (lentSession b .table) i in
-      told-part (lookAnswerIn image b i g) e ∙ ap (λ (a : Answer). shown a e g image) (sym (answered (bufferedLookAnswer image (lentSession b) i g) refl)) ∙ shown-is
-
-  -- a look that is answered 0 shows the granule, and any other nothing
+  -- what is shown, and where, by the answer
   module _ (a : Answer) (ea : a ≡ bufferedLookAnswer image (lentSession b) i g) (e : Entry) (ee : e ≡ entryAt (lentSession b .table) i) (n : ℕ) (en : n ≡ numberOf a) where
-    by-answer : shownBy a e g ≡ shownIn image b i g
-    unfolding shownIn
-    by-answer = ap (λ (x : Answer). shownBy x e g) (answered a ea) ∙ ap (λ (x : Entry). shownBy (lookAnswerIn image b i g) x g) ee
+    by-answer : shown a e g image ≡ lookIn image b i g
+    by-answer = ap (λ (x : Entry). shown a x g image) ee ∙ ap (λ (x : Answer). shown x (entryAt (lentSession b .table) i) g image) ea ∙ shown-is
 
-    pub shown-granule : n ≡ 0 → (at : ℕ) → at ≡ sector * e .first + byteOf (placeOf random (e .length) g) → record { at = at; size = e .length } ≡ shownIn image b i g
-    unfolding shownBy
-    shown-granule z at q =
-        let d : a ≡ Done = done-is a (sym en ∙ z) in
-        ap (λ (k : ℕ). record { at = k; size = e .length }) q ∙ ap (λ (x : Answer). shownBy x e g) (sym d) ∙ by-answer
+    by-place : (old : ℕ) → placeBy a e g old ≡ lookPlace image b i g old
+    unfolding lookPlace
+    by-place old = ap (λ (x : Answer). placeBy x e g old) (answered a ea) ∙ ap (λ (x : Entry). placeBy (lookAnswerIn image b i g) x g old) ee
 
-    pub shown-none : n ≢ 0 → record { at = 0; size = 0 } ≡ shownIn image b i g
-    unfolding shownBy
-    shown-none z = none a (λ (h : numberOf a ≡ 0). z (en ∙ h)) ∙ by-answer
-      where
-        none : (x : Answer) → numberOf x ≢ 0 → record { at = 0; size = 0 } ≡ shownBy x e g
-        none Done h = absurd (h refl)
-        none (Met y) h = refl
-        none (Refused y) h = refl
+    module _ (z : n ≡ 0) (at : ℕ) (q : at ≡ sector * e .first + byteOf (placeOf random (e .length) g)) where
+      done : a ≡ Done
+      done = done-is a (sym en ∙ z)
+
+      pub look-shown : (r : List ℕ) → r ≡ part image at (e .length) → r ≡ lookIn image b i g
+      unfolding shown
+      look-shown r p = p ∙ ap (λ (k : ℕ). part image k (e .length)) q ∙ ap (λ (x : Answer). shown x e g image) (sym done) ∙ by-answer
+
+      pub look-placed : (old : ℕ) → at ≡ lookPlace image b i g old
+      unfolding placeBy
+      look-placed old = q ∙ ap (λ (x : Answer). placeBy x e g old) (sym done) ∙ by-place old
+
+    module _ (z : n ≢ 0) where
+      refused : numberOf a ≢ 0
+      refused h = z (en ∙ h)
+
+      pub look-empty : (r : List ℕ) → r ≡ part image 0 0 → r ≡ lookIn image b i g
+      unfolding part shown
+      look-empty r p = p ∙ none a refused ∙ by-answer
+        where
+          none : (x : Answer) → numberOf x ≢ 0 → [] ≡ shown x e g image
+          none Done h = absurd (h refl)
+          none (Met y) h = refl
+          none (Refused y) h = refl
+
+      pub look-stays : (old : ℕ) → old ≡ lookPlace image b i g old
+      unfolding placeBy
+      look-stays old = none a refused ∙ by-place old
+        where
+          none : (x : Answer) → numberOf x ≢ 0 → old ≡ placeBy x e g old
+          none Done h = absurd (h refl)
+          none (Met y) h = refl
+          none (Refused y) h = refl

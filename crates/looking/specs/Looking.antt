@@ -10,7 +10,6 @@ use Rattle.storing.specs.Stored.{hasBuffers, sessionIn, plainIn, lentSession}
 use Rattle.directory.specs.declared.Entry.{Entry}
 use Rattle.requests.specs.declared.Answer.{Answer}
 use Rattle.requests.specs.declared.Answer.the-variants.{Done, Met, Refused}
-use Rattle.looking.specs.declared.Shown.{Shown}
 
 unfoldable pub lookIn : List ℕ → List ℕ → ℕ → ℕ → List ℕ
 lookIn image b i g = elim (hasBuffers b) [ true ↦ bufferedLook image (sessionIn true b) i g | false ↦ plainLook image (plainIn b) i g ]
@@ -18,11 +17,11 @@ lookIn image b i g = elim (hasBuffers b) [ true ↦ bufferedLook image (sessionI
 unfoldable pub lookAnswerIn : List ℕ → List ℕ → ℕ → ℕ → Answer
 lookAnswerIn image b i g = elim (hasBuffers b) [ true ↦ bufferedLookAnswer image (sessionIn true b) i g | false ↦ plainLookAnswer image (plainIn b) i g ]
 
--- which bytes of the image a look shows; none where it is refused: "shows an empty part when refused"
-unfoldable pub shownBy : Answer → Entry → ℕ → Shown
-shownBy Done e g = record { at = sector * e .first + byteOf (placeOf random (e .length) g); size = e .length }
-shownBy (Met x) e g = record { at = 0; size = 0 }
-shownBy (Refused x) e g = record { at = 0; size = 0 }
+-- where the granule that a look shows begins in the image; what was there before where it is refused
+unfoldable pub placeBy : Answer → Entry → ℕ → ℕ → ℕ
+placeBy Done e g old = sector * e .first + byteOf (placeOf random (e .length) g)
+placeBy (Met x) e g old = old
+placeBy (Refused x) e g old = old
 
-unfoldable pub shownIn : List ℕ → List ℕ → ℕ → ℕ → Shown
-shownIn image b i g = shownBy (lookAnswerIn image b i g) (entryAt (lentSession b .table) i) g
+unfoldable pub lookPlace : List ℕ → List ℕ → ℕ → ℕ → ℕ → ℕ
+lookPlace image b i g old = placeBy (lookAnswerIn image b i g) (entryAt (lentSession b .table) i) g old

@@ -10,7 +10,7 @@ ghost use Prim.Native.Nat.{_+_, _*_};
 ghost use Rattle.geometry.specs.Places.{placeOf, byteOf};
 ghost use Rattle.geometry.specs.Sizes.{random};
 ghost use Rattle.geometry.specs.Sizes as Sizes;
-ghost use Rattle.looking.specs.Looking.{lookIn, lookAnswerIn, shownIn};
+ghost use Rattle.looking.specs.Looking.{lookIn, lookAnswerIn, lookPlace};
 
 // Where granule g of an entry begins in the image.
 pub fn granule_at(e: Entry, g: u32) -> usize
@@ -20,35 +20,22 @@ pub fn granule_at(e: Entry, g: u32) -> usize
     Geometry::SECTOR * ((e.first as usize) + k)
 }
 
-// Which bytes of the image a look shows: where they begin, and how many they are; none where it is refused.
-pub struct Shown {
-    pub at: usize,
-    pub size: usize,
-}
-
-// Where granule g of entry i lies in the image, as a look shows it.
-pub fn shown_in(image: &[u8], session: &[u8], i: usize, g: u32) -> Shown
-    ensures { λ r. ⌜ r ≡ shownIn (now (image .entry)) (now (session .entry)) i g ⌝ }
+// The part of the image that is granule g of entry i, and the byte that it begins at goes into at; an empty part, and at as it was, where the
+// look is refused.
+pub fn look<'a>(image: &'a [u8], session: &[u8], i: usize, g: u32, at: &mut usize) -> &'a [u8]
+    ensures shows { λ r. ⌜ now r ≡ lookIn (now (image .entry)) (now (session .entry)) i g ⌝ }
+    ensures places { λ _. ⌜ now (at .exit) ≡ lookPlace (now (image .entry)) (now (session .entry)) i g (now (at .entry)) ⌝ }
 {
     let seen = look_in(image, session, i, g);
     let a = seen.answer;
     let e = seen.entry;
     if number(a) == 0 {
-        Shown {
-            at: granule_at(e, g),
-            size: e.length as usize,
-        }
+        let place = granule_at(e, g);
+        *at = place;
+        part(image, place, e.length as usize)
     } else {
-        Shown { at: 0, size: 0 }
+        part(image, 0, 0)
     }
-}
-
-// The part of the image that is granule g of entry i; an empty part where the look is refused.
-pub fn look<'a>(image: &'a [u8], session: &[u8], i: usize, g: u32) -> &'a [u8]
-    ensures { λ r. ⌜ now r ≡ lookIn (now (image .entry)) (now (session .entry)) i g ⌝ }
-{
-    let s = shown_in(image, session, i, g);
-    part(image, s.at, s.size)
 }
 
 // The answer to that look.

@@ -1,22 +1,50 @@
--- The part that is told is the part that is shown.
-use mathlib.Core.Path.{ap, _∙_}
-use Rattle.geometry.specs.Bytes.{part}
-use Rattle.looking.specs.declared.Shown.{Shown}
-use Rattle.looking.proofs.Looks.{part-shown}
+-- Answered 0, the granule and its place; else an empty part, and no place.
+use Rattle.looking.proofs.Looks.{look-shown, look-placed, look-empty, look-stays}
 use borrow.Author.Needs.{needs}
 use Rattle.looking.proofs.look.Statement.{statement}
 use Rattle.looking.proofs.look.Tie as tie
 
-shown-in-requires : tie.Need-shown-in-requires
-shown-in-requires c κs = search needs
+look-in-requires : tie.Need-look-in-requires
+look-in-requires c κs = search needs
+
+number-requires : tie.Need-number-requires
+number-requires c κs = search needs
+
+granule-at-requires : tie.Need-granule-at-requires
+granule-at-requires c κs = search needs
+
+cast-part : tie.Need-cast-part
+cast-part c = search needs
 
 part-requires : tie.Need-part-requires
 part-requires c κs = search needs
 
+part-requires-2 : tie.Need-part-requires-2
+part-requires-2 c κs = search needs
+
 returns : tie.Need-returns
 returns c =
-    let a = c .before .before .before .before .args in
-    c .part .ensures ∙ ap (λ (s : Shown). part (a .image .now) (s .at) (s .size)) (c .before .shown-in .ensures) ∙ part-shown (a .image .now) (a .session .now) (a .i) (a .g)
+    let a = c .before .before .before .before .before .before .before .before .before .args in (
+      look-shown (a .image .now) (a .session .now) (a .i) (a .g) _ (c .before .before .before .before .before .before .look-in .ensures .0) _ (c .before .before .before .before .before .before .look-in .ensures .1) _ (c .before .before .before .before .number .ensures) (c .before .before .before .if1 .taken) _ (c .before .before .granule-at .ensures) _ (c .part .ensures),
+      look-placed (a .image .now) (a .session .now) (a .i) (a .g) _ (c .before .before .before .before .before .before .look-in .ensures .0) _ (c .before .before .before .before .before .before .look-in .ensures .1) _ (c .before .before .before .before .number .ensures) (c .before .before .before .if1 .taken) _ (c .before .before .granule-at .ensures) (a .at .now),
+    )
+
+returns-2 : tie.Need-returns-2
+returns-2 c =
+    let a = c .before .before .before .before .before .before .before .args in (
+      look-empty (a .image .now) (a .session .now) (a .i) (a .g) _ (c .before .before .before .before .look-in .ensures .0) _ (c .before .before .before .before .look-in .ensures .1) _ (c .before .before .number .ensures) (c .before .if1 .left) _ (c .part2 .ensures),
+      look-stays (a .image .now) (a .session .now) (a .i) (a .g) _ (c .before .before .before .before .look-in .ensures .0) _ (c .before .before .before .before .look-in .ensures .1) _ (c .before .before .number .ensures) (c .before .if1 .left) (a .at .now),
+    )
 
 pub look-spec : {M : Type 1} → statement M
-look-spec = tie.close (tie.spec shown-in-requires part-requires returns)
+look-spec =
+    tie.close
+    (tie.spec
+    look-in-requires
+    number-requires
+    granule-at-requires
+    cast-part
+    part-requires
+    part-requires-2
+    returns
+    returns-2)

@@ -1,5 +1,5 @@
 -- `playing::sum_shown` meets its contract: the part of the image that the call tells is what the look shows.
-use Rattle.lleuadrys.proofs.Shown.{look-is}
+use Rattle.looking.proofs.Shown.{look-is}
 use Rattle.scripts.specs.Sums.{sumsOf}
 use borrow.Author.Needs.{needs}
 use Rattle.playing.proofs.sum_shown.Statement.{statement}
