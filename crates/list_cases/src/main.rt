@@ -24,21 +24,14 @@ fn list_next(fd: i32, n: usize) {
     }
 }
 
-// Two words as a number, high word first.
-fn number(high: u16, low: u16) -> usize {
-    (high as usize) * 65536 + (low as usize)
-}
-
 // Lists case number k. Whether there was one.
 fn list_case(fd: i32, k: u64) -> bool {
     let mut four = [0u8; 4];
     if io::read_full(fd, &mut four) < 4 {
         return false;
     }
-    io::write_all(STDOUT_FILENO, b"CASE ");
-    io::print_decimal(STDOUT_FILENO, k);
-    io::write_all(STDOUT_FILENO, b"\n");
-    list_next(fd, number(word_at(&four, 0), word_at(&four, 2)));
+    case_io::print_case(k);
+    list_next(fd, case_io::number(word_at(&four, 0), word_at(&four, 2)));
     true
 }
 

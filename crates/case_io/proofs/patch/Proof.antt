@@ -1,10 +1,10 @@
--- `play_cases::patch` is safe and ends: the number of the patch grows to a bound, and the room stays.
+-- `case_io::patch` is safe and ends: the number of the patch grows to a bound, and the room stays.
 use mathlib.Core.Path.{_≡_}
 use Prim.Native.Nat.{_-_}
 use lib.ListN.{length}
 use borrow.Author.Needs.{needs}
-use Rattle.play_cases.proofs.patch.Statement.{statement}
-use Rattle.play_cases.proofs.patch.Tie as tie
+use Rattle.case_io.proofs.patch.Statement.{statement}
+use Rattle.case_io.proofs.patch.Tie as tie
 
 abbrev Inv-loop : tie.InvT-loop
 Inv-loop fd n bytes₀ i₀ bytes i = length bytes ≡ length bytes₀

@@ -1,9 +1,9 @@
--- `play_cases::read_whole` is safe: the room lent has the image's length.
+-- `case_io::read_whole` is safe: the room lent has the image's length.
 use mathlib.Core.Path.{sym}
 use lib.Seq.{length-take-le}
 use borrow.Author.Needs.{needs}
-use Rattle.play_cases.proofs.read_whole.Statement.{statement}
-use Rattle.play_cases.proofs.read_whole.Tie as tie
+use Rattle.case_io.proofs.read_whole.Statement.{statement}
+use Rattle.case_io.proofs.read_whole.Tie as tie
 
 returns : tie.Need-returns
 returns c = search needs
