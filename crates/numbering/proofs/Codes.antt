@@ -7,7 +7,7 @@ use Rattle.decoding.specs.declared.Coded.{Coded}
 use Rattle.decoding.specs.declared.Coded.the-variants.{Good, Bad}
 use Rattle.requests.specs.Numbers.{numberOf}
 use Rattle.requests.specs.declared.Answer.{Answer}
-use Rattle.lleuadrys.specs.Codes.{unknownNumber, codeSize}
+use Rattle.numbering.specs.Codes.{unknownNumber, codeSize}
 
 -- ---- a code that names no request
 

@@ -1,10 +1,10 @@
 -- By whether a look gives 8 or more.
 use mathlib.Core.Path.{sym, _∙_}
 use native.Mathlib.Omega.{arith}
-use Rattle.lleuadrys.proofs.Codes.{first-tests, wrong-kind}
+use Rattle.numbering.proofs.Codes.{first-tests, wrong-kind}
 use borrow.Author.Needs.{needs}
-use Rattle.lleuadrys.proofs.unknown.Statement.{statement}
-use Rattle.lleuadrys.proofs.unknown.Tie as tie
+use Rattle.numbering.proofs.unknown.Statement.{statement}
+use Rattle.numbering.proofs.unknown.Tie as tie
 
 number-requires : tie.Need-number-requires
 number-requires c κs = search needs

@@ -1,6 +1,6 @@
--- What C reads as numbers: the answer to a code that names no request, where a file stands, the size of a code, and the version. Definitions only.
+-- What C reads as numbers: the answer to a code that names no request, where a file stands, and the size of a code. Definitions only.
 use mathlib.Core.Bool.{true, false}
-use Prim.Native.Nat.{ℕ, _+_, _*_}
+use Prim.Native.Nat.{ℕ}
 use lib.Dec.{leb}
 use Rattle.decoding.specs.Decode.{Decoded, good, bad}
 use Rattle.requests.specs.Numbers.{numberOf}
@@ -27,7 +27,3 @@ recordAt (At p beyond) old = p
 unfoldable pub codeSize : Decoded → ℕ
 codeSize (good xs n) = n
 codeSize (bad k) = 0
-
--- 1.0.0, as one number
-unfoldable pub version : ℕ
-version = 10000 * 1 + 100 * 0 + 0

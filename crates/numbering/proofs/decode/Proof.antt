@@ -1,10 +1,10 @@
 -- By the answer of the decoding.
 use lib.ListN.{length}
 use Rattle.decoding.specs.Decode.{decode}
-use Rattle.lleuadrys.proofs.Codes.{good-size, bad-size}
+use Rattle.numbering.proofs.Codes.{good-size, bad-size}
 use borrow.Author.Needs.{needs}
-use Rattle.lleuadrys.proofs.lleuadrys_decode.Statement.{statement}
-use Rattle.lleuadrys.proofs.lleuadrys_decode.Tie as tie
+use Rattle.numbering.proofs.decode.Statement.{statement}
+use Rattle.numbering.proofs.decode.Tie as tie
 
 decode-requires : tie.Need-decode-requires
 decode-requires c κs = search needs
@@ -33,7 +33,7 @@ returns-2 c =
     let d = c .before .before .before .before .decode .ensures in
     (bad-size (decode (length (a .text .now)) (a .code .now)) _ _ (d .0) (c .enum-told .given .1), d .1)
 
-pub lleuadrys-decode-spec : {M : Type 1} → statement M
-lleuadrys-decode-spec =
+pub decode-spec : {M : Type 1} → statement M
+decode-spec =
     tie.close
     (tie.spec decode-requires enum-known-n enum-told same-length returns same-length-2 returns-2)

@@ -1,9 +1,9 @@
 -- By the cases of a spot.
 use mathlib.Core.Path.{refl}
-use Rattle.lleuadrys.specs.Codes.{standing, recordAt}
+use Rattle.numbering.specs.Codes.{standing, recordAt}
 use borrow.Author.Needs.{needs}
-use Rattle.lleuadrys.proofs.tell.Statement.{statement}
-use Rattle.lleuadrys.proofs.tell.Tie as tie
+use Rattle.numbering.proofs.tell.Statement.{statement}
+use Rattle.numbering.proofs.tell.Tie as tie
 
 enum-told : tie.Need-enum-told
 enum-told c = search needs

@@ -29,8 +29,8 @@ use Rattle.storing.proofs.Counts.{back, back-long, stored-counted}
 use Rattle.storing.proofs.Read.{size-buffered, told-by-size, session-is, session-bytes, session-size, session-flags}
 use Rattle.finding.specs.Lent.{inUse, stateAt, bufferAt}
 use Rattle.finding.proofs.Lent.{has-table}
-use Rattle.engines.specs.Parts.{readied, layNext}
-use Rattle.engines.proofs.Sessions.{fresh-whole, own-whole}
+use Rattle.advancing.specs.Advancing.{readied, layNext}
+use Rattle.advancing.proofs.Sessions.{fresh-whole, own-whole}
 use Rattle.directory.specs.declared.Entry.{Entry}
 use Rattle.sessions.specs.declared.Holding.{Holding}
 use Rattle.sessions.specs.declared.BufferedFile.{BufferedFile}
@@ -150,11 +150,11 @@ module _ (b : List ℕ) (long : length b ≡ 1980) (k : ℕ) (n : k < mostOpen) 
 
 -- ---- the state of number k of a session with buffers
 
-pub length-readied : (b : List ℕ) (k : ℕ) (used : Bool) → length (readied b k used) ≡ length b
+pub length-readied : (u : Bool) (b : List ℕ) (k : ℕ) (used : Bool) → length (readied u b k used) ≡ length b
 unfolding readied
-length-readied b k used = either used
-    (λ t. ap length (chosen used b (layFresh true b k idle) t))
-    (λ t. ap length (not-chosen used b (layFresh true b k idle) t) ∙ length-laid mostOpen filesAt (width true) b k (stateStored true (fresh idle)))
+length-readied u b k used = either used
+    (λ t. ap length (chosen used b (layFresh u b k idle) t))
+    (λ t. ap length (not-chosen used b (layFresh u b k idle) t) ∙ length-laid mostOpen filesAt (width u) b k (stateStored u (fresh idle)))
 
 module _ (b : List ℕ) (ok : isSession true b ≡ true) (k : ℕ) (n : k < mostOpen) where
   long : length b ≡ 1980
@@ -180,7 +180,7 @@ module _ (b : List ℕ) (ok : isSession true b ≡ true) (k : ℕ) (n : k < most
       (sym (getD-row (stateFlags true) heldWidth mostOpen b filesAt k true n) ∙ all-getD (rowIn (stateFlags true) heldWidth mostOpen b filesAt) k (session-flags true b ok))
 
   -- in use or not, its bytes are then those of the state that it counts as
-  readied-is : (u : Bool) → u ≡ state .file .used → readied b k u ≡ layHeld b k own
+  readied-is : (u : Bool) → u ≡ state .file .used → readied true b k u ≡ layHeld b k own
   unfolding readied stateAt inUse
   readied-is u h = either u
       (λ (t : u ≡ true).
@@ -191,17 +191,17 @@ module _ (b : List ℕ) (ok : isSession true b ≡ true) (k : ℕ) (n : k < most
       ∙ lay-part b place 396))
       (λ (t : u ≡ false). not-chosen u b (layFresh true b k idle) t ∙ ap (layHeld b k) (sym (not-chosen (state .file .used) state (fresh idle) (sym h ∙ t))))
 
-  pub readied-buffer : (u : Bool) → u ≡ state .file .used → part (readied b k u) (bufferAt k) sector ≡ own .buffer
+  pub readied-buffer : (u : Bool) → u ≡ state .file .used → part (readied true b k u) (bufferAt k) sector ≡ own .buffer
   readied-buffer u h = ap (λ (c : List ℕ). part c (bufferAt k) sector) (readied-is u h) ∙ buffer-there b long k n own (own-whole true b k)
 
   -- one in use has its buffer where it is
-  pub used-stays : (u : Bool) → u ≡ state .file .used → u ≡ true → b ≡ lay (readied b k u) (bufferAt k) (own .buffer)
+  pub used-stays : (u : Bool) → u ≡ state .file .used → u ≡ true → b ≡ lay (readied true b k u) (bufferAt k) (own .buffer)
   unfolding readied
-  used-stays u h t = sym (ap (lay (readied b k u) (bufferAt k)) (sym (readied-buffer u h)) ∙ lay-part (readied b k u) (bufferAt k) sector ∙ chosen u b (layFresh true b k idle) t)
+  used-stays u h t = sym (ap (lay (readied true b k u) (bufferAt k)) (sym (readied-buffer u h)) ∙ lay-part (readied true b k u) (bufferAt k) sector ∙ chosen u b (layFresh true b k idle) t)
 
   -- the next count, flags and state, behind another buffer
   held-next : (u : Bool) → u ≡ state .file .used → (room : List ℕ) → length room ≡ sector → (i : ℕ) (v : Verdict) (h : Holding) (f : OpenFile)
-      → layNext true (lay (readied b k u) (bufferAt k) room) i k v h
+      → layNext true (lay (readied true b k u) (bufferAt k) room) i k v h
       ≡ layHeld (layCounts twoWordsWide entries b i (v .entry .count) (v .entry .flags)) k (kept (v .file) (stateWith f h room))
   unfolding layNext
   held-next u t room size i v h f =
@@ -227,7 +227,7 @@ plain-next b i k v h = either (v .file .used) (λ z. chosen (v .file .used) _ _ 
 -- bytes that lack but the count, the flags and the front of the file's next state y: with buffers, what it then holds is in the room of its buffer
 abbrev pub Behind : Bool → List ℕ → ℕ → OpenFile → Verdict → Holding → List ℕ → BufferedFile → List ℕ → Type 0
 Behind true b k f v h room y c =
-    (f .used ≡ getD (sessionIn true b .files) k (fresh idle) .file .used) × (length room ≡ sector) × (c ≡ lay (readied b k (f .used)) (bufferAt k) room) × (y ≡ kept (v .file) (stateWith f h room))
+    (f .used ≡ getD (sessionIn true b .files) k (fresh idle) .file .used) × (length room ≡ sector) × (c ≡ lay (readied true b k (f .used)) (bufferAt k) room) × (y ≡ kept (v .file) (stateWith f h room))
 Behind false b k f v h room y c = (c ≡ b) × (y ≡ fresh (v .file))
 
 kept-whole : (f : OpenFile) (x : BufferedFile) → length (x .buffer) ≡ sector → length (kept f x .buffer) ≡ sector
@@ -237,7 +237,7 @@ kept-whole f x l = either (f .used)
 
 module _ (b : List ℕ) (k : ℕ) (n : k < mostOpen) (f : OpenFile) (v : Verdict) (h : Holding) (room : List ℕ) (y : BufferedFile) (c : List ℕ) where
   behind-size : (u : Bool) → Behind u b k f v h room y c → length c ≡ length b
-  behind-size true p = ap length (p .2) ∙ length-lay (readied b k (f .used)) (bufferAt k) room ∙ length-readied b k (f .used)
+  behind-size true p = ap length (p .2) ∙ length-lay (readied true b k (f .used)) (bufferAt k) room ∙ length-readied true b k (f .used)
   behind-size false p = ap length (p .0)
 
   next-whole : (u : Bool) → Behind u b k f v h room y c → length (y .buffer) ≡ sector

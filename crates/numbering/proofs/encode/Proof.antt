@@ -5,8 +5,8 @@ use lib.ListN.{length}
 use lib.Seq.{length-sets}
 use Rattle.coding.specs.Encode.{encode}
 use borrow.Author.Needs.{needs}
-use Rattle.lleuadrys.proofs.lleuadrys_encode.Statement.{statement}
-use Rattle.lleuadrys.proofs.lleuadrys_encode.Tie as tie
+use Rattle.numbering.proofs.encode.Statement.{statement}
+use Rattle.numbering.proofs.encode.Tie as tie
 
 encode-requires : tie.Need-encode-requires
 encode-requires c κs = search needs
@@ -24,5 +24,5 @@ returns c =
     let room : length (c .before .before .before .encode .last .1 .0) ≡ length (a .code .now) = ap length (e .1) ∙ length-sets (a .code .now) 0 (encode (a .text .now)) in
     (c .least .ensures ∙ ap (λ (n : ℕ). min n (length (c .before .before .before .encode .last .1 .0))) (e .0) ∙ ap (λ (n : ℕ). min (length (encode (a .text .now))) n) room, e .1)
 
-pub lleuadrys-encode-spec : {M : Type 1} → statement M
-lleuadrys-encode-spec = tie.close (tie.spec encode-requires least-requires same-length returns)
+pub encode-spec : {M : Type 1} → statement M
+encode-spec = tie.close (tie.spec encode-requires least-requires same-length returns)

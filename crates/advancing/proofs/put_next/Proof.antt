@@ -1,8 +1,8 @@
 -- The count and flags are laid, then the state, with its buffer only where it is closed.
-use Rattle.engines.proofs.Parts.{laid-open, laid-shut}
+use Rattle.advancing.proofs.Parts.{laid-open, laid-shut}
 use borrow.Author.Needs.{needs}
-use Rattle.engines.proofs.put_next.Statement.{statement}
-use Rattle.engines.proofs.put_next.Tie as tie
+use Rattle.advancing.proofs.put_next.Statement.{statement}
+use Rattle.advancing.proofs.put_next.Tie as tie
 
 put-counts-requires : tie.Need-put-counts-requires
 put-counts-requires c κs = search needs
