@@ -4,8 +4,8 @@ use native.Mathlib.Omega.{arith}
 use mathlib.Core.Path.{refl}
 use Rattle.storing.proofs.Read.{bytes}
 use borrow.Author.Needs.{needs}
-use Rattle.finding.proofs.is_flag.Statement.{statement}
-use Rattle.finding.proofs.is_flag.Tie as tie
+use Rattle.knowing.proofs.is_flag.Statement.{statement}
+use Rattle.knowing.proofs.is_flag.Tie as tie
 
 shared-slice-read-result : tie.Need-shared-slice-read-result
 shared-slice-read-result c = search needs

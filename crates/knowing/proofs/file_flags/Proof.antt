@@ -1,8 +1,8 @@
 -- Each truth value is 0 or 1.
 use Rattle.storing.specs.Stored.{fileFlags}
 use borrow.Author.Needs.{needs}
-use Rattle.finding.proofs.file_flags.Statement.{statement}
-use Rattle.finding.proofs.file_flags.Tie as tie
+use Rattle.knowing.proofs.file_flags.Statement.{statement}
+use Rattle.knowing.proofs.file_flags.Tie as tie
 
 is-flag-requires : tie.Need-is-flag-requires
 is-flag-requires c κs = search needs

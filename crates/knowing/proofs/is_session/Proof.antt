@@ -1,8 +1,8 @@
 -- As many bytes as it takes, and each truth value of its four states.
-use Rattle.finding.proofs.Lent.{session-told, session-not}
+use Rattle.knowing.proofs.Known.{session-told, session-not}
 use borrow.Author.Needs.{needs}
-use Rattle.finding.proofs.is_session.Statement.{statement}
-use Rattle.finding.proofs.is_session.Tie as tie
+use Rattle.knowing.proofs.is_session.Statement.{statement}
+use Rattle.knowing.proofs.is_session.Tie as tie
 
 state-width-requires : tie.Need-state-width-requires
 state-width-requires c κs = search needs

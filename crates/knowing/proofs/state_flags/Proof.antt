@@ -1,10 +1,10 @@
 -- Those of the state, and those of what it holds, if it has a buffer.
 use native.Mathlib.Omega.{arith}
 use Rattle.storing.proofs.Read.{width-least}
-use Rattle.finding.proofs.Lent.{held-wide, flags-held, flags-plain}
+use Rattle.knowing.proofs.Known.{held-wide, flags-held, flags-plain}
 use borrow.Author.Needs.{needs}
-use Rattle.finding.proofs.state_flags.Statement.{statement}
-use Rattle.finding.proofs.state_flags.Tie as tie
+use Rattle.knowing.proofs.state_flags.Statement.{statement}
+use Rattle.knowing.proofs.state_flags.Tie as tie
 
 file-flags-requires : tie.Need-file-flags-requires
 file-flags-requires c κs = omega (arith, c .before .before .pre, width-least (c .before .before .args .buffers))
