@@ -5,6 +5,7 @@ use geometry::Geometry;
 use geometry::Place;
 use geometry::lay_padded;
 use packing::fits_here;
+use placing::room_behind;
 use sessions::OpenFile;
 ghost use mathlib.Core.Path.{_≡_};
 ghost use mathlib.Core.List.{[], map};
@@ -19,24 +20,6 @@ ghost use Rattle.sessions.specs.Session.{idle};
 ghost use Rattle.steps.specs.Effects.{sectorAt, storeEffect, blockedEffect, plainDo, plainAll};
 ghost use Rattle.steps.specs.Effects as Effects;
 ghost use Rattle.straight.specs.Straight.{writing, codeGiven};
-
-// The byte of the image at which sector k of an entry's extent begins.
-pub fn sector_at(e: Entry, k: u32) -> usize
-    ensures { λ r. ⌜ r ≡ sectorAt e k ⌝ }
-{
-    Geometry::SECTOR * ((e.first as usize) + (k as usize))
-}
-
-// How many bytes a sector has from that byte on.
-pub fn room_behind(byte: usize) -> usize
-    ensures { λ r. ⌜ r ≡ Sizes.sector - byte ⌝ }
-{
-    if byte <= Geometry::SECTOR {
-        Geometry::SECTOR - byte
-    } else {
-        0
-    }
-}
 
 // Record or granule k in whole sectors, with zeros behind it.
 pub fn store(image: &mut [u8], e: Entry, k: u32, given: &[u8])
