@@ -1,5 +1,4 @@
 pub mod Judged
 pub mod Sessions
-pub mod Laid
 pub mod Parts
 pub mod Served

@@ -34,10 +34,12 @@ use Rattle.judging.specs.Judged.{judgedBy, bufferBy, judgedIn, bufferIn}
 use Rattle.judging.specs.Lent.{afterIn, lentAfter}
 use Rattle.judging.proofs.Lent.{laid, unlaid, entry-kept}
 use Rattle.engines.specs.Engines.{requested}
-use Rattle.engines.specs.Parts.{readied, Moved, layNext}
+use Rattle.advancing.specs.Advancing.{readied, layNext}
+use Rattle.advancing.proofs.Sessions.{table-long, own-whole}
+use Rattle.advancing.proofs.Laid.{Behind, readied-buffer, used-stays, next-stored}
+use Rattle.engines.specs.Parts.{Moved}
 use Rattle.engines.proofs.Judged.{in-use, own-is, verdict-told, buffer-told}
-use Rattle.engines.proofs.Laid.{Behind, readied-buffer, used-stays, next-stored}
-use Rattle.engines.proofs.Sessions.{table-long, own-whole, done-session, done-slot, met-session, met-used, met-slot}
+use Rattle.engines.proofs.Sessions.{done-session, done-slot, met-session, met-used, met-slot}
 use Rattle.requests.specs.declared.Answer.{Answer}
 use Rattle.requests.specs.declared.Answer.the-variants.{Done, Met, Refused}
 use Rattle.requests.specs.declared.Edge.{Edge}
@@ -143,7 +145,7 @@ module _ (image b : List ℕ) (i : ℕ) (q : Request) (given buffer : List ℕ) 
     done-at true d new b′ g m last l =
         let ok : isSession true b ≡ true = done-session true b image i q given (length buffer) (told true Done d) in
         let n : k true < mostOpen = done-slot true b image i q given (length buffer) (told true Done d) in
-        let old : List ℕ = part (readied b (k true) (f true .used)) (bufferAt (k true)) sector in
+        let old : List ℕ = part (readied true b (k true) (f true .used)) (bufferAt (k true)) sector in
         let old-is : old ≡ own true .buffer = readied-buffer b ok (k true) n (f true .used) (in-use (s true) i) in
         let w : Bench = heldAll (scene i (entryAt (s true .table) i)) (effectsWith q (entryAt (s true .table) i) (f true) given (code true) (v true .file .here .sector)) (lent image (holdOf (own true)) old) in
         let does : bench new (stateWith (f true) g (w .file .buffer)) ≡ bufferedAll (c true) (effects q (c true)) (bench image (heldOf (s true) i)) =

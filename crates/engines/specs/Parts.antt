@@ -5,31 +5,24 @@ use mathlib.Core.List.{List}
 use Prim.Native.Nat.{ℕ}
 use lib.ListN.{length}
 use Rattle.geometry.specs.Bytes.{part, lay}
-use Rattle.geometry.specs.Sizes.{sector, entries}
-use Rattle.sessions.specs.Session.{idle}
+use Rattle.geometry.specs.Sizes.{sector}
 use Rattle.steps.specs.Effects.{Bench}
-use Rattle.tables.specs.Tables.{twoWordsWide, layCounts}
-use Rattle.storing.specs.Stored.{layState, layFresh}
 use Rattle.finding.specs.Lent.{bufferAt}
 use Rattle.blocking.specs.Blocking.{lent, scene}
 use Rattle.held.specs.Held.{heldAll}
+use Rattle.advancing.specs.Advancing.{readied}
 use Rattle.plain.specs.Plain.{actedWith}
 use Rattle.buffered.specs.Buffered.{effectsWith}
 use Rattle.sessions.specs.declared.Holding.{Holding}
 use Rattle.requests.specs.declared.Request.{Request}
-use Rattle.steps.specs.declared.Verdict.{Verdict}
 use Rattle.finding.specs.declared.Seen.{Seen}
-
--- the bytes of a session with buffers, with a fresh state of number k if that is not in use
-unfoldable pub readied : List ℕ → ℕ → Bool → List ℕ
-readied b k used = elim used [ true ↦ b | false ↦ layFresh true b k idle ]
 
 -- what a request answered 0 leaves: image, bytes, and what the file holds
 module _ (x : Seen) (i : ℕ) (q : Request) (given code : List ℕ) (k : ℕ) (image b image′ b′ : List ℕ) (h : Holding) where
   -- in a session with buffers: as the effects leave them, worked on the buffer of the file's state
   abbrev pub Acted : Type 0
   Acted =
-      let c : List ℕ = readied b (x .slot) (x .file .used) in
+      let c : List ℕ = readied true b (x .slot) (x .file .used) in
       let w : Bench = heldAll (scene i (x .entry)) (effectsWith q (x .entry) (x .file) given code k) (lent image (x .hold) (part c (bufferAt (x .slot)) sector)) in
       (lent image′ h (w .file .buffer) ≡ w) × (b′ ≡ lay c (bufferAt (x .slot)) (w .file .buffer)) × (length (w .file .buffer) ≡ sector)
 
@@ -41,9 +34,3 @@ module _ (x : Seen) (i : ℕ) (q : Request) (given code : List ℕ) (k : ℕ) (i
 abbrev pub Moved : Bool → Seen → ℕ → Request → List ℕ → List ℕ → ℕ → List ℕ → List ℕ → List ℕ → List ℕ → Holding → Type 0
 Moved true x i q given code k image b image′ b′ h = Acted x i q given code k image b image′ b′ h
 Moved false x i q given code k image b image′ b′ h = Straight x i q given code k image b image′ b′ h
-
--- the bytes with the count and flags of a verdict's entry of number i and its state of number k: one that is open keeps its buffer, one that is closed gets a fresh one
-unfoldable pub layNext : Bool → List ℕ → ℕ → ℕ → Verdict → Holding → List ℕ
-layNext u b i k v h =
-    let c : List ℕ = layCounts twoWordsWide entries b i (v .entry .count) (v .entry .flags) in
-    elim (v .file .used) [ true ↦ layState u c k (v .file) h | false ↦ layFresh u c k (v .file) ]

@@ -1,19 +1,15 @@
 // A request on a session in lent bytes, in both engines: the number of the bytes says which. One judgement serves both, and each moves bytes in its own way.
+use advancing::make_ready;
+use advancing::put_next;
 use finding::Seen;
 use geometry::Geometry;
 use geometry::part;
 use judging::verdict_in;
-use laying::put_counts;
 use requests::Answer;
 use requests::Request;
 use sessions::Holding;
-use sessions::idle;
-use steps::Verdict;
 use storing::Form;
 use storing::has_buffers;
-use storing::put_fresh;
-use storing::put_state;
-use tables::Width;
 ghost use mathlib.Core.Path.{_≡_};
 ghost use Prim.Native.Nat.{_<_};
 ghost use lib.ListN.{length};
@@ -21,19 +17,9 @@ ghost use Rattle.geometry.specs.Sizes.{mostOpen};
 ghost use Rattle.storing.specs.Stored.{hasBuffers};
 ghost use Rattle.judging.specs.Lent.{afterIn};
 ghost use Rattle.engines.specs.Engines.{requested};
-ghost use Rattle.engines.specs.Parts.{readied, Acted, Moved, layNext};
+ghost use Rattle.engines.specs.Parts.{Acted, Moved};
 
 // ---- what a request answered 0 does
-
-// Makes state k fresh, if it is not in use.
-fn make_ready(session: &mut [u8], k: usize, used: bool)
-    requires { ⌜ length (now session) ≡ 1980 ⌝ }
-    ensures { λ _. ⌜ now (session .exit) ≡ readied (now (session .entry)) k used ⌝ }
-{
-    if !used {
-        put_fresh(session, k, idle());
-    }
-}
 
 // In a session with buffers, on the buffer of the file's state, which is made fresh first if it is not in use; k is the sector of the file's next place.
 fn act_held(
@@ -83,20 +69,6 @@ fn act(
 }
 
 // ---- a request
-
-// Lays the count and flags of a verdict's entry over those of entry i, and its state over state k, with what it holds.
-fn put_next(session: &mut [u8], i: usize, k: usize, v: Verdict, h: Holding)
-    ensures { λ _. ⌜ now (session .exit) ≡ layNext (hasBuffers (now (session .entry))) (now (session .entry)) i k v h ⌝ }
-{
-    let e = v.entry;
-    let f = v.file;
-    put_counts(session, Width::TWO, Geometry::ENTRIES, i, e.count, e.flags);
-    if f.used {
-        put_state(session, k, f, h);
-    } else {
-        put_fresh(session, k, f);
-    }
-}
 
 // A request, with room for a code.
 fn request_in(

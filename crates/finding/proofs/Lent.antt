@@ -9,7 +9,7 @@ use lib.Dec.{eqb, ltb}
 use lib.ListN.{length, take, drop, getD, List·getD-eq-default}
 use lib.Seq.{length-take-le, getD-take}
 use borrow.Author.Tests.{eq-eqb, eqb-true, leb-true, lt-ltb, not-true}
-use Rattle.geometry.specs.Bytes.{part, isByte}
+use Rattle.geometry.specs.Bytes.{part}
 use Rattle.geometry.specs.Lists.{every, firstWith, howMany}
 use Rattle.geometry.specs.Sizes.{sector, entries, mostOpen}
 use Rattle.geometry.proofs.Left.{every-on, every-off, every-end}
@@ -33,7 +33,7 @@ use Rattle.tables.proofs.Rows.{length-row, getD-row}
 use Rattle.tables.proofs.Widths.{rows-there}
 use Rattle.storing.specs.Numbers.{isSet, isFlag}
 use Rattle.storing.specs.Stored.{heldWidth, filesAt, width, sizeOf, hasBuffers, fileIn, fileFlags, heldIn, heldFlags, stateFlags, stateIn, holdOf, noHold, isSession, tableIn, statesIn, unlawful, sessionIn, lentSession}
-use Rattle.storing.proofs.Read.{width-least, width-most, asked, other-size, session-size, session-flags, session-is, session-none, bare-states}
+use Rattle.storing.proofs.Read.{width-least, width-most, session-size, session-flags, session-is, session-none, bare-states}
 use Rattle.storing.proofs.Illegal.{unlawful-held}
 use Rattle.finding.specs.Lent.{Spaced, Flagged, filesIn, bareIn, ifUsed, inUse, stateAt, lentBy, lentIn, bufferAt, ownState, seenOf, seenIn}
 
@@ -55,33 +55,7 @@ lent-table b h =
 
 -- ---- bytes that are a session
 
-pub held-wide : (u : Bool) → u ≡ true → width u ≡ 396
-unfolding width
-held-wide u t = ap width t
-
-module _ (u : Bool) (b : List ℕ) (at : ℕ) (x : Bool) (px : x ≡ fileFlags b at) where
-  pub flags-held : u ≡ true → (y z : Bool) → y ≡ isFlag (getD b (at + 30) 0) → z ≡ isFlag (getD b (at + 35) 0) → (x && (y && z)) ≡ stateFlags u b at
-  flags-held t y z py pz = rw (px, py, pz) (sym (ap (λ (v : Bool). stateFlags v b at) t ∙ (unfold stateFlags heldFlags in refl)))
-
-  pub flags-plain : u ≡ false → x ≡ stateFlags u b at
-  flags-plain t = px ∙ sym (ap (λ (v : Bool). stateFlags v b at) t ∙ (unfold stateFlags in refl))
-
 module _ (u : Bool) (b : List ℕ) (w : ℕ) (pw : w ≡ width u) where
-  size : sizeOf u ≡ 396 + 4 * w
-  unfolding sizeOf
-  size = omega (arith, pw)
-
-  pub session-told : length b ≡ 396 + 4 * w → every isByte b ≡ true → (p q r s : Bool)
-      → p ≡ stateFlags u b 396 → q ≡ stateFlags u b (396 + w) → r ≡ stateFlags u b (396 + 2 * w) → s ≡ stateFlags u b (396 + 3 * w) → (p && (q && (r && s))) ≡ isSession u b
-  session-told l bytes p q r s pp pq pr ps =
-      let z₁ : 396 + w ≡ filesAt + width u = omega arith in
-      let z₂ : 396 + 2 * w ≡ filesAt + width u + width u = omega arith in
-      let z₃ : 396 + 3 * w ≡ filesAt + width u + width u + width u = omega arith in
-      rw (pp, pq ∙ ap (stateFlags u b) z₁, pr ∙ ap (stateFlags u b) z₂, ps ∙ ap (stateFlags u b) z₃) (sym (asked u b bytes (l ∙ sym size)))
-
-  pub session-not : ¬ (length b ≡ 396 + 4 * w) → false ≡ isSession u b
-  session-not h = sym (other-size u b λ (l : length b ≡ sizeOf u). h (l ∙ size))
-
   pub spaced : isSession u b ≡ true → Spaced w b
   spaced t =
       let l : length b ≡ filesAt + width u * mostOpen = session-size u b t ∙ (unfold sizeOf in refl) in

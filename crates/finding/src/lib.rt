@@ -5,6 +5,7 @@ use directory::free_entry;
 use geometry::Geometry;
 use geometry::Place;
 use geometry::part;
+use knowing::is_session;
 use sessions::Holding;
 use sessions::OpenFile;
 use sessions::Spot;
@@ -24,15 +25,14 @@ ghost use mathlib.Core.Bool.{true, false, not};
 ghost use mathlib.Core.List.{[], _∷_};
 ghost use Prim.Native.Nat.{_+_, _*_, _≤_, _<_};
 ghost use lib.ListN.{length, getD, take};
-ghost use Rattle.geometry.specs.Bytes.{isByte};
 ghost use Rattle.geometry.specs.Bytes as Bytes;
 ghost use Rattle.geometry.specs.Lists.{every, firstWith};
 ghost use Rattle.directory.specs.Entries.{entryAt};
 ghost use Rattle.tables.specs.Numbers.{numberIn};
 ghost use Rattle.sessions.specs.Session.{idle, bare, isOf, fileOf, slotOf, openFiles, spotOf, heldGood, legal};
 ghost use Rattle.sessions.specs.Grouped.{filesGood};
-ghost use Rattle.storing.specs.Numbers.{isSet, isFlag};
-ghost use Rattle.storing.specs.Stored.{heldWidth, filesAt, width, placeIn, fileIn, fileFlags, stateFlags, heldIn, holdOf, noHold, isSession, tableIn, statesIn, unlawful, lentSession};
+ghost use Rattle.storing.specs.Numbers.{isSet};
+ghost use Rattle.storing.specs.Stored.{heldWidth, filesAt, width, placeIn, fileIn, heldIn, holdOf, noHold, tableIn, statesIn, unlawful, lentSession};
 ghost use Rattle.finding.specs.Lent.{Spaced, Flagged, filesIn, bareIn, ifUsed, inUse, stateAt, lentIn, seenIn};
 
 // What a request asks of a session: whether it is legal for the image, how many files are open, which state is the entry's or is to be,
@@ -92,13 +92,6 @@ fn is_set(b: &[u8], at: usize) -> bool
     b[at] == 1
 }
 
-fn is_flag(b: &[u8], at: usize) -> bool
-    requires { ⌜ at + 1 ≤ length (now b) ⌝ }
-    ensures { λ r. ⌜ (r ≡ isFlag (getD (now (b .entry)) at 0)) × (every isByte (now (b .entry)) ≡ true) ⌝ }
-{
-    b[at] <= 1
-}
-
 // ---- an open-file state
 
 fn place_at(b: &[u8], at: usize) -> Place
@@ -122,41 +115,6 @@ fn file_at(b: &[u8], at: usize) -> OpenFile
         beyond: is_set(b, at + 13),
         here: place_at(b, at + 14),
         end: place_at(b, at + 22),
-    }
-}
-
-// Whether each truth value of a state is 0 or 1.
-fn file_flags(b: &[u8], at: usize) -> bool
-    requires { ⌜ at + 30 ≤ length (now b) ⌝ }
-    ensures { λ r. ⌜ (r ≡ fileFlags (now (b .entry)) at) × (every isByte (now (b .entry)) ≡ true) ⌝ }
-{
-    is_flag(b, at) & is_flag(b, at + 13)
-}
-
-// The same, with what a state with a buffer holds.
-fn state_flags(b: &[u8], buffers: bool, at: usize) -> bool
-    requires { ⌜ at + width buffers ≤ length (now b) ⌝ }
-    ensures { λ r. ⌜ (r ≡ stateFlags buffers (now (b .entry)) at) × (every isByte (now (b .entry)) ≡ true) ⌝ }
-{
-    if buffers {
-        file_flags(b, at) & (is_flag(b, at + 30) & is_flag(b, at + 35))
-    } else {
-        file_flags(b, at)
-    }
-}
-
-// Whether bytes are a session, with buffers or with none.
-pub fn is_session(b: &[u8], buffers: bool) -> bool
-    ensures { λ r. ⌜ r ≡ isSession buffers (now (b .entry)) ⌝ }
-{
-    let w = state_width(buffers);
-    let at = Form::FILES;
-    if b.len() == at + Geometry::MOST_OPEN * w {
-        state_flags(b, buffers, at)
-            & (state_flags(b, buffers, at + w)
-                & (state_flags(b, buffers, at + 2 * w) & state_flags(b, buffers, at + 3 * w)))
-    } else {
-        false
     }
 }
 

@@ -24,7 +24,7 @@ use Rattle.requests.specs.declared.Answer.{Answer}
 use Rattle.requests.specs.declared.Asked.{Asked}
 use Rattle.requests.specs.declared.Asked.the-variants.{For, Unknown}
 use Rattle.requests.specs.declared.Request.{Request}
-use Rattle.lleuadrys.specs.Codes.{unknownNumber}
+use Rattle.numbering.specs.Codes.{unknownNumber}
 use Rattle.lleuadrys.specs.Calls.{left, requested, mountNumber, mountBytes}
 
 -- ---- mounting

@@ -1,7 +1,7 @@
 -- What each call from C answers and leaves in what was lent. Definitions only.
 use mathlib.Core.Bool.{true, false}
 use mathlib.Core.List.{List}
-use Prim.Native.Nat.{ℕ}
+use Prim.Native.Nat.{ℕ, _+_, _*_}
 use lib.Dec.{eqb}
 use lib.ListN.{length}
 use Rattle.requests.specs.Numbers.{numberOf}
@@ -12,7 +12,7 @@ use Rattle.steps.specs.Step.{After}
 use Rattle.storing.specs.Stored.{sizeOf, hasBuffers, layStart}
 use Rattle.looking.specs.Looking.{lookAnswerIn}
 use Rattle.engines.specs.Engines as Engines
-use Rattle.lleuadrys.specs.Codes.{unknownNumber}
+use Rattle.numbering.specs.Codes.{unknownNumber}
 
 -- what a request answers, and what it leaves in the image, the session's bytes and the caller's buffer
 pub record Left : Type 0 where
@@ -38,3 +38,7 @@ mountNumber image b = elim (eqb (length b) (sizeOf (hasBuffers b))) [ true ↦ n
 -- the session that mounting hands out; "A refused mounting hands out a table with no used entry and nothing open"
 unfoldable pub mountBytes : List ℕ → List ℕ → List ℕ
 mountBytes image b = layStart b (plainMount image .session .table)
+
+-- 1.0.0, as one number
+unfoldable pub version : ℕ
+version = 10000 * 1 + 100 * 0 + 0

@@ -1,16 +1,14 @@
 // The calls from C: both engines on a lent image, with the session in lent bytes, whose number says which engine's they are. include/lleuadrys.h has the
 // declarations.
-use decoding::Coded;
 use finding::spot_in;
-use geometry::least;
 use looking::look;
 use looking::look_answer;
 use mounting::mounts;
-use requests::Answer;
+use numbering::tell;
+use numbering::unknown;
 use requests::Asked;
 use requests::by_code;
 use requests::number;
-use sessions::Spot;
 use storing::Form;
 use storing::put_start;
 use telling::field_in;
@@ -29,31 +27,8 @@ ghost use Rattle.sessions.specs.Session.{bare, spotOf};
 ghost use Rattle.storing.specs.Stored.{sizeOf, lentSession};
 ghost use Rattle.looking.specs.Looking.{lookIn, lookPlace};
 ghost use Rattle.telling.specs.Told.{found, fieldIn, wordsOf};
-ghost use Rattle.lleuadrys.specs.Codes.{unknownNumber, standing, recordAt, codeSize, version};
-ghost use Rattle.lleuadrys.specs.Calls.{left, requested, mountNumber, mountBytes};
-
-// ---- numbers for C
-
-// The number of a code that names no request, where a look gives that answer.
-fn unknown(look: Answer) -> u16
-    ensures { λ r. ⌜ r ≡ unknownNumber look ⌝ }
-{
-    let n = number(look);
-    if 8 <= n { n } else { 7 }
-}
-
-// Where a file stands: 0 not open, 1 open, 2 open and beyond the mark; its record goes into at.
-fn tell(spot: Spot, at: &mut u32) -> u16
-    ensures { λ r. ⌜ (r ≡ standing spot) × (now (at .exit) ≡ recordAt spot (now (at .entry))) ⌝ }
-{
-    match spot {
-        Spot::Closed => 0,
-        Spot::At { record, beyond } => {
-            *at = record;
-            if beyond { 2 } else { 1 }
-        }
-    }
-}
+ghost use Rattle.numbering.specs.Codes.{standing, recordAt, codeSize};
+ghost use Rattle.lleuadrys.specs.Calls.{left, requested, mountNumber, mountBytes, version};
 
 // ---- the calls on a session
 
@@ -182,10 +157,7 @@ pub extern "C" fn lleuadrys_decode(code: &[u8], text: &mut [u8]) -> usize
     ensures { λ r. ⌜ (r ≡ codeSize (Decode.decode (length (now (text .entry))) (now (code .entry))))
         × (now (text .exit) ≡ Decode.given (Decode.decode (length (now (text .entry))) (now (code .entry))) (now (text .entry))) ⌝ }
 {
-    match decoding::decode(code, text) {
-        Coded::Good(n) => n,
-        Coded::Bad(_) => 0,
-    }
+    numbering::decode(code, text)
 }
 
 // Codes a record, as far as there is room; the number of bytes put there.
@@ -193,6 +165,5 @@ pub extern "C" fn lleuadrys_decode(code: &[u8], text: &mut [u8]) -> usize
 pub extern "C" fn lleuadrys_encode(text: &[u8], code: &mut [u8]) -> usize
     ensures { λ r. ⌜ (r ≡ min (length (Encode.encode (now (text .entry)))) (length (now (code .entry)))) × (now (code .exit) ≡ sets (now (code .entry)) 0 (Encode.encode (now (text .entry)))) ⌝ }
 {
-    let n = coding::encode(text, code);
-    least(n, code.len())
+    numbering::encode(text, code)
 }

@@ -12,7 +12,7 @@ use Rattle.sessions.specs.declared.Spot.{Spot}
 use Rattle.storing.specs.Stored.{lentSession}
 use Rattle.looking.specs.Looking.{lookIn}
 use Rattle.lleuadrys.specs.Calls.{Left, requested}
-use Rattle.lleuadrys.specs.Codes.{standing, recordAt}
+use Rattle.numbering.specs.Codes.{standing, recordAt}
 use Rattle.scripts.specs.declared.Played.{Played}
 use Rattle.scripts.specs.declared.Row.{Row}
 use Rattle.scripts.specs.Sums.{wordsOf, sumOf}

@@ -1,9 +1,9 @@
 // What a caller is told besides the answers to requests: an entry by its name, a field of an entry, the words of an answer's number.
 use directory::Entry;
 use directory::Found;
-use finding::is_session;
 use geometry::Geometry;
 use geometry::part;
+use knowing::is_session;
 use storing::has_buffers;
 use tables::Width;
 use tables::entry_in;

@@ -4,7 +4,8 @@ use native.Mathlib.Omega.{arith}
 use lib.Dec.{ltb}
 use borrow.Author.Tests.{ltb-true}
 use Rattle.geometry.proofs.Tests.{and-left, and-right}
-use Rattle.finding.proofs.Lent.{held-wide, hold-here, hold-past}
+use Rattle.knowing.proofs.Known.{held-wide}
+use Rattle.finding.proofs.Lent.{hold-here, hold-past}
 use borrow.Author.Needs.{needs}
 use Rattle.finding.proofs.hold_in.Statement.{statement}
 use Rattle.finding.proofs.hold_in.Tie as tie

@@ -5,7 +5,8 @@ use mathlib.Core.Bool.{Bool}
 use Rattle.geometry.specs.Lists.{every}
 use Rattle.sessions.specs.Session.{heldGood}
 use Rattle.storing.specs.Stored.{tableIn, statesIn}
-use Rattle.finding.proofs.Lent.{held-wide, plain-good}
+use Rattle.knowing.proofs.Known.{held-wide}
+use Rattle.finding.proofs.Lent.{plain-good}
 use Rattle.finding.proofs.holds_good.Statement.{statement}
 use Rattle.finding.proofs.holds_good.Tie as tie
 

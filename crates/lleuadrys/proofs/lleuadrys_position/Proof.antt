@@ -1,7 +1,7 @@
 -- The session's spot, told in numbers.
 use mathlib.Core.Path.{ap, _∙_}
 use Rattle.sessions.specs.declared.Spot.{Spot}
-use Rattle.lleuadrys.specs.Codes.{standing, recordAt}
+use Rattle.numbering.specs.Codes.{standing, recordAt}
 use borrow.Author.Needs.{needs}
 use Rattle.lleuadrys.proofs.lleuadrys_position.Statement.{statement}
 use Rattle.lleuadrys.proofs.lleuadrys_position.Tie as tie

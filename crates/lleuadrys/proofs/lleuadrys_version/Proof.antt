@@ -1,6 +1,6 @@
 -- Counted.
 use mathlib.Core.Path.{refl}
-use Rattle.lleuadrys.specs.Codes.{version}
+use Rattle.lleuadrys.specs.Calls.{version}
 use Rattle.lleuadrys.proofs.lleuadrys_version.Statement.{statement}
 use Rattle.lleuadrys.proofs.lleuadrys_version.Tie as tie
 
