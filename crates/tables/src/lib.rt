@@ -3,10 +3,10 @@
 use directory::Entry;
 use directory::Found;
 use directory::free_entry;
-use directory::used_good;
 use geometry::Geometry;
 use geometry::turned;
 use names::is_name;
+use vetting::used_good;
 ghost use mathlib.Core.Path.{_≡_};
 ghost use mathlib.Core.Bool.{true, false, _&&_};
 ghost use mathlib.Core.List.{[], _∷_};

@@ -2,11 +2,11 @@
 use mathlib.Core.Path.{sym, _∙_}
 use native.Mathlib.Omega.{arith}
 use borrow.Author.Tests.{le-leb, lt-leb, not-true, not-false}
 use Rattle.directory.specs.Rules.{flagsKnown}
 use Rattle.directory.proofs.Grouped.{used-outside, used-flagged, used-kind, used-other}
 use borrow.Author.Needs.{needs}
-use Rattle.directory.proofs.used_good.Statement.{statement}
-use Rattle.directory.proofs.used_good.Tie as tie
+use Rattle.vetting.proofs.used_good.Statement.{statement}
+use Rattle.vetting.proofs.used_good.Tie as tie
 
 extent-inside-requires : tie.Need-extent-inside-requires
 extent-inside-requires c κs = search needs

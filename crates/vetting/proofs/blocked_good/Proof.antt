@@ -2,11 +2,11 @@
 use mathlib.Core.Path.{sym, ap, _∙_}
 use lib.Dec.{leb}
 use borrow.Author.Tests.{not-true, not-false}
 use Rattle.directory.specs.Rules.{longest}
 use Rattle.directory.proofs.Grouped.{sizes-off, sizes-blocked}
 use borrow.Author.Needs.{needs}
-use Rattle.directory.proofs.blocked_good.Statement.{statement}
-use Rattle.directory.proofs.blocked_good.Tie as tie
+use Rattle.vetting.proofs.blocked_good.Statement.{statement}
+use Rattle.vetting.proofs.blocked_good.Tie as tie
 
 length-good-requires : tie.Need-length-good-requires
 length-good-requires c κs = search needs

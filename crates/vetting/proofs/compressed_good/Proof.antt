@@ -1,11 +1,11 @@
 -- `directory::compressed_good` meets its contract: R first, then the count.
 use mathlib.Core.Path.{sym, ap, _∙_}
 use borrow.Author.Tests.{not-true, not-false}
 use Rattle.directory.specs.Rules.{longest}
 use Rattle.directory.proofs.Grouped.{sizes-off, sizes-compressed}
 use borrow.Author.Needs.{needs}
-use Rattle.directory.proofs.compressed_good.Statement.{statement}
-use Rattle.directory.proofs.compressed_good.Tie as tie
+use Rattle.vetting.proofs.compressed_good.Statement.{statement}
+use Rattle.vetting.proofs.compressed_good.Tie as tie
 
 length-good-requires : tie.Need-length-good-requires
 length-good-requires c κs = search needs

@@ -1,8 +1,8 @@
 -- `directory::extent_inside` meets its contract: the code is the definition.
 use mathlib.Core.Path.{refl}
 use borrow.Author.Needs.{needs}
-use Rattle.directory.proofs.extent_inside.Statement.{statement}
-use Rattle.directory.proofs.extent_inside.Tie as tie
+use Rattle.vetting.proofs.extent_inside.Statement.{statement}
+use Rattle.vetting.proofs.extent_inside.Tie as tie
 
 cast-result : tie.Need-cast-result
 cast-result c = search needs

@@ -6,11 +6,11 @@ use native.Mathlib.Omega.{arith}
 use lib.Dec.{leb}
 use borrow.Author.Tests.{not-true, not-false}
 use Rattle.geometry.specs.Places.{sectorsFor}
 use Rattle.directory.specs.Rules.{longest}
 use Rattle.directory.proofs.Grouped.{sizes-off, sizes-unblocked}
 use borrow.Author.Needs.{needs}
-use Rattle.directory.proofs.unblocked_good.Statement.{statement}
-use Rattle.directory.proofs.unblocked_good.Tie as tie
+use Rattle.vetting.proofs.unblocked_good.Statement.{statement}
+use Rattle.vetting.proofs.unblocked_good.Tie as tie
 
 length-good-requires : tie.Need-length-good-requires
 length-good-requires c κs = search needs

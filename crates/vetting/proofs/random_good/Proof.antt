@@ -3,11 +3,11 @@ use mathlib.Core.Path.{sym, ap, _∙_}
 use mathlib.Core.Bool.{Bool, _&&_, not}
 use lib.Dec.{eqb}
 use borrow.Author.Tests.{not-true, not-false}
 use Rattle.directory.specs.Rules.{longest}
 use Rattle.directory.proofs.Grouped.{sizes-off, sizes-random}
 use borrow.Author.Needs.{needs}
-use Rattle.directory.proofs.random_good.Statement.{statement}
-use Rattle.directory.proofs.random_good.Tie as tie
+use Rattle.vetting.proofs.random_good.Statement.{statement}
+use Rattle.vetting.proofs.random_good.Tie as tie
 
 length-good-requires : tie.Need-length-good-requires
 length-good-requires c κs = search needs
