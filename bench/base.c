@@ -162,7 +162,7 @@ static bool is_digit(uint8_t c)
     return c >= 0xF0 && c <= 0xF9;
 }
 
-static bool name_is_good(const uint8_t name[8])
+static inline __attribute__((always_inline)) bool name_is_good(const uint8_t name[8])
 {
     int i = 1;
     if (!is_capital(name[0]))
@@ -181,7 +181,7 @@ static bool is_zero(const struct entry *e)
            e->count == 0 && e->flags == 0;
 }
 
-static bool length_is_good(const struct entry *e)
+static inline __attribute__((always_inline)) bool length_is_good(const struct entry *e)
 {
     unsigned most = e->kind == BLOCKED ? 360 : e->kind == COMPRESSED ? LONGEST_PACKED : 3600;
     return e->length % 2 == 0 && e->length >= 2 && e->length <= most;
@@ -633,11 +633,12 @@ static enum answer serve(struct work *w, enum request code, uint32_t granule, co
 struct desk {
     const struct entry *table;
     const struct open_file *file[MOST_OPEN];
+    bool refused;
 };
 
 static struct desk plain_desk(const struct session *s)
 {
-    struct desk d = {.table = s->table};
+    struct desk d = {.table = s->table, .refused = s->refused};
     for (int k = 0; k < MOST_OPEN; k++)
         d.file[k] = &s->files[k];
     return d;
@@ -645,7 +646,7 @@ static struct desk plain_desk(const struct session *s)
 
 static struct desk buffered_desk(const struct buffered_session *s)
 {
-    struct desk d = {.table = s->table};
+    struct desk d = {.table = s->table, .refused = s->refused};
     for (int k = 0; k < MOST_OPEN; k++)
         d.file[k] = &s->files[k].file;
     return d;
@@ -668,6 +669,18 @@ static bool file_is_good(const struct entry table[ENTRIES], const struct open_fi
     return e->kind != COMPRESSED || (place_is_good(e, f->here) && place_is_good(e, f->end));
 }
 
+/* No used entry and no open file. */
+static bool is_empty(const struct desk *d)
+{
+    for (int i = 0; i < ENTRIES; i++)
+        if (d->table[i].kind != FREE)
+            return false;
+    for (int k = 0; k < MOST_OPEN; k++)
+        if (d->file[k]->used)
+            return false;
+    return true;
+}
+
 /* The session is legal for an image of this size, but for what its buffers hold. */
 static bool is_legal(const struct desk *d, size_t size)
 {
@@ -683,7 +696,7 @@ static bool is_legal(const struct desk *d, size_t size)
             if (d->file[j]->used && d->file[j]->entry == d->file[k]->entry)
                 return false;
     }
-    return true;
+    return !d->refused || is_empty(d);
 }
 
 /* Each held sector lies in its file's extent. Asked of a session that is legal else. */
@@ -785,6 +798,7 @@ enum answer base_mount(const uint8_t *image, size_t size, struct session *s)
     if (read_table(image, size, s->table))
         return DONE;
     memset(s->table, 0, sizeof s->table);
+    s->refused = true;
     return BAD_IMAGE;
 }
 
@@ -794,6 +808,7 @@ enum answer base_buffered_mount(const uint8_t *image, size_t size, struct buffer
     if (read_table(image, size, s->table))
         return DONE;
     memset(s->table, 0, sizeof s->table);
+    s->refused = true;
     return BAD_IMAGE;
 }
 
@@ -891,6 +906,122 @@ struct spot base_buffered_position(const struct buffered_session *s, size_t entr
 {
     struct desk d = buffered_desk(s);
     return position(&d, entry);
+}
+
+/* ---- edits ---- */
+
+/* The first sector of the lowest gap of so many, or the image's sectors if there is none. */
+static uint32_t lowest_gap(const struct entry table[ENTRIES], uint32_t sectors, uint32_t n)
+{
+    uint32_t at = 1;
+    while (at + n <= sectors) {
+        uint32_t moved = at;
+        for (int i = 0; i < ENTRIES; i++) {
+            const struct entry *e = &table[i];
+            if (e->kind != FREE && e->first < moved + n && moved < (uint32_t)e->first + e->sectors)
+                moved = (uint32_t)e->first + e->sectors;
+        }
+        if (moved == at)
+            return at;
+        at = moved;
+    }
+    return sectors;
+}
+
+static void put_entry(uint8_t *b, const struct entry *e)
+{
+    memcpy(b, e->name, 8);
+    put_word(b + 8, e->kind);
+    put_word(b + 10, e->length);
+    put_word(b + 12, e->first);
+    put_word(b + 14, e->sectors);
+    put_word(b + 16, e->count);
+    put_word(b + 18, e->flags);
+}
+
+/* The tests of an adding behind 12, and its entry, in the table and in the image. */
+static enum answer add(const struct desk *d, uint8_t *image, size_t size,
+                       struct entry table[ENTRIES], const uint8_t *name, size_t name_size,
+                       struct entry e, size_t *entry)
+{
+    size_t n = 0;
+    if (d->refused)
+        return BAD_IMAGE;
+    if (name_size != 8 || !name_is_good(name))
+        return BAD_NAME;
+    if (e.kind == FREE || e.kind > RANDOM || !length_is_good(&e) || e.sectors == 0)
+        return BAD_SHAPE;
+    for (int i = 0; i < ENTRIES; i++)
+        if (table[i].kind != FREE && memcmp(table[i].name, name, 8) == 0)
+            return NAME_IN_USE;
+    while (n < ENTRIES && table[n].kind != FREE)
+        n++;
+    if (n == ENTRIES)
+        return NO_ENTRY;
+    uint32_t sectors = sectors_of(size), first = lowest_gap(table, sectors, e.sectors);
+    if (first == sectors)
+        return NO_GAP;
+    memcpy(e.name, name, 8);
+    e.first = (uint16_t)first;
+    table[n] = e;
+    put_entry(image + ENTRY_BYTES * n, &e);
+    *entry = n;
+    return DONE;
+}
+
+/* The tests of a deleting behind 12; the entry is zeroed in the table and in the image. */
+static enum answer delete_file(const struct desk *d, uint8_t *image, struct entry table[ENTRIES],
+                               size_t entry)
+{
+    if (no_such_entry(d, entry))
+        return NOT_THERE;
+    if (slot_of(d, entry) >= 0)
+        return ALREADY_OPEN;
+    memset(&table[entry], 0, sizeof table[entry]);
+    memset(image + ENTRY_BYTES * entry, 0, ENTRY_BYTES);
+    return DONE;
+}
+
+static struct entry shaped(uint16_t kind, uint16_t length, uint16_t sectors)
+{
+    return (struct entry){.kind = kind, .length = length, .sectors = sectors};
+}
+
+enum answer base_add(uint8_t *image, size_t size, struct session *s, const uint8_t *name,
+                     size_t name_size, uint16_t kind, uint16_t length, uint16_t sectors,
+                     size_t *entry)
+{
+    struct desk d = plain_desk(s);
+    if (!is_legal(&d, size))
+        return NOT_LEGAL;
+    return add(&d, image, size, s->table, name, name_size, shaped(kind, length, sectors), entry);
+}
+
+enum answer base_buffered_add(uint8_t *image, size_t size, struct buffered_session *s,
+                              const uint8_t *name, size_t name_size, uint16_t kind,
+                              uint16_t length, uint16_t sectors, size_t *entry)
+{
+    struct desk d = buffered_desk(s);
+    if (!is_legal(&d, size) || !holds_are_legal(s))
+        return NOT_LEGAL;
+    return add(&d, image, size, s->table, name, name_size, shaped(kind, length, sectors), entry);
+}
+
+enum answer base_delete(uint8_t *image, size_t size, struct session *s, size_t entry)
+{
+    struct desk d = plain_desk(s);
+    if (!is_legal(&d, size))
+        return NOT_LEGAL;
+    return delete_file(&d, image, s->table, entry);
+}
+
+enum answer base_buffered_delete(uint8_t *image, size_t size, struct buffered_session *s,
+                                 size_t entry)
+{
+    struct desk d = buffered_desk(s);
+    if (!is_legal(&d, size) || !holds_are_legal(s))
+        return NOT_LEGAL;
+    return delete_file(&d, image, s->table, entry);
 }
 
 /* ---- the listing ---- */

@@ -1,4 +1,4 @@
-/* The file layer of document 01 in plain C: the baseline that the proved one is measured against.
+/* The file layer of document 01, with document 02's item 1, in plain C: the baseline that the proved one is measured against.
    The same work and the same checks, written plainly: sessions by pointer, bytes moved by memcpy. */
 #ifndef BASE_H
 #define BASE_H
@@ -22,7 +22,7 @@ enum {
 enum kind { FREE, UNBLOCKED, BLOCKED, COMPRESSED, RANDOM };
 enum flag { MARKED = 1, PROTECTED = 2 };
 
-/* Document 01's answer numbers. */
+/* The documents' answer numbers. */
 enum answer {
     DONE,
     END_OF_FILE,
@@ -36,7 +36,12 @@ enum answer {
     ALREADY_OPEN,
     FIFTH_FILE,
     BAD_IMAGE,
-    NOT_LEGAL
+    NOT_LEGAL,
+    BAD_NAME,
+    NAME_IN_USE,
+    NO_ENTRY,
+    NO_GAP,
+    BAD_SHAPE
 };
 
 /* Request codes. */
@@ -90,11 +95,13 @@ struct buffered_file {
 struct session {
     struct entry table[ENTRIES];
     struct open_file files[MOST_OPEN];
+    bool refused; /* from a refused mounting */
 };
 
 struct buffered_session {
     struct entry table[ENTRIES];
     struct buffered_file files[MOST_OPEN];
+    bool refused;
 };
 
 /* A part of the image, shown in place; of size 0 when refused. */
@@ -123,6 +130,10 @@ enum answer base_request(uint8_t *image, size_t size, struct session *s, size_t 
 struct part base_look(const uint8_t *image, size_t size, const struct session *s, size_t entry,
                       uint32_t granule);
 struct spot base_position(const struct session *s, size_t entry);
+enum answer base_add(uint8_t *image, size_t size, struct session *s, const uint8_t *name,
+                     size_t name_size, uint16_t kind, uint16_t length, uint16_t sectors,
+                     size_t *entry);
+enum answer base_delete(uint8_t *image, size_t size, struct session *s, size_t entry);
 
 /* The engine with a blocking buffer for each open blocked or compressed file. */
 enum answer base_buffered_mount(const uint8_t *image, size_t size, struct buffered_session *s);
@@ -133,6 +144,11 @@ enum answer base_buffered_request(uint8_t *image, size_t size, struct buffered_s
 struct part base_buffered_look(const uint8_t *image, size_t size,
                                const struct buffered_session *s, size_t entry, uint32_t granule);
 struct spot base_buffered_position(const struct buffered_session *s, size_t entry);
+enum answer base_buffered_add(uint8_t *image, size_t size, struct buffered_session *s,
+                              const uint8_t *name, size_t name_size, uint16_t kind,
+                              uint16_t length, uint16_t sectors, size_t *entry);
+enum answer base_buffered_delete(uint8_t *image, size_t size, struct buffered_session *s,
+                                 size_t entry);
 
 /* The listing. Returns the length of the text, and puts as much of it into `out` as fits. */
 size_t base_list(const uint8_t *image, size_t size, char *out, size_t room);

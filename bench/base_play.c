@@ -58,6 +58,15 @@ static int refuse(const char *why)
     return 1;
 }
 
+/* Codes of rows that are no requests of a file. */
+enum { ADD_ROW = 14, DELETE_ROW = 15 };
+
+/* How many of the bytes given a row uses up. */
+static size_t row_uses(unsigned code, size_t length)
+{
+    return code == WRITE || code == GRANULE_WRITE || code == ADD_ROW ? length : 0;
+}
+
 /* Tests every row; prints why the first that is not in order is not. */
 static bool rows_are_good(struct bytes script, size_t left)
 {
@@ -72,13 +81,14 @@ static bool rows_are_good(struct bytes script, size_t left)
             printf("ERROR row %zu: unknown shape (the last two words are not zero)\n", row);
             return false;
         }
-        if (code < OPEN || code > FILE_BACK) {
+        if (code < OPEN || code > DELETE_ROW) {
             printf("ERROR row %zu: unknown code %u\n", row, code);
             return false;
         }
-        size_t uses = code == WRITE || code == GRANULE_WRITE ? length : 0;
+        size_t uses = row_uses(code, length);
         if (uses > left) {
-            printf("ERROR row %zu: bytes are missing for its write of %zu\n", row, uses);
+            printf("ERROR row %zu: bytes are missing for its %s of %zu\n", row,
+                   code == ADD_ROW ? "name" : "write", uses);
             return false;
         }
         left -= uses;
@@ -88,6 +98,25 @@ static bool rows_are_good(struct bytes script, size_t left)
 
 static struct session plain;
 static struct buffered_session buffered;
+
+/* An adding or a deleting; prints its line. */
+static void edit(bool with_buffers, struct bytes image, const uint8_t *b, size_t row,
+                 const uint8_t *given)
+{
+    uint16_t first = (uint16_t)word(b + 2), length = (uint16_t)word(b + 6),
+             sectors = (uint16_t)word(b + 8);
+    size_t name = word(b + 4), entry = 0;
+    enum answer a;
+    if (word(b) == DELETE_ROW)
+        a = with_buffers ? base_buffered_delete(image.at, image.size, &buffered, first)
+                         : base_delete(image.at, image.size, &plain, first);
+    else
+        a = with_buffers ? base_buffered_add(image.at, image.size, &buffered, given, name, first,
+                                             length, sectors, &entry)
+                         : base_add(image.at, image.size, &plain, given, name, first, length,
+                                    sectors, &entry);
+    printf("%zu %d %zu - -\n", row, a, entry);
+}
 
 static void play(bool with_buffers, struct bytes image, struct bytes script, const uint8_t *given)
 {
@@ -100,6 +129,11 @@ static void play(bool with_buffers, struct bytes image, struct bytes script, con
         const uint8_t *b = script.at + at;
         enum request code = word(b);
         size_t entry = word(b + 2), length = word(b + 4);
+        if (word(b) >= ADD_ROW) {
+            edit(with_buffers, image, b, row, given);
+            given += row_uses(word(b), length);
+            continue;
+        }
         uint32_t granule = word(b + 6);
         struct part moved = {buffer, 0};
         memset(buffer, 0, length);
@@ -122,8 +156,7 @@ static void play(bool with_buffers, struct bytes image, struct bytes script, con
             printf("%u %d\n", spot.record, spot.beyond);
         else
             printf("- -\n");
-        if (code == WRITE || code == GRANULE_WRITE)
-            given += length;
+        given += row_uses(code, length);
     }
 }
 

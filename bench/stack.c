@@ -63,7 +63,7 @@ static int make_stack(void)
 
 enum { PLAIN, BUFFERED, ENGINES };
 enum { MOUNT, NO_SESSION, ANY_REQUEST, LAST_REQUEST = ANY_REQUEST + 13, LOOK, POSITION, FIND, FIELD,
-       LIST, WORDS_PUT, DECODE, ENCODE, SIZES, ROWS };
+       ADD, DELETE, LIST, WORDS_PUT, DECODE, ENCODE, SIZES, ROWS };
 static const char *const names[ROWS] = {
     [MOUNT] = "`lleuadrys_mount`",
     [NO_SESSION] = "`lleuadrys_request`, any bytes for a session",
@@ -85,6 +85,8 @@ static const char *const names[ROWS] = {
     [POSITION] = "`lleuadrys_position`",
     [FIND] = "`lleuadrys_find`",
     [FIELD] = "`lleuadrys_field`",
+    [ADD] = "`lleuadrys_add`",
+    [DELETE] = "`lleuadrys_delete`",
     [LIST] = "`lleuadrys_list`",
     [WORDS_PUT] = "`lleuadrys_words`",
     [DECODE] = "`lleuadrys_decode`",
@@ -272,6 +274,22 @@ static void try_entry(int engine, size_t session_size, size_t entry)
     done[FIELD][engine] += TRY(FIELD, engine, lleuadrys_field, A(session), session_size, entry, any(8)) != 0;
 }
 
+/* A file of any kind added, often one that may be, and one deleted. */
+static void try_edits(int engine, size_t session_size, size_t entry)
+{
+    static const uint16_t lengths[] = {0, 1, 24, 80, 132, 134, 180, 360, 362, 3600, 3602};
+    static uint8_t name[16];
+    static size_t added;
+    memset(name, 0x40, sizeof name);
+    name[0] = (uint8_t)(0xC0 + any(10));
+    name[1] = (uint8_t)(0xF0 + any(11));
+    uint64_t answer = TRY(ADD, engine, lleuadrys_add, A(image), sizeof image, A(session), session_size, A(name),
+                          any(8) == 0 ? any(16) : 8, any(6), lengths[any(11)], any(8) == 0 ? any(65536) : any(4), A(&added));
+    done[ADD][engine] += answer == 0;
+    answer = TRY(DELETE, engine, lleuadrys_delete, A(image), sizeof image, A(session), session_size, entry);
+    done[DELETE][engine] += answer == 0;
+}
+
 /* Entry numbers: those that there are, the one behind them, the greatest. */
 static size_t any_entry(void)
 {
@@ -297,6 +315,8 @@ static void walk(int engine, const uint8_t *from, unsigned steps)
         try_look(engine, size, entry, any(9));
         try_position(engine, size, entry);
         try_entry(engine, size, entry);
+        if (k % 16 == 0)
+            try_edits(engine, size, any_entry());
         memcpy(kept, session, size);
         if (k % 8 == 0)
             fill(session, size);
@@ -306,6 +326,8 @@ static void walk(int engine, const uint8_t *from, unsigned steps)
         try_look(engine, size, entry, any(9));
         try_position(engine, size, entry);
         try_entry(engine, size, entry);
+        if (k % 4 == 0)
+            try_edits(engine, size, entry);
         memcpy(session, kept, size);
     }
 }
@@ -313,7 +335,7 @@ static void walk(int engine, const uint8_t *from, unsigned steps)
 /* Every number of lent bytes near that of a session, and images of every odd length. */
 static void try_lengths(int engine)
 {
-    static const size_t near[] = {0, 1, 515, 517, 1979, 1981};
+    static const size_t near[] = {0, 1, 516, 518, 1980, 1982};
     static const size_t sizes[] = {0, 1, 359, 360, 361, 720, sizeof mixed - 1, sizeof mixed};
     for (size_t k = 0; k < sizeof near / sizeof *near; k++) {
         try_mount(engine, mixed, sizeof mixed, near[k]);
@@ -387,7 +409,7 @@ int main(void)
         TRY(LIST, PLAIN, lleuadrys_list, A(hostile), sizeof hostile, A(out), k);
     }
     for (unsigned k = 0; k < 1600; k++)
-        done[WORDS_PUT][PLAIN] += TRY(WORDS_PUT, PLAIN, lleuadrys_words, k % 16, A(out), any(60)) != 0;
+        done[WORDS_PUT][PLAIN] += TRY(WORDS_PUT, PLAIN, lleuadrys_words, k % 20, A(out), any(60)) != 0;
     try_codes();
     done[SIZES][PLAIN] += TRY(SIZES, PLAIN, lleuadrys_version, 0) == LLEUADRYS_VERSION;
     done[SIZES][PLAIN] += TRY(SIZES, PLAIN, lleuadrys_session_size, 0) == LLEUADRYS_SESSION;

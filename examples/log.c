@@ -1,5 +1,6 @@
 /* Logs one pass on an image: finds its files by name, writes frames into the blocked file TRACE and a line into the compressed
-   file PASSLOG, with the buffered engine; closes both, lists the directory, and reads the last line back.
+   file PASSLOG, with the buffered engine; closes both, lists the directory, and reads the last line back. Then it adds a file
+   REMARKS and writes a line into it, and deletes NOTES.
 
        log IMAGE
 
@@ -78,14 +79,29 @@ static void say(const char *what, unsigned answer)
     printf("%s: %u, %.*s\n", what, answer, (int)n, (const char *)words);
 }
 
-/* The entry of that name, with blanks behind it. */
-static unsigned find(const char *name, size_t *entry)
+/* Room for a name, and one in it, with blanks behind it. */
+static uint8_t wanted[LLEUADRYS_NAME];
+
+static void want(const char *name)
 {
-    uint8_t wanted[LLEUADRYS_NAME];
     size_t n = 0;
     for (size_t i = 0; i < sizeof wanted; i++)
         wanted[i] = name[n] != 0 ? to_ebcdic(name[n++]) : 0x40;
+}
+
+/* The entry of that name. */
+static unsigned find(const char *name, size_t *entry)
+{
+    want(name);
     return lleuadrys_find(session, sizeof session, wanted, sizeof wanted, entry);
+}
+
+/* Adds a compressed file of that name; its entry. */
+static unsigned add(const char *name, uint16_t sectors, size_t *entry)
+{
+    want(name);
+    return lleuadrys_add(image, image_size, session, sizeof session, wanted, sizeof wanted, LLEUADRYS_COMPRESSED, LINE,
+                         sectors, entry);
 }
 
 /* A frame of telemetry: its number in two bytes, then a ramp. */
@@ -99,7 +115,7 @@ static unsigned write_frame(unsigned k)
     return give(trace, LLEUADRYS_WRITE, frame, FRAME);
 }
 
-static unsigned write_line(const char *line)
+static unsigned write_line(size_t entry, const char *line)
 {
     uint8_t out[LINE];
     size_t n = 0;
@@ -109,7 +125,7 @@ static unsigned write_line(const char *line)
     }
     if (n % 2 == 1)
         out[n++] = 0x40; /* a write takes an even number of bytes */
-    return give(passlog, LLEUADRYS_WRITE, out, n);
+    return give(entry, LLEUADRYS_WRITE, out, n);
 }
 
 static void print_record(size_t entry)
@@ -167,7 +183,7 @@ static void log_pass(void)
         k++;
     printf("frames written: %u\n", k);
     say("one more", a);
-    say("a line", write_line("PASS 424   AOS 184694   LOS 185803   MAX EL 76   FRAMES 576"));
+    say("a line", write_line(passlog, "PASS 424   AOS 184694   LOS 185803   MAX EL 76   FRAMES 576"));
     say("a granule of CURVES", give(curves, LLEUADRYS_GRANULE_WRITE, granule, sizeof granule));
     print_position("TRACE", trace);
     print_position("PASSLOG", passlog);
@@ -186,6 +202,22 @@ static void read_back(void)
         continue;
     print_record(passlog);
     say("closing PASSLOG", order(passlog, LLEUADRYS_REWIND_OFFLINE));
+}
+
+/* Adds REMARKS, writes a line into it, and deletes NOTES, whose sectors are then free. */
+static void edit_directory(void)
+{
+    size_t remarks = 0, notes = 0;
+    say("adding REMARKS with 60 sectors", add("REMARKS", 60, &remarks));
+    say("with 2", add("REMARKS", 2, &remarks));
+    say("once more", add("REMARKS", 2, &remarks));
+    say("opening REMARKS", order(remarks, LLEUADRYS_OPEN));
+    say("a line", write_line(remarks, "NOTES ARE ON PAPER NOW"));
+    say("finding NOTES", find("NOTES", &notes));
+    say("deleting NOTES", lleuadrys_delete(image, image_size, session, sizeof session, notes));
+    say("deleting REMARKS", lleuadrys_delete(image, image_size, session, sizeof session, remarks));
+    say("closing REMARKS", order(remarks, LLEUADRYS_REWIND_OFFLINE));
+    print_listing();
 }
 
 /* Whether this was compiled for the library that is linked: each constant is what a call says. */
@@ -226,6 +258,7 @@ int main(int argc, char **argv)
     log_pass();
     print_listing();
     read_back();
+    edit_directory();
     file = fopen(argv[1], "wb");
     if (file == NULL || fwrite(image, 1, image_size, file) != image_size || fclose(file) != 0) {
         printf("log: the image was not written back\n");

@@ -13,9 +13,9 @@
              with lleuadrys_order, which takes no pointer for them.
    CALLERS   Calls on different images and sessions may run at once. Of one image or one session there is one caller at a
              time: while a call that may change it runs, no other call may be lent the same bytes.
-   STACK     At most 824 bytes in a request, 512 in a listing, 352 for words, 344 in a look, 232 in a mounting and 120 in any
-             other call, whatever is lent: measured (docs/BENCHMARKS.md). What calls itself does so at most once for each
-             byte of a sector.
+   STACK     At most 824 bytes in a request, 568 in an adding or a deleting, 512 in a listing, 464 for words, 344 in a look,
+             232 in a mounting and 120 in any other call, whatever is lent: measured (docs/BENCHMARKS.md). What calls itself
+             does so at most once for each byte of a sector.
    IMAGE     360 times N bytes, N from 1 to 4,096: sector 0 is the directory.
    SESSION   LLEUADRYS_SESSION bytes for the engine that moves every byte straight in the image, or
              LLEUADRYS_BUFFERED_SESSION for the one with a blocking buffer of 360 bytes for each open file, which writes
@@ -32,8 +32,9 @@
              the file open: document 01 has none. Close the file and open it again; record forward, as often as
              lleuadrys_position told, leads back to where it stood.
 
-   A request that is refused (3 to 12) changes nothing that was lent. Every call answers on every input: whatever stands in
-   the image, the session and the buffers. The contracts are in crates/lleuadrys/src/lib.rt.
+   A request that is refused (3 to 12), or an adding or deleting that is (8, 9, 11 to 17), changes nothing that was lent.
+   Every call answers on every input: whatever stands in the image, the session and the buffers. The contracts are in
+   crates/lleuadrys/src/lib.rt.
 
    REQUESTS, by code                       takes              gives
       1  opening
@@ -49,7 +50,8 @@
      11  record back
      12  file forward: beyond the mark
      13  file back: before the mark
-   Any other code gets 12 or 8 where those are due, and else 7. */
+   Any other code gets 12 or 8 where those are due, and else 7: also 14 and 15, by which a script adds and deletes files.
+   For that there are lleuadrys_add and lleuadrys_delete. */
 #ifndef LLEUADRYS_H
 #define LLEUADRYS_H
 
@@ -60,10 +62,10 @@
 extern "C" {
 #endif
 
-/* 10,000 times the first number, 100 times the second, and the third: this is 1.0.0. */
-#define LLEUADRYS_VERSION 10000
+/* 10,000 times the first number, 100 times the second, and the third: this is 2.0.0. */
+#define LLEUADRYS_VERSION 20000
 
-/* What a request and a mounting answer. */
+/* What a request, a mounting, an adding and a deleting answer. */
 enum lleuadrys_answer {
     LLEUADRYS_DONE = 0,
     LLEUADRYS_END_OF_FILE = 1,       /* met: the position crossed the mark */
@@ -75,10 +77,15 @@ enum lleuadrys_answer {
                                         buffer under the record length */
     LLEUADRYS_WRONG_SEQUENCE = 7,    /* wrong kind of file for the request, or out of sequence; or a code of no request */
     LLEUADRYS_NOT_THERE = 8,         /* no such entry, or its file is not open */
-    LLEUADRYS_ALREADY_OPEN = 9,      /* opening an open file */
+    LLEUADRYS_ALREADY_OPEN = 9,      /* opening or deleting an open file */
     LLEUADRYS_FIFTH_FILE = 10,       /* four files are open */
     LLEUADRYS_BAD_IMAGE = 11,        /* bad image, or a bad code met */
-    LLEUADRYS_NOT_LEGAL = 12         /* the session is not legal for this image */
+    LLEUADRYS_NOT_LEGAL = 12,        /* the session is not legal for this image */
+    LLEUADRYS_BAD_NAME = 13,         /* these and the next are an adding's alone: no name, or not 8 bytes */
+    LLEUADRYS_NAME_IN_USE = 14,      /* a file has that name */
+    LLEUADRYS_NO_ENTRY = 15,         /* the directory has 18 files */
+    LLEUADRYS_NO_GAP = 16,           /* no gap of that many sectors */
+    LLEUADRYS_BAD_SHAPE = 17         /* bad kind, a length that its kind does not take, or no sector */
 };
 
 enum lleuadrys_code {
@@ -123,8 +130,8 @@ enum lleuadrys_kind {
 
 /* Sizes in bytes, and limits. */
 enum {
-    LLEUADRYS_SESSION = 516,            /* a session; lleuadrys_session_size gives the same number */
-    LLEUADRYS_BUFFERED_SESSION = 1980,  /* one with buffers; lleuadrys_buffered_session_size */
+    LLEUADRYS_SESSION = 517,            /* a session; lleuadrys_session_size gives the same number */
+    LLEUADRYS_BUFFERED_SESSION = 1981,  /* one with buffers; lleuadrys_buffered_session_size */
     LLEUADRYS_SECTOR = 360,
     LLEUADRYS_MOST_SECTORS = 4096,      /* of an image */
     LLEUADRYS_ENTRIES = 18,             /* of a directory */
@@ -141,8 +148,8 @@ size_t lleuadrys_session_size(void);
 size_t lleuadrys_buffered_session_size(void);
 
 /* Mounts an image: 0, with the session written, in which nothing is open; 11 for a bad image, with a session written that
-   has no used entry, so that every request on it is answered 8 or 12; 12, and the session as it was, if the lent bytes are
-   not as many as a session takes. */
+   has no used entry and says that it is from a refused mounting, so that every request on it is answered 8 or 12; 12, and
+   the session as it was, if the lent bytes are not as many as a session takes. */
 uint16_t lleuadrys_mount(const uint8_t *image, size_t image_size, uint8_t *session, size_t session_size);
 
 /* A request on an entry. given is what a write takes, buffer what a read fills; a request that needs neither, or no
@@ -177,6 +184,24 @@ uint16_t lleuadrys_find(const uint8_t *session, size_t session_size, const uint8
 /* A field of an entry, an enum lleuadrys_field, with count and flags as they are by now; 0 for any other number, where the
    entry is free or not there, and where the bytes are no session. */
 uint32_t lleuadrys_field(const uint8_t *session, size_t session_size, size_t entry, uint16_t field);
+
+/* ---- the RAD Editor's ADD and DELETE. Each changes one entry, in the image's directory and in the session, and no other byte;
+   neither opens or closes a file, and files that are open stand as they stood. */
+
+/* Adds a file: 0, with *entry the number of its entry, the lowest that was free, and its extent in the lowest gap that holds
+   it. name has 8 bytes in EBCDIC, blanks (hex 40) behind it; kind is an enum lleuadrys_kind, length that of a record or
+   granule. The file has no records, no mark and no protection, and is not open; a random file shows as its granules what
+   lies in those sectors, so write each before it is read. Else *entry is as it was, and the answer is the first of these
+   that is due: 12; 11 where the session is from a refused mounting: make the image anew; 13 and 17 for what no file may
+   have; 14 where the name is in use: find it, and delete it if it shall go; 15 and 16 where there is no room: delete a file
+   that nobody needs. */
+uint16_t lleuadrys_add(uint8_t *image, size_t image_size, uint8_t *session, size_t session_size, const uint8_t *name,
+                       size_t name_size, uint16_t kind, uint16_t length, uint16_t sectors, size_t *entry);
+
+/* Deletes the file of an entry, protected or not: 0, with the entry free and zero, and its sectors free for the next file
+   that is added; their bytes stay as they are until then. 12; 8 where there is no such file; 9 where it is open: close it
+   first. */
+uint16_t lleuadrys_delete(uint8_t *image, size_t image_size, uint8_t *session, size_t session_size, size_t entry);
 
 /* ---- no session */
 

@@ -33,6 +33,19 @@ static bool plain_position(const struct side_session *s, size_t entry, uint32_t 
     return spot.open;
 }
 
+static unsigned plain_add(uint8_t *image, size_t size, struct side_session *s, const uint8_t *name,
+                          size_t name_size, uint16_t kind, uint16_t length, uint16_t sectors,
+                          size_t *entry)
+{
+    return base_add(image, size, (struct session *)s, name, name_size, kind, length, sectors,
+                    entry);
+}
+
+static unsigned plain_remove(uint8_t *image, size_t size, struct side_session *s, size_t entry)
+{
+    return base_delete(image, size, (struct session *)s, entry);
+}
+
 static unsigned buffered_mount(const uint8_t *image, size_t size, struct side_session *s)
 {
     return base_buffered_mount(image, size, (struct buffered_session *)s);
@@ -62,9 +75,23 @@ static bool buffered_position(const struct side_session *s, size_t entry, uint32
     return spot.open;
 }
 
-const struct side_engine side_plain = {plain_mount, plain_request, plain_look, plain_position};
-const struct side_engine side_buffered = {buffered_mount, buffered_request, buffered_look,
-                                          buffered_position};
+static unsigned buffered_add(uint8_t *image, size_t size, struct side_session *s,
+                             const uint8_t *name, size_t name_size, uint16_t kind,
+                             uint16_t length, uint16_t sectors, size_t *entry)
+{
+    return base_buffered_add(image, size, (struct buffered_session *)s, name, name_size, kind,
+                             length, sectors, entry);
+}
+
+static unsigned buffered_remove(uint8_t *image, size_t size, struct side_session *s, size_t entry)
+{
+    return base_buffered_delete(image, size, (struct buffered_session *)s, entry);
+}
+
+const struct side_engine side_plain = {plain_mount,    plain_request, plain_look,
+                                       plain_position, plain_add,     plain_remove};
+const struct side_engine side_buffered = {buffered_mount,    buffered_request, buffered_look,
+                                          buffered_position, buffered_add,     buffered_remove};
 
 size_t side_decode(const uint8_t *code, size_t size, uint8_t *record, size_t length)
 {

@@ -229,3 +229,15 @@ void make_listed(uint8_t *image)
         }
     }
 }
+
+void make_fragmented(uint8_t *image)
+{
+    static const unsigned kinds[] = {UNBLOCKED, BLOCKED, COMPRESSED, RANDOM};
+    struct making m = start(image, FRAGMENTED_SECTORS);
+    for (size_t k = 0; k < FRAGMENTS; k++) {
+        char name[] = "PASSA";
+        name[4] = (char)(name[4] + k);
+        m.first = 1 + 7 * (5 * k % FRAGMENTS);
+        add_file(&m, name, kinds[k % 4], 80, 4, 3, MARKED * (kinds[k % 4] != RANDOM));
+    }
+}

@@ -33,4 +33,9 @@ size_t make_full_station(uint8_t *image);
 enum { LISTED_SECTORS = 180 };
 void make_listed(uint8_t *image);
 
+/* 180 sectors, 17 files of 4 sectors each, 3 free sectors behind each, their entries out of order: the lowest gap of 4 sectors is
+   behind the last. */
+enum { FRAGMENTED_SECTORS = 180, FRAGMENTS = 17 };
+void make_fragmented(uint8_t *image);
+
 #endif

@@ -30,7 +30,17 @@ _Static_assert(LLEUADRYS_BUFFERED_SESSION <= sizeof(struct side_session), "room"
         *beyond = stands == LLEUADRYS_BEYOND;                                                                          \
         return stands != LLEUADRYS_CLOSED;                                                                             \
     }                                                                                                                  \
-    const struct side_engine side_##name = {name##_mount, name##_request, name##_look, name##_position}
+    static unsigned name##_add(uint8_t *image, size_t size, struct side_session *s, const uint8_t *file_name,          \
+                               size_t name_size, uint16_t kind, uint16_t length, uint16_t sectors, size_t *entry)      \
+    {                                                                                                                  \
+        return lleuadrys_add(image, size, s->bytes, bytes_lent, file_name, name_size, kind, length, sectors, entry);   \
+    }                                                                                                                  \
+    static unsigned name##_remove(uint8_t *image, size_t size, struct side_session *s, size_t entry)                   \
+    {                                                                                                                  \
+        return lleuadrys_delete(image, size, s->bytes, bytes_lent, entry);                                             \
+    }                                                                                                                  \
+    const struct side_engine side_##name = {name##_mount,    name##_request, name##_look,                              \
+                                            name##_position, name##_add,     name##_remove}
 
 ENGINE(plain, LLEUADRYS_SESSION);
 ENGINE(buffered, LLEUADRYS_BUFFERED_SESSION);

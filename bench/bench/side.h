@@ -23,6 +23,11 @@ struct side_engine {
                    uint32_t granule);
     /* whether the entry's file is open, and where it stands */
     bool (*position)(const struct side_session *s, size_t entry, uint32_t *record, bool *beyond);
+    /* ADD, which tells the new entry's number, and DELETE */
+    unsigned (*add)(uint8_t *image, size_t size, struct side_session *s, const uint8_t *name,
+                    size_t name_size, uint16_t kind, uint16_t length, uint16_t sectors,
+                    size_t *entry);
+    unsigned (*remove)(uint8_t *image, size_t size, struct side_session *s, size_t entry);
 };
 
 extern const struct side_engine side_plain, side_buffered;

@@ -332,6 +332,58 @@ static uint32_t refuse_openings(void)
     return sum;
 }
 
+/* ---- edits ---- */
+
+/* Each edit has a session of its own, so that all find the same; two iterations have as many. */
+enum { EDITS = 500, DELETED = 8 };
+
+static struct side_session edited[2 * EDITS];
+static size_t edits; /* how many are done */
+
+static size_t prepare_edits(const struct side_engine *e)
+{
+    engine = e;
+    size = (size_t)FRAGMENTED_SECTORS * SECTOR;
+    make_fragmented(image);
+    must(engine->mount(image, size, &session));
+    for (size_t i = 0; i < 2 * EDITS; i++)
+        memcpy(&edited[i], &session, sizeof session);
+    return EDITS;
+}
+
+static size_t prepare_edits_plain(void)
+{
+    return prepare_edits(&side_plain);
+}
+
+static size_t prepare_edits_buffered(void)
+{
+    return prepare_edits(&side_buffered);
+}
+
+/* A file of four sectors, which the lowest gap behind all the others holds. */
+static uint32_t add_files(void)
+{
+    static const uint8_t name[8] = {0xE9, 0xE9, 0xF0, 0xF1, 0x40, 0x40, 0x40, 0x40};
+    uint32_t sum = 0;
+    for (size_t i = 0; i < EDITS; i++) {
+        size_t entry = 0;
+        sum = mix(sum, engine->add(image, size, &edited[edits++], name, 8, BLOCKED, 80, 4, &entry));
+        sum = mix(sum, (uint32_t)entry << 16 | (uint32_t)image[ENTRY_BYTES * entry + 13]);
+    }
+    return sum;
+}
+
+static uint32_t delete_files(void)
+{
+    uint32_t sum = 0;
+    for (size_t i = 0; i < EDITS; i++) {
+        sum = mix(sum, engine->remove(image, size, &edited[edits++], DELETED));
+        sum = mix(sum, image[ENTRY_BYTES * DELETED]);
+    }
+    return sum;
+}
+
 /* ---- sector writes: no instructions are counted here; the sum is the number of sectors that
    differ in the image behind a request from before it, over all requests of a stream ---- */
 
@@ -414,6 +466,10 @@ const struct workload workloads[] = {
     {"reopen-plain", "20 openings of an open full compressed file (9)", prepare_reopen_plain,
      refuse_openings},
     {"reopen-buffered", "the same, buffered", prepare_reopen_buffered, refuse_openings},
+    {"add-plain", "500 times ADD, 17 files, fragmented", prepare_edits_plain, add_files},
+    {"add-buffered", "the same, buffered", prepare_edits_buffered, add_files},
+    {"delete-plain", "500 times DELETE, 17 files", prepare_edits_plain, delete_files},
+    {"delete-buffered", "the same, buffered", prepare_edits_buffered, delete_files},
     {"sectors-blocked-plain", "sum: sectors changed by 500 blocked writes", prepare_blocked_plain,
      count_blocked},
     {"sectors-blocked-buffered", "the same, buffered", prepare_blocked_buffered, count_blocked},

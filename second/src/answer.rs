@@ -1,6 +1,6 @@
-//! "Answer numbers".
+//! "Answer numbers", and those of document 02, item 1.
 
-/// The answers of the table in document 01, with its numbers.
+/// The answers of the table in document 01 and the refusals of ADD, with their numbers.
 #[derive(Clone, Copy, Debug, PartialEq, Eq)]
 pub enum Answer {
     /// 0 "done"
@@ -22,7 +22,7 @@ pub enum Answer {
     WrongKindOrSequence = 7,
     /// 8 "no such entry, or not open"
     NotThere = 8,
-    /// 9 "opening an open file"
+    /// 9 "opening an open file"; DELETE: "9 if open"
     OpenAlready = 9,
     /// 10 "a fifth open file"
     FifthFile = 10,
@@ -30,20 +30,33 @@ pub enum Answer {
     BadImage = 11,
     /// 12 "session not legal for this image"
     IllegalSession = 12,
+    /// 13 "bad name"
+    BadName = 13,
+    /// 14 "name in use"
+    NameInUse = 14,
+    /// 15 "no free entry"
+    NoFreeEntry = 15,
+    /// 16 "no gap"
+    NoGap = 16,
+    /// 17 "bad kind, length or sector count 0"
+    BadShape = 17,
 }
+
+/// How many answer numbers there are.
+pub const ANSWERS: usize = 18;
 
 impl Answer {
     pub fn number(self) -> u8 {
         self as u8
     }
 
-    /// 3 to 12 leave "nothing changed".
+    /// 3 and more leave "nothing changed".
     pub fn is_refusal(self) -> bool {
         self.number() >= 3
     }
 }
 
-/// What the rules of a request come to: `Ok` is answer 0, 1 or 2; `Err` is a refusal (3 to 12),
+/// What the rules of a request come to: `Ok` is answer 0, 1 or 2; `Err` is a refusal (3 and more),
 /// met before anything was changed.
 pub type Outcome = Result<Answer, Answer>;
 

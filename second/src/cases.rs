@@ -7,10 +7,11 @@ use crate::coding::GO_ON;
 use crate::damage::{damaged_cases, disturb};
 use crate::directory::{BLOCKED, COMPRESSED, MARKED, UNBLOCKED};
 use crate::disk::Disk;
+use crate::edits::edit_cases;
 use crate::engine::Order;
 use crate::fixed::fixed_cases;
 use crate::generate::{empty_image, fill_compressed, new_entry, put_entry};
-use crate::generate::{random_image, random_script, random_text, script_on};
+use crate::generate::{random_image, random_script, random_text, roomy_image, script_on, Sort};
 use crate::image::{BLANK, SECTOR};
 use crate::listing::listing;
 use crate::notation::script;
@@ -20,7 +21,7 @@ use crate::random::Random;
 use crate::script::Script;
 use crate::session::Engine;
 use crate::stored::read_session;
-use crate::strange::{strange_bytes, strange_session};
+use crate::strange::{strange_bytes, strange_bytes_and_refused, strange_session};
 
 /// A case: the rule of document 01 that it tries, an image, a script for it, and the patches of the
 /// plain and of the buffered engine's session behind the mounting.
@@ -55,6 +56,11 @@ impl Case {
         self
     }
 
+    /// Its sessions are as the mounting hands them out.
+    pub fn is_mounted(&self) -> bool {
+        self.sessions.iter().all(Vec::is_empty)
+    }
+
     /// The patches of an engine's session.
     pub fn session_patches(&self, engine: Engine) -> &[Patch] {
         let [plain, buffered] = &self.sessions;
@@ -71,17 +77,18 @@ impl Case {
     }
 }
 
-/// All cases: the fixed ones, those too long to be committed, the damaged ones and `count`
-/// random scripts.
+/// All cases: the fixed ones, those too long to be committed, those of ADD and DELETE on sessions that are
+/// mounted, the damaged ones and `count` random scripts.
 pub fn all_cases(seed: u64, count: usize) -> Vec<Case> {
     let mut random = Random::new(seed);
     let mut cases = fixed_cases();
     cases.extend(long_cases());
+    cases.extend(edit_cases().into_iter().filter(Case::is_mounted));
     cases.extend(foreign_cases(&mut random, 40));
     cases.extend(damaged_cases(&mut random));
     for number in 0..count {
         let requests = random.pick(&[20, 60, 120, 200]);
-        cases.push(random_case(seed, number, requests));
+        cases.push(random_case(seed, number, requests, Sort::All));
     }
     cases
 }
@@ -189,7 +196,21 @@ fn long_cases() -> Vec<Case> {
         knocking_case(180),
         knocking_case(181),
         knocking_case(183),
+        largest_added_case(),
     ]
+}
+
+/// Files of the largest image that ADD makes.
+fn largest_added_case() -> Case {
+    let words = "add:A:4:360:4096 add:A:4:360:65535 add:A:4:360:4095 @0 open put:4094:360 look:4095 look:4094
+        close delete add:B:2:2:4094 add:C:2:2:2 add:C:2:2:1 @1 open write:2 close @0 delete
+        add:D:1:3600:4094 add:E:1:3600:1";
+    Case::new(
+        "long-largest-added",
+        "no run of that many free sectors exists in 1 to N − 1; N from 1 to 4,096",
+        empty_image(4_096),
+        script(2, words),
+    )
 }
 
 /// Lengths about those that are listed and committed.
@@ -252,44 +273,63 @@ fn largest_image_case() -> Case {
 const SHARED: usize = 4;
 
 /// Random case `number` of a seed: the last with an image may have it damaged.
-pub fn random_case(seed: u64, number: usize, requests: usize) -> Case {
-    let mut image = random_image(&mut numbered(seed, 2 * (number / SHARED)));
+pub fn random_case(seed: u64, number: usize, requests: usize, sort: Sort) -> Case {
+    let mut image = shared_image(seed, number, sort);
     let mut random = numbered(seed, 2 * number + 1);
     if number % SHARED == SHARED - 1 && random.chance(30) {
         disturb(&mut random, &mut image);
     }
-    let script = random_script(&mut random, &image, requests);
+    let script = random_script(&mut random, &image, requests, sort);
     Case::new(
-        format!("script-{number:05}"),
+        format!("{}script-{number:05}", prefix(sort)),
         "requests in any order",
         image,
         script,
     )
 }
 
+/// What the names of scripts with ADD and DELETE begin with.
+fn prefix(sort: Sort) -> &'static str {
+    match sort {
+        Sort::First => "",
+        Sort::All => "edit-",
+    }
+}
+
+fn shared_image(seed: u64, number: usize, sort: Sort) -> Vec<u8> {
+    let mut random = numbered(seed, 2 * (number / SHARED));
+    match sort {
+        Sort::First => random_image(&mut random),
+        Sort::All => roomy_image(&mut random),
+    }
+}
+
 /// Case `number` of a wide run: of four, one begins with a session that no mounting hands out.
 pub fn wide_case(seed: u64, number: usize, requests: usize) -> Case {
     if numbered(!seed, 2 * number).chance(25) {
-        session_case(seed, number, requests)
+        session_case(seed, number, requests, Sort::All)
     } else {
-        random_case(seed, number, requests)
+        random_case(seed, number, requests, Sort::All)
     }
 }
 
 /// Random case `number` of a seed that begins with a strange session, its image disturbed by half.
-pub fn session_case(seed: u64, number: usize, requests: usize) -> Case {
-    let mut image = random_image(&mut numbered(seed, 2 * (number / SHARED)));
+pub fn session_case(seed: u64, number: usize, requests: usize, sort: Sort) -> Case {
+    let mut image = shared_image(seed, number, sort);
     let mut random = numbered(!seed, 2 * number + 1);
     let mut disturbed = image.clone();
     let session = strange_session(&mut random, &mut disturbed);
     if random.chance(50) {
         image = disturbed;
     }
-    let made = strange_bytes(&mut random, &image, &session);
+    let made = match sort {
+        Sort::First => strange_bytes(&mut random, &image, &session),
+        Sort::All => strange_bytes_and_refused(&mut random, &image, &session),
+    };
     let session = read_session(made.buffered()).unwrap_or(session);
-    let script = script_on(&mut random, &session, requests);
+    let script = script_on(&mut random, &session, image.len() / SECTOR, requests, sort);
     Case::new(
-        format!("session-script-{number:05}"),
+        format!("{}session-script-{number:05}", prefix(sort)),
         "A session is legal exactly if ...; requests in any order",
         image,
         script,

@@ -7,7 +7,9 @@ use std::path::Path;
 use crate::bundle::{bundle, expected, MOST_BUNDLED};
 use crate::cases::{foreign_cases, random_case, session_case, Case};
 use crate::damage::damaged_cases;
+use crate::edits::edit_cases;
 use crate::fixed::fixed_cases;
+use crate::generate::Sort;
 use crate::listed::{expected_listings, listed_file, listed_images};
 use crate::random::Random;
 use crate::sessions::session_cases;
@@ -19,29 +21,37 @@ const SEED: u64 = 1971;
 const SCRIPTS: usize = 180;
 const FOREIGN: usize = 20;
 
+/// How many random scripts with ADD and DELETE are committed.
+const EDITS: usize = 40;
+
 /// How many random scripts on sessions of any origin are committed, and the most patches of one.
 const SESSIONS: usize = 20;
 const MOST_PATCHES: usize = 300;
 
 /// The committed cases, in order: the fixed ones, other writers' codes, damage, random scripts, then
-/// sessions of any origin.
+/// sessions of any origin; then those of ADD and DELETE, fixed and random.
 pub fn committed_cases() -> Vec<Case> {
     let mut random = Random::new(SEED);
     let mut cases = fixed_cases();
     cases.extend(foreign_cases(&mut random, FOREIGN));
     cases.extend(damaged_cases(&mut random));
-    cases.extend((0..SCRIPTS).map(|number| random_case(SEED, number, 40 + number % 21)));
+    cases.extend(
+        (0..SCRIPTS).map(|number| random_case(SEED, number, 40 + number % 21, Sort::First)),
+    );
     cases.extend(session_cases());
-    cases.extend(small_session_scripts());
+    cases.extend(small_session_scripts(Sort::First));
+    cases.extend(edit_cases());
+    cases.extend((0..EDITS).map(|number| random_case(SEED, number, 60, Sort::All)));
+    cases.extend(small_session_scripts(Sort::All));
     cases.retain(|case| case.image.len() <= MOST_BUNDLED);
     cases
 }
 
 /// Random scripts on sessions of any origin that some few patches make.
-fn small_session_scripts() -> Vec<Case> {
+fn small_session_scripts(sort: Sort) -> Vec<Case> {
     let few = |case: &Case| case.sessions.iter().map(Vec::len).sum::<usize>() <= MOST_PATCHES;
     (0..)
-        .map(|number| session_case(SEED, number, 40))
+        .map(|number| session_case(SEED, number, 40, sort))
         .filter(few)
         .take(SESSIONS)
         .collect()

@@ -124,7 +124,7 @@ fn entry_is_good(entry: &Entry, n: usize) -> bool {
             name_is_good(&entry.name)
                 && extent_is_good(entry, n)
                 && flags_are_good(entry)
-                && length_is_good(entry)
+                && length_is_good(entry.kind, entry.length)
                 && count_is_good(entry)
         }
         _ => false,
@@ -133,7 +133,7 @@ fn entry_is_good(entry: &Entry, n: usize) -> bool {
 
 /// "a name is a capital letter (C1–C9, D1–D9, E2–E9) followed by capitals or digits (F0–F9),
 /// then only blanks"
-fn name_is_good(name: &[u8; 8]) -> bool {
+pub fn name_is_good(name: &[u8; 8]) -> bool {
     let shown = name.iter().take_while(|&&byte| byte != BLANK).count();
     is_capital(name[0])
         && name[..shown].iter().all(|&b| is_capital(b) || is_digit(b))
@@ -151,13 +151,13 @@ fn flags_are_good(entry: &Entry) -> bool {
 }
 
 /// "R is even and 2 to 3,600 for kinds 1 and 4, 2 to 360 for kind 2, 2 to 132 for kind 3"
-fn length_is_good(entry: &Entry) -> bool {
-    let most = match entry.kind {
+pub fn length_is_good(kind: u16, length: u16) -> bool {
+    let most = match kind {
         BLOCKED => 360,
         COMPRESSED => 132,
         _ => 3_600,
     };
-    entry.length.is_multiple_of(2) && (2..=most).contains(&entry.length)
+    length.is_multiple_of(2) && (2..=most).contains(&length)
 }
 
 /// "the count is at most the capacity for kinds 1 and 2; kind 4 has count 0". Kind 3's count has no

@@ -42,6 +42,12 @@ impl Disk {
         self.put()
     }
 
+    /// Free sectors behind the last file.
+    pub fn gap(mut self, sectors: usize) -> Disk {
+        self.next += sectors;
+        self
+    }
+
     fn put(mut self) -> Disk {
         put_entry(&mut self.image, self.number, &self.entry);
         self

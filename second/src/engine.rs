@@ -1,4 +1,4 @@
-//! The requests, for both engines.
+//! The requests of document 01, for both engines. (`editing.rs` has ADD and DELETE.)
 //!
 //! Every request tests in the order of document 01: "12, 8, 9, 10, 7 for kind, 4, 7 for beyond,
 //! 5, 6, then 11, 3, 1, 2 or 7 for the end." A refusal (`Err`) comes before any change.
@@ -202,7 +202,7 @@ fn try_order(image: &mut [u8], session: &mut Session, number: usize, order: Orde
 // Tests that several requests share.
 
 /// 12 "session not legal for this image"
-fn session_must_be_legal(image: &[u8], session: &Session) -> Result<(), Answer> {
+pub fn session_must_be_legal(image: &[u8], session: &Session) -> Result<(), Answer> {
     if session.is_legal(image) {
         Ok(())
     } else {

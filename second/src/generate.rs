@@ -3,13 +3,14 @@
 use crate::coding::{encode, GO_ON};
 use crate::directory::{directory_is_good, table_of, Entry, ENTRIES, ENTRY_BYTES};
 use crate::directory::{BLOCKED, COMPRESSED, MARKED, PROTECTED, RANDOM, UNBLOCKED};
+use crate::editing::{self, Asked};
 use crate::engine::Order;
 use crate::image::{ebcdic, BLANK, SECTOR};
 use crate::layout::{capacity, Place};
 use crate::model::Model;
 use crate::random::Random;
-use crate::script::Script;
-use crate::session::{Session, MOST_OPEN};
+use crate::script::{Code, Row, Script};
+use crate::session::{Engine, OpenFile, Session, MOST_OPEN};
 
 // ---------------------------------------------------------------------------------------------
 // Images.
@@ -66,6 +67,14 @@ pub fn random_image(random: &mut Random) -> Vec<u8> {
         let number = numbers.pop().unwrap_or(0);
         put_entry(&mut image, number, &entry);
     }
+    image
+}
+
+/// The same, and most have free sectors behind the last file.
+pub fn roomy_image(random: &mut Random) -> Vec<u8> {
+    let mut image = random_image(random);
+    let more = random.pick(&[0, 0, 1, 3, 8, 20, 30]);
+    image.extend(random.bytes(more * SECTOR));
     image
 }
 
@@ -250,26 +259,44 @@ fn grouped_text(random: &mut Random, length: usize) -> Vec<u8> {
 // ---------------------------------------------------------------------------------------------
 // Scripts.
 
+/// The requests that a random script has.
+#[derive(Clone, Copy, Debug, PartialEq, Eq)]
+pub enum Sort {
+    /// Those of document 01.
+    First,
+    /// Those, ADD and DELETE.
+    All,
+}
+
 /// A script of this many requests for an image: mostly phrases that make sense, refused requests
 /// among them.
-pub fn random_script(random: &mut Random, image: &[u8], requests: usize) -> Script {
+pub fn random_script(random: &mut Random, image: &[u8], requests: usize, sort: Sort) -> Script {
     let good = directory_is_good(image);
     let table = if image.len() < SECTOR {
         [Entry::default(); ENTRIES]
     } else {
         table_of(image)
     };
-    let mut maker = Maker::of_table(random, table);
+    let mut maker = Maker::of_table(random, table, sort, image.len() / SECTOR);
     maker.model = good.then(|| Model::of_good_image(image));
+    maker.refused = !good;
     for _ in 0..maker.random.between(1, MOST_OPEN) {
         maker.open_some();
     }
     maker.finish(requests)
 }
 
-/// A script of this many requests for a session of any origin, mostly on the files that it has open.
-pub fn script_on(random: &mut Random, session: &Session, requests: usize) -> Script {
-    let mut maker = Maker::of_table(random, session.table);
+/// A script of this many requests for a session of any origin on an image of n sectors, mostly on the
+/// files that it has open.
+pub fn script_on(
+    random: &mut Random,
+    session: &Session,
+    n: usize,
+    requests: usize,
+    sort: Sort,
+) -> Script {
+    let mut maker = Maker::of_table(random, session.table, sort, n);
+    maker.refused = session.refused;
     let open = session.open_files().map(|file| file.entry);
     maker.open = open.filter(|&number| number < ENTRIES).collect();
     maker.finish(requests)
@@ -283,6 +310,11 @@ struct Maker<'a> {
     open: Vec<usize>,
     model: Option<Model>,
     script: Script,
+    sort: Sort,
+    /// The sectors of the image.
+    n: usize,
+    /// The session says that its mounting was refused.
+    refused: bool,
 }
 
 /// A bad directory, or a session's table, may have a larger R: scripts are kept short.
@@ -292,7 +324,7 @@ const MOST_R: usize = 3_700;
 const REFUSED_LEFT_OUT: usize = 75;
 
 impl Maker<'_> {
-    fn of_table(random: &mut Random, table: [Entry; ENTRIES]) -> Maker<'_> {
+    fn of_table(random: &mut Random, table: [Entry; ENTRIES], sort: Sort, n: usize) -> Maker<'_> {
         Maker {
             random,
             table,
@@ -300,6 +332,9 @@ impl Maker<'_> {
             open: Vec::new(),
             model: None,
             script: Script::default(),
+            sort,
+            n,
+            refused: false,
         }
     }
 
@@ -313,18 +348,27 @@ impl Maker<'_> {
 
     /// Puts a request into the script, or leaves it out.
     fn offer(&mut self, request: &Script) {
+        self.offer_often(request, 100 - REFUSED_LEFT_OUT);
+    }
+
+    /// The same, and a refused one is put into it this many times in a hundred.
+    fn offer_often(&mut self, request: &Script, percent: usize) {
         for (row, data) in request.steps() {
             let answer = self.model.as_mut().map(|model| model.request(&row, data).0);
             let refused = answer.is_some_and(|answer| answer >= 3);
-            if !refused || !self.random.chance(REFUSED_LEFT_OUT) {
+            if !refused || !self.random.chance(100 - percent) {
                 self.script.rows.push(row);
                 self.script.bytes.extend_from_slice(data);
+                self.follow(&row, data, refused);
             }
         }
     }
 
     /// The next few requests that belong together.
     fn phrase(&mut self) {
+        if self.sort == Sort::All && self.random.chance(EDITS) {
+            return self.edit();
+        }
         match self.random.between(0, 99) {
             0..=9 => self.open_some(),
             10..=12 => self.noise(),
@@ -562,6 +606,247 @@ impl Maker<'_> {
             4..=15 => r + self.random.between(1, 9),
             _ => r,
         }
+    }
+}
+
+// ---------------------------------------------------------------------------------------------
+// Adding and deleting.
+
+/// How many in a hundred phrases add or delete.
+const EDITS: usize = 17;
+
+/// The numbers of names that are asked for: few, so that they are met again.
+const NAMES: usize = 60;
+
+impl Maker<'_> {
+    /// Keeps the table as it is by now, as well as it can be told.
+    fn follow(&mut self, row: &Row, data: &[u8], refused: bool) {
+        if !row.code.edits() || refused {
+            return;
+        }
+        let number = usize::from(row.entry);
+        let mut session = Session {
+            engine: Engine::Plain,
+            table: self.table,
+            open: [OpenFile::UNUSED; MOST_OPEN],
+            refused: self.refused,
+        };
+        let mut image = empty_image(self.n);
+        if row.code == Code::Add {
+            let _ = editing::add(&mut image, &mut session, &row.asked(data));
+        } else if !self.open.contains(&number) {
+            editing::delete(&mut image, &mut session, number);
+        }
+        self.table = session.table;
+        self.used = (0..ENTRIES).filter(|&i| self.table[i].is_used()).collect();
+    }
+
+    fn edit(&mut self) {
+        match self.random.between(0, 99) {
+            0..=29 => {
+                let kind = self.some_kind();
+                let sectors = self.some_sectors();
+                self.add_and_use(kind, sectors);
+            }
+            30..=49 => self.delete_some(),
+            50..=64 => self.replace_some(),
+            65..=74 => self.fill_up(),
+            _ => self.odd_add(),
+        }
+    }
+
+    fn some_kind(&mut self) -> u16 {
+        self.random
+            .pick(&[UNBLOCKED, BLOCKED, COMPRESSED, RANDOM, RANDOM])
+    }
+
+    /// A name of one to eight letters, one of some few.
+    fn some_name(&mut self) -> [u8; 8] {
+        let number = self.random.between(0, NAMES - 1);
+        let name = format!("{}{number}ZIGZAG", ["G", "K", "ST"][number % 3]);
+        let shown = number % 6 + 3;
+        new_entry(&name[..shown.min(name.len())], 0, 0, 0, 0).name
+    }
+
+    /// The lengths of the runs of free sectors, none where the table has an extent past the image.
+    fn gaps(&self) -> Vec<usize> {
+        let mut free = vec![true; self.n];
+        for entry in self.table.iter().filter(|entry| entry.is_used()) {
+            let end = entry.extent_end().min(self.n);
+            free[entry.image_sector(0).min(end)..end].fill(false);
+        }
+        let runs = free.get(1..).unwrap_or_default().split(|&is_free| !is_free);
+        runs.map(<[bool]>::len)
+            .filter(|&length| length > 0)
+            .collect()
+    }
+
+    /// A sector count: small, or about one of the gaps.
+    fn some_sectors(&mut self) -> usize {
+        let gaps = self.gaps();
+        let gap = if gaps.is_empty() {
+            1
+        } else {
+            self.random.pick(&gaps)
+        };
+        match self.random.between(0, 99) {
+            0..=44 => self.random.pick(&[1, 1, 1, 2, 2, 3, 4, 6]),
+            45..=79 => gap,
+            80..=89 => gap + 1,
+            90..=94 => gap.saturating_sub(1).max(1),
+            _ => self.random.pick(&[self.n, self.n + 1, 4_095, 65_535]),
+        }
+    }
+
+    /// Asks for a file; its number, if there is one of that name by now that was not there before.
+    fn add(&mut self, kind: u16, sectors: usize, name: [u8; 8]) -> Option<usize> {
+        let before = self.table;
+        let mut request = Script::default();
+        request.add(&Asked {
+            name: &name,
+            kind,
+            length: random_r(self.random, kind) as u16,
+            sectors: sectors.min(65_535) as u16,
+        });
+        self.offer_often(&request, 40);
+        (0..ENTRIES).find(|&number| !before[number].is_used() && self.table[number].is_used())
+    }
+
+    fn add_and_use(&mut self, kind: u16, sectors: usize) {
+        let name = self.some_name();
+        let Some(number) = self.add(kind, sectors, name) else {
+            return;
+        };
+        if self.open.len() == MOST_OPEN && self.random.chance(60) {
+            let other = self.random.pick(&self.open);
+            self.close_it(other);
+        }
+        if self.random.chance(85) {
+            self.open_it(number);
+            if kind == RANDOM {
+                self.granule_phrase(number);
+            } else {
+                self.some_reads(number);
+                self.some_writes(number);
+                self.some_orders(number, Order::RewindOnLine, 1);
+                self.some_reads(number);
+            }
+        }
+    }
+
+    /// Mostly a file that is not open.
+    fn delete_some(&mut self) {
+        let is_closed = |number: &usize| !self.open.contains(number);
+        let closed: Vec<usize> = self.used.iter().copied().filter(is_closed).collect();
+        let number = match self.random.between(0, 99) {
+            0..=69 if !closed.is_empty() => self.random.pick(&closed),
+            70..=84 => self.some_open(),
+            85..=90 => self.random.between(0, ENTRIES + 1),
+            91..=94 => 256 + self.random.between(0, ENTRIES + 1),
+            _ => self.some_used(),
+        };
+        self.delete_it(number);
+    }
+
+    fn delete_it(&mut self, number: usize) {
+        self.offer_often(Script::default().delete(number as u16), 40);
+    }
+
+    /// A file is closed and deleted, and another asked for of as many sectors.
+    fn replace_some(&mut self) {
+        let number = self.some_used();
+        let sectors = self.table.get(number).map_or(1, |e| usize::from(e.sectors));
+        if self.open.contains(&number) {
+            self.close_it(number);
+        }
+        self.delete_it(number);
+        let kind = self.some_kind();
+        let more = self.random.pick(&[0, 0, 0, 0, 1]);
+        self.add_and_use(kind, sectors.max(1) + more);
+    }
+
+    /// Small files until there is no entry, or no sector.
+    fn fill_up(&mut self) {
+        for _ in 0..self.random.between(5, 20) {
+            let kind = self.some_kind();
+            let name = self.some_name();
+            self.add(kind, 1, name);
+        }
+        let odd = self.random.chance(50);
+        if odd {
+            self.odd_add();
+        }
+    }
+
+    /// Asks for a file of which something, or some things, may be wrong.
+    fn odd_add(&mut self) {
+        let kind = self.some_kind();
+        let mut name = self.some_name().to_vec();
+        let mut asked_kind = kind;
+        let mut length = random_r(self.random, kind) as u16;
+        let mut sectors = self.some_sectors().min(65_535) as u16;
+        for _ in 0..self.random.pick(&[1, 1, 1, 2, 2, 3]) {
+            match self.random.between(0, 9) {
+                0..=1 => name = self.odd_name(name),
+                2..=3 => name = self.used_name().to_vec(),
+                4 => asked_kind = self.random.pick(&[0, 5, 6, 255, 256, 258, 65_535]),
+                5..=6 => length = self.odd_length(kind),
+                7 => sectors = 0,
+                _ => sectors = self.random.pick(&[self.n as u16, 300, 4_096, 65_535]),
+            }
+        }
+        let mut request = Script::default();
+        request.add(&Asked {
+            name: &name,
+            kind: asked_kind,
+            length,
+            sectors,
+        });
+        if self.random.chance(20) {
+            let word = self.random.byte();
+            request.with_words(5, [u16::from(word)]);
+        }
+        self.offer_often(&request, 80);
+    }
+
+    /// The name of a used entry, seldom one much like it.
+    fn used_name(&mut self) -> [u8; 8] {
+        let number = self.some_used();
+        let mut name = self.table.get(number).map_or([0; 8], |entry| entry.name);
+        match self.random.between(0, 9) {
+            0..=1 => name[7] = self.random.pick(&[BLANK, 0xC1, 0xF0]),
+            2 => name[self.random.between(1, 3)..].fill(BLANK),
+            _ => {}
+        }
+        name
+    }
+
+    fn odd_name(&mut self, mut name: Vec<u8>) -> Vec<u8> {
+        match self.random.between(0, 5) {
+            0 => name.truncate(self.random.between(0, 7)),
+            1 => name.resize(self.random.pick(&[9, 10, 16, 264]), BLANK),
+            2 => {
+                let letter = self
+                    .random
+                    .pick(&[0, BLANK, 0xC0, 0xE1, 0xEA, 0xF0, 0xF9, 0x81]);
+                name.splice(..name.len().min(1), [letter]);
+            }
+            _ => {
+                name.resize(8, BLANK);
+                let at = self.random.between(1, 7);
+                name[at] = self
+                    .random
+                    .pick(&[0, BLANK, 0xC1, 0xCA, 0xD0, 0xE1, 0xFA, 0xF0]);
+            }
+        }
+        name
+    }
+
+    fn odd_length(&mut self, kind: u16) -> u16 {
+        let other = random_r(self.random, kind % 4 + 1) as u16;
+        let odd = 2 * self.random.between(0, 66) as u16 + 1;
+        self.random
+            .pick(&[0, 1, odd, 134, 132, 360, 362, 3_600, 3_602, 65_534, other])
     }
 }
 

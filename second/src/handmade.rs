@@ -1,10 +1,11 @@
 //! Sessions made by hand, legal or not: what a mounting hands out, with some of its bytes changed, for
 //! both engines at once.
 
+use crate::directory::ENTRIES;
 use crate::image::SECTOR;
 use crate::patch::{difference, Patch};
-use crate::session::{mount, Engine, Session};
-use crate::stored::{put_number, state_bytes, state_start, store, Field};
+use crate::session::{mount, Engine, Session, MOST_OPEN};
+use crate::stored::{put_number, refused_at, state_bytes, state_start, store, Field};
 use crate::stored::{BUFFER, CHANGED, ENTRY, HELD_SECTOR, HOLDS, IN_USE, STORED_ENTRY};
 
 const ENGINES: [Engine; 2] = [Engine::Plain, Engine::Buffered];
@@ -36,6 +37,14 @@ impl Handmade {
         };
         Handmade {
             bytes: ENGINES.map(bytes_for),
+            ..Handmade::mounted(image)
+        }
+    }
+
+    /// This session, in place of the one that mounting another image hands out.
+    pub fn over(self, image: &[u8]) -> Handmade {
+        Handmade {
+            bytes: self.bytes,
             ..Handmade::mounted(image)
         }
     }
@@ -101,6 +110,25 @@ impl Handmade {
             }
         }
         self
+    }
+
+    /// What the session says of its mounting: 1 that it was refused.
+    pub fn refused(mut self, value: u8) -> Handmade {
+        for (engine, bytes) in ENGINES.into_iter().zip(&mut self.bytes) {
+            bytes[refused_at(engine)] = value;
+        }
+        self
+    }
+
+    /// No used entry.
+    pub fn without_files(self) -> Handmade {
+        let free = [0; STORED_ENTRY];
+        (0..ENTRIES).fold(self, |made, number| made.table(number, 0, &free))
+    }
+
+    /// Nothing open.
+    pub fn with_nothing_open(self) -> Handmade {
+        (0..MOST_OPEN).fold(self, |made, slot| made.set(slot, IN_USE, 0))
     }
 
     /// The bytes for the buffered engine.

@@ -7,6 +7,7 @@ use crate::coding::GO_ON;
 use crate::damage::{same_names, small_image, Break, BREAKS};
 use crate::directory::{BLOCKED, COMPRESSED, MARKED, PROTECTED, RANDOM, UNBLOCKED};
 use crate::disk::Disk;
+use crate::edits::listed_after;
 use crate::image::{ebcdic, BLANK, SECTOR};
 use crate::listing::listing;
 
@@ -32,6 +33,7 @@ pub fn listed_images() -> Vec<Vec<u8>> {
         good_codes(),
         bad_codes(),
         broken_rules(),
+        listed_after(),
     ]
     .concat()
 }

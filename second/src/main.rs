@@ -1,7 +1,8 @@
-//! A second, independent implementation of the file layer that document 01 specifies.
+//! A second, independent implementation of the file layer that document 01 specifies, with item 1 of
+//! document 02.
 //!
-//! Written from document 01 alone, to be held against it: every rule stands beside the sentence
-//! of document 01 that it keeps.
+//! Written from these documents alone, to be held against them: every rule stands beside the sentence
+//! that it keeps.
 
 #![forbid(unsafe_code)]
 
@@ -13,6 +14,9 @@ mod committed;
 mod damage;
 mod directory;
 mod disk;
+mod editcheck;
+mod editing;
+mod edits;
 mod engine;
 mod fixed;
 mod generate;
@@ -241,7 +245,7 @@ fn selfcheck(options: &[&str]) -> ExitCode {
                 "{} scripts passed, {} requests\n",
                 tally.scripts, tally.requests
             ));
-            print(&format!("answers 0 to 12: {:?}\n", tally.answers));
+            print(&format!("answers 0 to 17: {:?}\n", tally.answers));
             print(&format!(
                 "on strange sessions: {:?}\n",
                 tally.strange_answers

@@ -1,5 +1,6 @@
-//! A third, tiny model: every file is a list of records. It shares no function with the engines;
-//! it writes no sector, and has a coder and decoder of its own.
+//! A third, tiny model: every file is a list of records. It shares no function with the engines, and has a
+//! coder and decoder of its own. Its ground is what the writes leave in the sectors: nothing is read from
+//! it but what lies there when a random file is added.
 
 use crate::engine::Order;
 use crate::script::{Code, Row};
@@ -12,6 +13,10 @@ pub struct Tape {
     kind: u16,
     r: usize,
     protected: bool,
+    /// The extent, in sectors of the image.
+    pub first: usize,
+    pub sectors: usize,
+    name: Vec<u8>,
     /// Records or granules that there is room for; sectors, for a compressed file.
     room: usize,
     pub records: Vec<Vec<u8>>,
@@ -21,11 +26,15 @@ pub struct Tape {
     pub stands: Option<(usize, bool)>,
 }
 
-/// All files of an image.
+/// All files of an image, and its sectors but the directory.
 #[derive(Clone, Debug, PartialEq, Eq)]
 pub struct Model {
     pub tapes: Vec<Option<Tape>>,
+    pub ground: Vec<u8>,
 }
+
+/// An answer, the bytes moved and the number of an entry that was added.
+pub type Said = (u8, Vec<u8>, Option<usize>);
 
 impl Model {
     /// Takes up a good image.
@@ -33,6 +42,7 @@ impl Model {
         let tapes = image[..360].chunks(20).map(|entry| tape_of(image, entry));
         Model {
             tapes: tapes.collect(),
+            ground: image[360..].to_vec(),
         }
     }
 
@@ -45,8 +55,110 @@ impl Model {
         model
     }
 
-    /// The answer to a request, and the bytes moved.
-    pub fn request(&mut self, row: &Row, data: &[u8]) -> (u8, Vec<u8>) {
+    /// The answer to a request, the bytes moved and the entry added.
+    pub fn request(&mut self, row: &Row, data: &[u8]) -> Said {
+        match row.code {
+            Code::Add => match self.add(row, data) {
+                Ok(number) => (0, Vec::new(), Some(number)),
+                Err(answer) => (answer, Vec::new(), None),
+            },
+            Code::Delete => (self.delete(usize::from(row.entry)), Vec::new(), None),
+            Code::Write | Code::GranuleWrite => {
+                let stood = self.tapes.get(usize::from(row.entry)).cloned().flatten();
+                let (answer, moved) = self.tape_request(row, data);
+                if let (0, Some(tape)) = (answer, stood) {
+                    self.leave(&tape, usize::from(row.granule), data);
+                }
+                (answer, moved, None)
+            }
+            _ => {
+                let (answer, moved) = self.tape_request(row, data);
+                (answer, moved, None)
+            }
+        }
+    }
+
+    /// Which sectors of the image are free; sector 0 never is.
+    pub fn free_sectors(&self) -> Vec<bool> {
+        let mut free = vec![true; 1 + self.ground.len() / 360];
+        free[0] = false;
+        for tape in self.tapes.iter().flatten() {
+            free[tape.first..tape.first + tape.sectors].fill(false);
+        }
+        free
+    }
+
+    /// A new file: every run of sectors is tried, from the lowest on.
+    fn add(&mut self, row: &Row, name: &[u8]) -> Result<usize, u8> {
+        let (kind, r) = (usize::from(row.entry), usize::from(row.granule));
+        let sectors = usize::from(row.more[0]);
+        if !good_name(name) {
+            return Err(13);
+        }
+        let longest = [0, 3_600, 360, 132, 3_600].get(kind).copied().unwrap_or(0);
+        if r < 2 || r % 2 == 1 || r > longest || sectors < 1 {
+            return Err(17);
+        }
+        if self.tapes.iter().flatten().any(|tape| tape.name == name) {
+            return Err(14);
+        }
+        let number = self.tapes.iter().position(Option::is_none).ok_or(15)?;
+        let free = self.free_sectors();
+        let all_free = |run: &[bool]| run.iter().all(|&is_free| is_free);
+        let first = free.windows(sectors).position(all_free).ok_or(16)?;
+        let words = [kind, r, first, sectors, 0, 0].map(|word| (word as u16).to_be_bytes());
+        let entry = [name, &words.concat()].concat();
+        let image = [&[0; 360], &self.ground[..]].concat();
+        self.tapes[number] = tape_of(&image, &entry);
+        Ok(number)
+    }
+
+    fn delete(&mut self, number: usize) -> u8 {
+        match self.tapes.get_mut(number) {
+            Some(Some(tape)) if tape.stands.is_some() => 9,
+            Some(tape) if tape.is_some() => {
+                *tape = None;
+                0
+            }
+            _ => 8,
+        }
+    }
+
+    /// What a write answered 0 leaves in the sectors of a tape that stood so.
+    fn leave(&mut self, stood: &Tape, granule: usize, data: &[u8]) {
+        let start = (stood.first - 1) * 360;
+        let extent = &mut self.ground[start..start + stood.sectors * 360];
+        let p = stood.stands.map_or(0, |(p, _)| p);
+        let record = stood.padded(data);
+        match stood.kind {
+            2 => {
+                let in_sector = 360 / stood.r;
+                let (sector, byte) = (p / in_sector, p % in_sector * stood.r);
+                let rest = &mut extent[sector * 360 + byte..(sector + 1) * 360];
+                rest.fill(0);
+                rest[..stood.r].copy_from_slice(&record);
+            }
+            3 => {
+                let code = hand_code(&record);
+                let (mut sector, mut byte) = stood.places[p];
+                extent[sector * 360 + byte..(sector + 1) * 360].fill(128);
+                if byte + code.len() > 360 {
+                    (sector, byte) = (sector + 1, 0);
+                    extent[sector * 360..(sector + 1) * 360].fill(128);
+                }
+                extent[sector * 360 + byte..][..code.len()].copy_from_slice(&code);
+            }
+            kind => {
+                let whole = stood.r.div_ceil(360) * 360;
+                let part = &mut extent[whole * if kind == 4 { granule } else { p }..][..whole];
+                part.fill(0);
+                part[..stood.r].copy_from_slice(&record);
+            }
+        }
+    }
+
+    /// A request on a file.
+    fn tape_request(&mut self, row: &Row, data: &[u8]) -> (u8, Vec<u8>) {
         let open = self.tapes.iter().flatten();
         let four_open = open.filter(|tape| tape.stands.is_some()).count() == 4;
         let Some(Some(tape)) = self.tapes.get_mut(usize::from(row.entry)) else {
@@ -80,9 +192,23 @@ impl Model {
             Code::Read => tape.read(p, beyond),
             Code::Write => moved_if_done(tape.write(p, beyond, data), data),
             Code::Order(order) => (tape.order(order, p, beyond), Vec::new()),
-            Code::Open => (8, Vec::new()),
+            Code::Open | Code::Add | Code::Delete => (8, Vec::new()),
         }
     }
+}
+
+/// Eight bytes: a capital, capitals and digits, and blanks up to the end. Told by a table of letters.
+fn good_name(name: &[u8]) -> bool {
+    let letter = |byte: u8| match byte {
+        0xC0..=0xEF => (1..=9).contains(&(byte % 16)) && byte != 0xE1,
+        0xF0..=0xF9 => true,
+        _ => false,
+    };
+    let blanks = name.iter().rev().take_while(|&&byte| byte == BLANK).count();
+    let told = &name[..name.len() - blanks];
+    name.len() == 8
+        && told.first().is_some_and(|&byte| byte < 0xF0)
+        && told.iter().all(|&byte| letter(byte))
 }
 
 fn moved_if_done(answer: u8, data: &[u8]) -> (u8, Vec<u8>) {
@@ -315,6 +441,9 @@ fn tape_of(image: &[u8], entry: &[u8]) -> Option<Tape> {
         kind: kind as u16,
         r,
         protected: flags >= 2,
+        first,
+        sectors,
+        name: entry[..8].to_vec(),
         room,
         records,
         marked: flags % 2 == 1,

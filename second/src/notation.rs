@@ -8,10 +8,15 @@
 //!   of blanks and characters, one character, blanks
 //! - `text:A..B`: a write of these characters, a point for a blank
 //! - `get:G:L`, `put:G:L`, `look:G`: granule G read, written, shown
+//! - `add:NAME:KIND:L:S`: an adding of a file of L bytes a record and S sectors; blanks are put behind a
+//!   name of fewer than eight letters
+//! - `hex:BYTES:KIND:L:S`: the same, the bytes of the name in hex and no others
+//! - `delete`: a deleting
 //! - `WORD*N`: the same N times
 //!
 //! L is a number, `R`, `R+1` or the like; it is R where it is left out. Each write has other bytes.
 
+use crate::editing::Asked;
 use crate::engine::Order;
 use crate::image::{ebcdic, BLANK};
 use crate::script::Script;
@@ -49,6 +54,8 @@ impl Scribe {
         let mut parts = word.split(':');
         let (name, first, second) = (parts.next().unwrap_or(""), parts.next(), parts.next());
         match name {
+            "add" | "hex" => self.put_add(word),
+            "delete" => drop(self.script.delete(self.entry)),
             "open" => drop(self.script.open(self.entry)),
             "read" => drop(self.script.read(self.entry, self.length(first))),
             "get" | "put" | "look" => self.put_granule(name, first, second),
@@ -56,6 +63,23 @@ impl Scribe {
             "text" => drop(self.script.write(self.entry, &text(first.unwrap_or("")))),
             order => drop(self.script.order(self.entry, order_named(order))),
         }
+    }
+
+    fn put_add(&mut self, word: &str) {
+        let parts: Vec<&str> = word.split(':').collect();
+        let [sort, told, kind, length, sectors] = parts[..] else {
+            panic!("no adding: {word}");
+        };
+        let mut name = if sort == "hex" { hex(told) } else { text(told) };
+        if sort == "add" {
+            name.resize(name.len().max(8), BLANK);
+        }
+        self.script.add(&Asked {
+            name: &name,
+            kind: number(kind) as u16,
+            length: self.length(Some(length)) as u16,
+            sectors: number(sectors) as u16,
+        });
     }
 
     fn put_granule(&mut self, name: &str, granule: Option<&str>, length: Option<&str>) {
@@ -118,6 +142,13 @@ fn number(digits: &str) -> usize {
     digits
         .parse()
         .unwrap_or_else(|_| panic!("no number: {digits}"))
+}
+
+/// Bytes of two hex digits each.
+fn hex(told: &str) -> Vec<u8> {
+    let byte = |at: usize| u8::from_str_radix(&told[at..at + 2], 16);
+    let bytes: Result<Vec<u8>, _> = (0..told.len()).step_by(2).map(byte).collect();
+    bytes.unwrap_or_else(|_| panic!("no bytes: {told}"))
 }
 
 /// Capitals and digits in EBCDIC; a point is a blank.

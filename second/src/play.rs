@@ -4,6 +4,7 @@ use std::fmt::Write;
 
 use crate::answer::Answer;
 use crate::directory::table_of;
+use crate::editing;
 use crate::engine;
 use crate::image::{words, MOST_SECTORS, SECTOR};
 use crate::patch::{put_patches, Patch};
@@ -17,10 +18,19 @@ pub const MOST_PLAYED: usize = MOST_SECTORS * SECTOR;
 /// The bytes of the one buffer whose front the reads are lent.
 const LENT: usize = 65_536;
 
-/// What a row came to: its answer and the bytes moved (none unless done).
+/// What a row came to: its answer, the bytes moved (none unless done), and the number of an entry that
+/// was added.
 pub struct Performed {
     pub answer: Answer,
     pub moved: Vec<u8>,
+    pub added: Option<usize>,
+}
+
+impl Performed {
+    /// The third number of its line: the sum, and of an adding answered 0 the new entry's number.
+    fn third(&self) -> usize {
+        self.added.unwrap_or(word_sum(&self.moved) as usize)
+    }
 }
 
 /// A played script: the text and the image at the end.
@@ -44,8 +54,8 @@ pub fn play(engine: Engine, mut image: Vec<u8>, patches: &[Patch], script: &Scri
             text,
             "{number} {} {} {}",
             performed.answer.number(),
-            word_sum(&performed.moved),
-            state(session.as_ref(), row.entry)
+            performed.third(),
+            state(session.as_ref().filter(|_| !row.code.edits()), row.entry)
         );
     }
     Played { text, image }
@@ -64,7 +74,7 @@ pub fn patched_session(
     (answer, read_session(&bytes))
 }
 
-/// POSITION and BEYOND of an entry's file, `- -` if it is not open, or if there is no session. The
+/// POSITION and BEYOND of an entry's file, `- -` if it is not open, or if there is no session to ask. The
 /// lowest state in use with this entry tells them, also in a session that is not legal.
 fn state(session: Option<&Session>, entry: u16) -> String {
     let open = session.and_then(|session| {
@@ -96,11 +106,13 @@ fn perform_on(
         None => Performed {
             answer: Answer::IllegalSession,
             moved: Vec::new(),
+            added: None,
         },
     }
 }
 
-/// Performs one row: a write is given the data, a read is lent the buffer, each of the row's length.
+/// Performs one row: a write or an adding is given the data, a read is lent the buffer, each of the
+/// row's length.
 pub fn perform(
     image: &mut [u8],
     session: &mut Session,
@@ -111,6 +123,7 @@ pub fn perform(
     let entry = usize::from(row.entry);
     let granule = usize::from(row.granule);
     let mut shown = Vec::new();
+    let mut added = None;
     let answer = match row.code {
         Code::Open => engine::open(image, session, entry),
         Code::Read => engine::read(image, session, entry, buffer),
@@ -122,6 +135,14 @@ pub fn perform(
             engine::look_answer(image, session, entry, granule)
         }
         Code::Order(order) => engine::order(image, session, entry, order),
+        Code::Add => match editing::add(image, session, &row.asked(data)) {
+            Ok(number) => {
+                added = Some(number);
+                Answer::Done
+            }
+            Err(answer) => answer,
+        },
+        Code::Delete => editing::delete(image, session, entry),
     };
     let moved = match row.code {
         _ if answer != Answer::Done => Vec::new(),
@@ -129,7 +150,11 @@ pub fn perform(
         Code::Write | Code::GranuleWrite => data.to_vec(),
         _ => shown,
     };
-    Performed { answer, moved }
+    Performed {
+        answer,
+        moved,
+        added,
+    }
 }
 
 /// What is summed of a read: "the first R bytes of its buffer, R as the directory in the image has it,

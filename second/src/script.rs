@@ -1,6 +1,7 @@
-//! Scripts: rows of 16 bytes, eight words, high byte first. This form is the brief's, not
+//! Scripts: rows of 16 bytes, eight words, high byte first. This form is PLAY.md's, not
 //! document 01's.
 
+use crate::editing::Asked;
 use crate::engine::Order;
 use crate::image::{put_word, word};
 
@@ -17,10 +18,12 @@ pub enum Code {
     GranuleWrite,
     GranuleLook,
     Order(Order),
+    Add,
+    Delete,
 }
 
-/// The codes 1 to 13, in order.
-const CODES: [Code; 13] = [
+/// The codes 1 to 15, in order.
+const CODES: [Code; 15] = [
     Code::Open,
     Code::Read,
     Code::Write,
@@ -34,6 +37,8 @@ const CODES: [Code; 13] = [
     Code::Order(Order::RecordBack),
     Code::Order(Order::FileForward),
     Code::Order(Order::FileBack),
+    Code::Add,
+    Code::Delete,
 ];
 
 impl Code {
@@ -47,24 +52,35 @@ impl Code {
         index.map_or(0, |index| index as u16 + 1)
     }
 
-    /// The rows that use up bytes: codes 3 and 5.
-    pub fn writes(self) -> bool {
-        matches!(self, Code::Write | Code::GranuleWrite)
+    /// What the bytes are that a row uses up: those of a write (codes 3 and 5) or of a name (14).
+    fn given(self) -> Option<&'static str> {
+        match self {
+            Code::Write | Code::GranuleWrite => Some("write"),
+            Code::Add => Some("name"),
+            _ => None,
+        }
+    }
+
+    /// The rows that change the directory: codes 14 and 15.
+    pub fn edits(self) -> bool {
+        matches!(self, Code::Add | Code::Delete)
     }
 }
 
 /// One row: the request, its entry, the length (bytes of a write, buffer size of a read) and the
-/// granule number.
+/// granule number, and words 4 and 5. An adding has the kind for an entry, the number of name bytes for
+/// a length, R for a granule number and the sector count in word 4; nothing else looks at words 4 and 5.
 #[derive(Clone, Copy, Debug, PartialEq, Eq)]
 pub struct Row {
     pub code: Code,
     pub entry: u16,
     pub length: u16,
     pub granule: u16,
+    pub more: [u16; 2],
 }
 
 impl Row {
-    /// Reads a row of 16 bytes. Words 4 and 5 are ignored; words 6 and 7 must be zero.
+    /// Reads a row of 16 bytes. Words 6 and 7 must be zero.
     fn from_bytes(bytes: &[u8]) -> Result<Row, String> {
         if word(bytes, 12) != 0 || word(bytes, 14) != 0 {
             return Err("unknown shape (the last two words are not zero)".to_string());
@@ -76,6 +92,7 @@ impl Row {
             entry: word(bytes, 2),
             length: word(bytes, 4),
             granule: word(bytes, 6),
+            more: [word(bytes, 8), word(bytes, 10)],
         })
     }
 
@@ -85,15 +102,23 @@ impl Row {
         put_word(&mut bytes, 2, self.entry);
         put_word(&mut bytes, 4, self.length);
         put_word(&mut bytes, 6, self.granule);
+        put_word(&mut bytes, 8, self.more[0]);
+        put_word(&mut bytes, 10, self.more[1]);
         bytes
     }
 
     /// The bytes that this row uses up.
     pub fn uses(&self) -> usize {
-        if self.code.writes() {
-            usize::from(self.length)
-        } else {
-            0
+        self.code.given().map_or(0, |_| usize::from(self.length))
+    }
+
+    /// What an adding asks for, with this name.
+    pub fn asked<'a>(&self, name: &'a [u8]) -> Asked<'a> {
+        Asked {
+            name,
+            kind: self.entry,
+            length: self.granule,
+            sectors: self.more[0],
         }
     }
 }
@@ -147,6 +172,7 @@ impl Script {
             entry,
             length,
             granule,
+            more: [0; 2],
         });
         self
     }
@@ -185,6 +211,36 @@ impl Script {
     pub fn close(&mut self, entry: u16) -> &mut Script {
         self.order(entry, Order::RewindOffLine)
     }
+
+    pub fn add(&mut self, asked: &Asked) -> &mut Script {
+        self.bytes.extend_from_slice(asked.name);
+        self.rows.push(Row {
+            code: Code::Add,
+            entry: asked.kind,
+            length: asked.name.len() as u16,
+            granule: asked.length,
+            more: [asked.sectors, 0],
+        });
+        self
+    }
+
+    pub fn delete(&mut self, entry: u16) -> &mut Script {
+        self.push(Code::Delete, entry, 0, 0)
+    }
+
+    /// The last row's words from `first` on, to the fifth, have these numbers.
+    pub fn with_words<const N: usize>(&mut self, first: usize, words: [u16; N]) -> &mut Script {
+        if let Some(row) = self.rows.last_mut() {
+            for (at, word) in (first..).zip(words) {
+                match at {
+                    2 => row.length = word,
+                    3 => row.granule = word,
+                    _ => row.more[at - 4] = word,
+                }
+            }
+        }
+        self
+    }
 }
 
 /// One row, whole and known, with its bytes at hand; `left` is what is left of them.
@@ -193,8 +249,10 @@ fn parse_row(part: &[u8], left: &mut usize) -> Result<Row, String> {
         return Err(format!("cut short at {} of 16 bytes", part.len()));
     }
     let row = Row::from_bytes(part)?;
-    *left = left
-        .checked_sub(row.uses())
-        .ok_or(format!("bytes are missing for its write of {}", row.uses()))?;
+    let given = row.code.given().unwrap_or("write");
+    *left = left.checked_sub(row.uses()).ok_or(format!(
+        "bytes are missing for its {given} of {}",
+        row.uses()
+    ))?;
     Ok(row)
 }

@@ -1,14 +1,17 @@
-//! Runs both engines and the tiny model side by side and holds them to document 01's promises.
+//! Runs both engines and the tiny model side by side and holds them to document 01's promises, as document
+//! 02's item 1 has them. What ADD and DELETE must do is in `editcheck.rs`.
 
-use crate::answer::Answer;
+use crate::answer::{Answer, ANSWERS};
 use crate::cases::all_cases;
 use crate::coding;
 use crate::directory::{
     directory_is_good, Entry, BLOCKED, COMPRESSED, ENTRIES, ENTRY_BYTES, RANDOM,
 };
+use crate::editcheck::{check_edit, check_fresh_mounting};
+use crate::edits::edit_cases;
 use crate::engine::Order;
 use crate::generate::{
-    extent_mut, foreign_code, random_image, random_script, random_text, script_on,
+    extent_mut, foreign_code, random_script, random_text, roomy_image, script_on, Sort,
 };
 use crate::image::{sector, sector_mut, BLANK, SECTOR};
 use crate::layout::{blocked_place, capacity, sectors_per_record, Place, MOST_RECORDS};
@@ -19,12 +22,12 @@ use crate::script::{Code, Row, Script};
 use crate::session::{mount, Buffer, Engine, OpenFile, Session};
 use crate::sessions::session_cases;
 use crate::stored::{read_session, store};
-use crate::strange::{strange_bytes, strange_session};
+use crate::strange::{strange_bytes_and_refused, strange_session};
 
 /// A promise that does not hold, or nothing.
-type Check = Result<(), String>;
+pub type Check = Result<(), String>;
 
-fn must(holds: bool, promise: &str) -> Check {
+pub fn must(holds: bool, promise: &str) -> Check {
     if holds {
         Ok(())
     } else {
@@ -37,8 +40,8 @@ fn must(holds: bool, promise: &str) -> Check {
 pub struct Tally {
     pub scripts: usize,
     pub requests: usize,
-    pub answers: [usize; 13],
-    pub strange_answers: [usize; 13],
+    pub answers: [usize; ANSWERS],
+    pub strange_answers: [usize; ANSWERS],
     pub illegal_sessions: usize,
     pub no_sessions: usize,
     pub cases: usize,
@@ -66,9 +69,9 @@ pub fn selfcheck(seed: u64, count: usize, requests: usize) -> Result<Tally, Stri
 
 /// One engine at work.
 #[derive(Clone)]
-struct Side {
-    image: Vec<u8>,
-    session: Session,
+pub struct Side {
+    pub image: Vec<u8>,
+    pub session: Session,
 }
 
 impl Side {
@@ -86,8 +89,8 @@ struct Before {
 }
 
 fn check_script(random: &mut Random, requests: usize, tally: &mut Tally) -> Check {
-    let image = random_image(random);
-    let script = random_script(random, &image, requests);
+    let image = roomy_image(random);
+    let script = random_script(random, &image, requests, Sort::All);
     check_run(&image, &script, tally)
 }
 
@@ -147,7 +150,8 @@ fn check_codes(random: &mut Random) -> Check {
 /// Both engines, and the model where there is one (a strange session has no tapes to model).
 struct Run {
     mounted: Vec<u8>,
-    opened: [bool; ENTRIES],
+    /// For each byte of the image: it is of an entry or extent of a file opened, added or deleted.
+    touched: Vec<bool>,
     plain: Side,
     buffered: Side,
     model: Option<Model>,
@@ -165,7 +169,7 @@ impl Run {
         };
         Ok(Run {
             mounted: image.to_vec(),
-            opened: [false; ENTRIES],
+            touched: vec![false; image.len()],
             plain: side(Engine::Plain)?,
             buffered: side(Engine::Buffered)?,
             model: Some(Model::of_good_image(image)),
@@ -185,7 +189,7 @@ impl Run {
         check_plain(&plain_before, &self.plain, row, data, plain.answer)?;
         self.check_buffered(buffered_before, row, plain.answer)?;
         self.check_overlay()?;
-        self.check_untouched(row, plain.answer)?;
+        self.check_untouched(row, &plain)?;
         self.check_when_none_open()?;
         Ok(plain.answer.number())
     }
@@ -209,9 +213,14 @@ impl Run {
         let Some(model) = &mut self.model else {
             return Ok(());
         };
-        let (answer, moved) = model.request(row, data);
+        let (answer, moved, added) = model.request(row, data);
         must(answer == performed.answer.number(), "the model's answer")?;
         must(moved == performed.moved, "the model's bytes")?;
+        must(added == performed.added, "the model's new entry")?;
+        must(
+            model.ground == self.plain.image[SECTOR..],
+            "the model's ground",
+        )?;
         for (number, tape) in model.tapes.iter().enumerate() {
             let slot = self.plain.session.slot_of(number);
             let file = slot.map(|slot| &self.plain.session.open[slot]);
@@ -221,6 +230,11 @@ impl Run {
             if let Some(tape) = tape {
                 let entry = &self.plain.session.table[number];
                 let length = entry.count as usize;
+                let extent = (entry.image_sector(0), entry.extent_end());
+                must(
+                    extent == (tape.first, tape.first + tape.sectors),
+                    "the tape's extent",
+                )?;
                 must(
                     entry.kind == RANDOM || tape.records.len() == length,
                     "the tape's length",
@@ -245,6 +259,9 @@ impl Run {
 
     /// The blocking buffer's promises.
     fn check_buffered(&self, side: Side, row: &Row, answer: Answer) -> Check {
+        if row.code.edits() {
+            return Ok(()); // no byte but an entry's, and no state: `editcheck.rs`
+        }
         let number = usize::from(row.entry);
         if answer != Answer::Done {
             // "a request not answered 0 puts nothing back"
@@ -353,25 +370,27 @@ impl Run {
         )
     }
 
-    /// "every byte outside entries and extents of files opened is as mounted"
-    fn check_untouched(&mut self, row: &Row, answer: Answer) -> Check {
-        if row.code == Code::Open && answer == Answer::Done {
-            self.opened[usize::from(row.entry)] = true;
+    /// "every byte outside entries and extents of files opened, added or deleted is as mounted": the
+    /// entry and the extent as they were then. It is asked more narrowly: of an opened file's entry four
+    /// bytes are touched, and an adding or a deleting touches no extent.
+    fn check_untouched(&mut self, row: &Row, performed: &Performed) -> Check {
+        if performed.answer == Answer::Done {
+            let number = performed.added.unwrap_or(usize::from(row.entry));
+            match row.code {
+                Code::Open => touch_opened(&mut self.touched, number, &self.plain.session),
+                Code::Add | Code::Delete => {
+                    let at = number * ENTRY_BYTES;
+                    self.touched[at..at + ENTRY_BYTES].fill(true);
+                }
+                _ => {}
+            }
         }
         for side in [&self.plain, &self.buffered] {
-            let mut restored = side.image.clone();
-            for number in (0..ENTRIES).filter(|&number| self.opened[number]) {
-                let at = number * ENTRY_BYTES + 16;
-                restored[at..at + 4].copy_from_slice(&self.mounted[at..at + 4]);
-                let entry = side.session.table[number];
-                let start = entry.image_sector(0) * SECTOR;
-                let end = entry.extent_end() * SECTOR;
-                restored[start..end].copy_from_slice(&self.mounted[start..end]);
-            }
-            must(
-                restored == self.mounted,
-                "bytes of other files are as mounted",
-            )?;
+            let bytes = side.image.iter().zip(&self.mounted);
+            let same = bytes
+                .zip(&self.touched)
+                .all(|((now, then), &touched)| touched || now == then);
+            must(same, "bytes of other files are as mounted")?;
         }
         Ok(())
     }
@@ -389,14 +408,8 @@ impl Run {
         let Some(model) = &self.model else {
             return Ok(());
         };
-        for engine in [Engine::Plain, Engine::Buffered] {
-            let (answer, session) = mount(engine, &self.plain.image);
-            must(answer == Answer::Done, "a fresh mounting is good")?;
-            must(
-                session.table == self.plain.session.table,
-                "a fresh mounting's table",
-            )?;
-        }
+        check_fresh_mounting(&self.plain)?;
+        check_fresh_mounting(&self.buffered)?;
         let fresh = Model::of_good_image(&self.plain.image);
         must(fresh == model.all_closed(), "a fresh mounting's tapes")
     }
@@ -445,6 +458,7 @@ fn perform_checked(side: &mut Side, row: &Row, data: &[u8]) -> Result<Performed,
     let mut buffer = vec![FILLER; usize::from(row.length)];
     let performed = perform(&mut side.image, &mut side.session, row, data, &mut buffer);
     let answer = performed.answer;
+    check_edit(&before, side, row, data, (answer.number(), performed.added))?;
     if answer.is_refusal() {
         // ""Nothing changed" covers image, session and caller's buffer."
         must(before.image == side.image, "a refusal leaves the image")?;
@@ -476,6 +490,9 @@ fn perform_checked(side: &mut Side, row: &Row, data: &[u8]) -> Result<Performed,
 
 /// The plain engine's image after a request, byte for byte.
 fn check_plain(before: &Side, after: &Side, row: &Row, data: &[u8], answer: Answer) -> Check {
+    if row.code.edits() {
+        return Ok(()); // `editcheck.rs`
+    }
     let mut expected = before.image.clone();
     if answer == Answer::Done {
         let number = usize::from(row.entry);
@@ -543,12 +560,12 @@ fn write_whole(image: &mut [u8], entry: &Entry, k: usize, data: &[u8]) {
 // over the one image give the other), and meet bad codes.
 
 fn check_strange(random: &mut Random, requests: usize, tally: &mut Tally) -> Check {
-    let mut image = random_image(random);
+    let mut image = roomy_image(random);
     let session = strange_session(random, &mut image);
     must(session.is_legal(&image), "a strange session is legal")?;
     check_illegal(random, &image, &session, tally)?;
     check_bytes(random, &image, &session, tally)?;
-    let script = random_script(random, &image, requests);
+    let script = random_script(random, &image, requests, Sort::All);
     let mut run = strange_run(image, session);
     for (number, (row, data)) in script.steps().into_iter().enumerate() {
         let answer = run
@@ -567,17 +584,25 @@ fn strange_run(image: Vec<u8>, session: Session) -> Run {
     };
     plain.session.engine = Engine::Plain;
     forget_buffers(&mut plain.session);
-    let mut opened = [false; ENTRIES];
+    let mut touched = vec![false; buffered.image.len()];
     for file in buffered.session.open_files() {
-        opened[file.entry] = true;
+        touch_opened(&mut touched, file.entry, &buffered.session);
     }
     Run {
         mounted: buffered.image.clone(),
-        opened,
+        touched,
         plain,
         buffered,
         model: None,
     }
+}
+
+/// Bytes 16 to 19 of an opened file's entry, and its extent.
+fn touch_opened(touched: &mut [bool], number: usize, session: &Session) {
+    let at = number * ENTRY_BYTES + 16;
+    touched[at..at + 4].fill(true);
+    let entry = session.table[number];
+    touched[entry.image_sector(0) * SECTOR..entry.extent_end() * SECTOR].fill(true);
 }
 
 /// The plain engine's states have no buffers.
@@ -587,9 +612,9 @@ fn forget_buffers(session: &mut Session) {
     }
 }
 
-/// The cases of sessions: what holds for either engine by itself.
+/// The cases of sessions, and those of ADD and DELETE: what holds for either engine by itself.
 fn check_session_cases(tally: &mut Tally) -> Check {
-    for case in session_cases() {
+    for case in [session_cases(), edit_cases()].concat() {
         for engine in [Engine::Plain, Engine::Buffered] {
             let patches = case.session_patches(engine);
             let (_, session) = patched_session(engine, &case.image, patches);
@@ -616,13 +641,13 @@ fn check_session_cases(tally: &mut Tally) -> Check {
 fn check_bytes(random: &mut Random, image: &[u8], session: &Session, tally: &mut Tally) -> Check {
     let back = read_session(&store(session));
     must(back.as_ref() == Some(session), "a session comes back")?;
-    let made = strange_bytes(random, image, session);
+    let made = strange_bytes_and_refused(random, image, session);
     let Some(session) = read_session(made.buffered()) else {
         tally.no_sessions += 1;
         return Ok(());
     };
     must(store(&session) == made.buffered(), "bytes come back")?;
-    let script = script_on(random, &session, 20);
+    let script = script_on(random, &session, image.len() / SECTOR, 20, Sort::All);
     let mut side = Side {
         image: image.to_vec(),
         session,
@@ -649,7 +674,7 @@ fn check_illegal(random: &mut Random, image: &[u8], session: &Session, tally: &m
                 continue;
             }
             tally.illegal_sessions += 1;
-            let script = random_script(random, &image, 3);
+            let script = random_script(random, &image, 3, Sort::All);
             let mut side = Side {
                 image,
                 session: broken,
@@ -665,7 +690,7 @@ fn check_illegal(random: &mut Random, image: &[u8], session: &Session, tally: &m
 }
 
 /// The ways of `break_session`.
-const WAYS: usize = 24;
+const WAYS: usize = 25;
 
 /// Breaks one rule of a legal session; false if this session has nothing to break that way.
 fn break_session(
@@ -711,6 +736,7 @@ fn break_session(
         13 if entry.kind == RANDOM => entry.count = 1,
         13 => entry.count = capacity(entry).unwrap_or(MOST_RECORDS) as u32 + 1,
         14 => entry.count += 1 << 16, // a word's worth more
+        24 => session.refused = true,
         _ => return break_open_file(session, way),
     }
     true

@@ -52,6 +52,8 @@ pub struct Session {
     pub engine: Engine,
     pub table: Table,
     pub open: [OpenFile; MOST_OPEN],
+    /// "The session from a refused mounting says that it is one".
+    pub refused: bool,
 }
 
 impl Buffer {
@@ -93,6 +95,7 @@ pub fn mount(engine: Engine, image: &[u8]) -> (Answer, Session) {
         engine,
         table,
         open: [OpenFile::UNUSED; MOST_OPEN],
+        refused: !good,
     };
     let answer = if good { Answer::Done } else { Answer::BadImage };
     (answer, session)
@@ -123,11 +126,19 @@ impl Session {
 
     /// "A session is legal exactly if the image has a lawful length, its table keeps every
     /// directory rule but the decoding one, at most four files are open, each a different used
-    /// entry, ..."  (There are only four open-file states.)
+    /// entry, ..."  (There are only four open-file states.) And by document 02: "The session from a
+    /// refused mounting says that it is one, and if it says so with a used entry or an open file it
+    /// falls under 12."
     pub fn is_legal(&self, image: &[u8]) -> bool {
         number_of_sectors(image).is_some_and(|n| table_is_good(&self.table, n))
             && self.open_entries_differ()
             && self.open_files().all(|file| self.open_file_is_legal(file))
+            && (!self.refused || self.is_empty())
+    }
+
+    /// "with no used entry and nothing open"
+    fn is_empty(&self) -> bool {
+        !self.table.iter().any(Entry::is_used) && self.open_files().next().is_none()
     }
 
     /// "each a different ... entry"

@@ -1,7 +1,8 @@
 //! A session in bytes. This form is not document 01's: it is that of SESSIONS.md.
 //!
-//! 516 bytes for the plain engine, 1,980 for the buffered one: "the table: 18 entries of 22 bytes",
-//! then "four open-file states, of 30 bytes each, or of 396 with buffers".
+//! 517 bytes for the plain engine, 1,981 for the buffered one: "the table: 18 entries of 22 bytes",
+//! then "four open-file states, of 30 bytes each, or of 396 with buffers", then one byte: whether it is
+//! from a refused mounting.
 
 use crate::directory::{Entry, ENTRIES};
 use crate::image::{put_word, word, SECTOR};
@@ -38,6 +39,8 @@ pub const END_BYTE: Field = field(26, 4);
 pub const HOLDS: Field = field(30, 1);
 pub const HELD_SECTOR: Field = field(31, 4);
 pub const CHANGED: Field = field(35, 1);
+/// What a session says of itself: the one byte behind its states.
+const REFUSED: Field = field(0, 1);
 /// Where the 360 bytes of the buffer begin in a state.
 pub const BUFFER: usize = 36;
 
@@ -54,9 +57,14 @@ pub fn state_start(engine: Engine, slot: usize) -> usize {
     STATES + slot * state_bytes(engine)
 }
 
-/// The bytes of a session: 516 or 1,980.
-fn session_bytes(engine: Engine) -> usize {
+/// Where a session says whether it is from a refused mounting: its last byte.
+pub fn refused_at(engine: Engine) -> usize {
     state_start(engine, MOST_OPEN)
+}
+
+/// The bytes of a session: 517 or 1,981.
+fn session_bytes(engine: Engine) -> usize {
+    refused_at(engine) + 1
 }
 
 // ---------------------------------------------------------------------------------------------
@@ -67,10 +75,11 @@ pub fn store(session: &Session) -> Vec<u8> {
     for (to, entry) in bytes.chunks_mut(STORED_ENTRY).zip(&session.table) {
         store_entry(to, entry);
     }
-    let states = bytes[STATES..].chunks_mut(state_bytes(session.engine));
+    let states = bytes[STATES..].chunks_exact_mut(state_bytes(session.engine));
     for (to, file) in states.zip(&session.open) {
         store_file(session.engine, to, file);
     }
+    bytes[refused_at(session.engine)] = u8::from(session.refused);
     bytes
 }
 
@@ -124,6 +133,7 @@ pub fn read_session(bytes: &[u8]) -> Option<Session> {
         engine,
         table: std::array::from_fn(entry),
         open,
+        refused: truth(&bytes[refused_at(engine)..], REFUSED)?,
     })
 }
 
@@ -180,8 +190,8 @@ fn read_buffer(from: &[u8]) -> Option<Buffer> {
     })
 }
 
-/// "A byte that is 0 or 1 by this table and has another value, in any of the four states, in use or
-/// not, makes the bytes no session."
+/// "A byte that is 0 or 1 by these tables and has another value, in any of the four states, in use or
+/// not, or at the end, makes the bytes no session."
 fn truth(state: &[u8], field: Field) -> Option<bool> {
     match number(state, field) {
         0 => Some(false),

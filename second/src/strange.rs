@@ -8,7 +8,9 @@ use crate::image::{sector, SECTOR};
 use crate::layout::{capacity, Place, MOST_RECORDS};
 use crate::random::Random;
 use crate::session::{mount, Buffer, Engine, OpenFile, Session, MOST_OPEN};
-use crate::stored::{Field, BEYOND, CHANGED, ENTRY, HOLDS, IN_USE, POSITION, STORED_ENTRY};
+use crate::stored::{
+    refused_at, Field, BEYOND, CHANGED, ENTRY, HOLDS, IN_USE, POSITION, STORED_ENTRY,
+};
 use crate::stored::{END_BYTE, END_SECTOR, HELD_SECTOR, PLACE_BYTE, PLACE_SECTOR};
 
 // ---------------------------------------------------------------------------------------------
@@ -134,9 +136,46 @@ pub fn strange_bytes(random: &mut Random, image: &[u8], session: &Session) -> Ha
     made
 }
 
-/// Any bytes everywhere, but for the truth values.
+/// The same, and in some of them the session says that its mounting was refused, rightly or not, or has
+/// nothing in it.
+pub fn strange_bytes_and_refused(random: &mut Random, image: &[u8], session: &Session) -> Handmade {
+    let mut made = strange_bytes(random, image, session);
+    if random.chance(20) {
+        made = other_entry(random, made, session);
+    }
+    match random.between(0, 99) {
+        0..=5 => made.without_files().with_nothing_open().refused(1),
+        6..=8 => made.without_files().with_nothing_open().refused(0),
+        9..=11 => made.refused(random.pick(&[1, 1, 2, 3, 128, 255])),
+        12 => made.without_files().refused(1),
+        13 => made.with_nothing_open().refused(1),
+        _ => made,
+    }
+}
+
+/// The table has a closed file's entry elsewhere, by another name, or not at all; the directory has it.
+fn other_entry(random: &mut Random, made: Handmade, session: &Session) -> Handmade {
+    let is_used = |&number: &usize| session.table[number].is_used();
+    let is_closed = |number: &usize| session.slot_of(*number).is_none();
+    let closed: Vec<usize> = (0..ENTRIES).filter(is_used).filter(is_closed).collect();
+    let free: Vec<usize> = (0..ENTRIES).filter(|number| !is_used(number)).collect();
+    if closed.is_empty() || free.is_empty() {
+        return made;
+    }
+    let number = random.pick(&closed);
+    let start = number * STORED_ENTRY;
+    let entry = made.buffered()[start..start + STORED_ENTRY].to_vec();
+    let freed = made.clone().table(number, 0, &[0; STORED_ENTRY]);
+    match random.between(0, 2) {
+        0 => freed,
+        1 => freed.table(random.pick(&free), 0, &entry),
+        _ => made.table(number, 0, &[0xE7]),
+    }
+}
+
+/// Any bytes everywhere, but for the truth values; what the session says of its mounting is left.
 fn wild_bytes(random: &mut Random, mut made: Handmade) -> Handmade {
-    for at in 0..made.buffered().len() {
+    for at in 0..refused_at(Engine::Buffered) {
         made = made.byte(at, random.byte());
     }
     for slot in 0..MOST_OPEN {
@@ -152,7 +191,7 @@ fn change_something(random: &mut Random, made: Handmade, session: &Session) -> H
         0..=6 => change_state(random, made, session),
         7..=8 => change_table(random, made, session),
         _ => {
-            let at = random.between(0, made.buffered().len() - 1);
+            let at = random.between(0, refused_at(Engine::Buffered) - 1);
             made.byte(at, random.byte())
         }
     }

@@ -10,8 +10,10 @@ use crate::committed::committed_cases;
 use crate::damage::{damaged_cases, small_image};
 use crate::directory::{directory_is_good, ENTRIES, MARKED};
 use crate::directory::{find_by_name, table_of, Entry, BLOCKED, COMPRESSED, RANDOM, UNBLOCKED};
+use crate::editing::{self, Asked};
+use crate::edits::{edit_cases, pictured};
 use crate::engine::{self, Order};
-use crate::generate::{empty_image, new_entry, put_entry, random_image};
+use crate::generate::{empty_image, new_entry, put_entry, random_image, Sort};
 use crate::image::{sector, BLANK, SECTOR};
 use crate::layout::{blocked_place, capacity, records_per_sector, unblocked_capacity, Place};
 use crate::listed::{images_of, listed_file, listed_images};
@@ -697,7 +699,7 @@ fn small_session(engine: Engine) -> Session {
 #[test]
 fn form_of_a_session() {
     let plain = store(&small_session(Engine::Plain));
-    assert_eq!(plain.len(), 516);
+    assert_eq!(plain.len(), 517);
     assert_eq!(plain[..16], small_image()[..16]);
     assert_eq!(plain[16..22], [0, 0, 0, 2, 0, 1]);
     assert_eq!(
@@ -717,18 +719,25 @@ fn form_of_a_session() {
     ]
     .concat();
     assert_eq!(plain[426..456], state);
-    assert_eq!(plain[456..], [0; 60]);
+    assert_eq!(plain[456..], [0; 61]);
     let mut session = small_session(Engine::Buffered);
     session.open[1].buffer.holds = true;
     session.open[1].buffer.sector = 0x0102;
     session.open[1].buffer.bytes[359] = 7;
     let buffered = store(&session);
-    assert_eq!(buffered.len(), 1_980);
+    assert_eq!(buffered.len(), 1_981);
     assert_eq!(buffered[792..822], state);
     assert_eq!(buffered[822..828], [1, 2, 1, 0, 0, 0]);
     assert_eq!(buffered[828..1_187], [0; 359]);
     assert_eq!(buffered[1_187], 7);
-    assert_eq!(buffered[1_188..], [0; 792]);
+    assert_eq!(buffered[1_188..], [0; 793]);
+    for engine in BOTH {
+        let (_, refused) = mount(engine, &[1; 360]);
+        let bytes = store(&refused);
+        let (last, others) = bytes.split_last().unwrap_or((&0, &[]));
+        assert_eq!(*last, 1);
+        assert!(others.iter().all(|&byte| byte == 0));
+    }
 }
 
 #[test]
@@ -752,13 +761,13 @@ fn sessions_come_back() {
 /// Other numbers of bytes, and truth values other than 0 and 1.
 #[test]
 fn bytes_that_are_no_session() {
-    for length in [0, 1, 515, 517, 1_979, 1_981] {
+    for length in [0, 1, 515, 516, 518, 1_979, 1_980, 1_982] {
         assert_eq!(read_session(&vec![0; length]), None);
     }
-    for (length, truths) in [(516, &[0, 13][..]), (1_980, &[0, 13, 30, 35])] {
-        let size = (length - 396) / 4;
+    for (length, truths) in [(517, &[0, 13][..]), (1_981, &[0, 13, 30, 35])] {
+        let size = (length - 397) / 4;
         for at in 396..length {
-            let is_truth = truths.contains(&((at - 396) % size));
+            let is_truth = truths.contains(&((at - 396) % size)) || at == length - 1;
             for value in [2, 3, 128, 255] {
                 let mut bytes = vec![0; length];
                 bytes[at] = value;
@@ -1047,6 +1056,200 @@ fn held_sectors_of_files_without_a_buffer() {
 }
 
 // ---------------------------------------------------------------------------------------------
+// Document 02, item 1.
+
+fn asked(name: &[u8], kind: u16, length: u16, sectors: u16) -> Asked<'_> {
+    Asked {
+        name,
+        kind,
+        length,
+        sectors,
+    }
+}
+
+/// Eight bytes of a name in ASCII.
+fn letters(name: &str) -> [u8; 8] {
+    new_entry(name, 0, 0, 0, 0).name
+}
+
+impl Bench {
+    fn add(&mut self, name: &str, kind: u16, r: u16, sectors: u16) -> Result<usize, Answer> {
+        let name = letters(name);
+        let asked = asked(&name, kind, r, sectors);
+        editing::add(&mut self.image, &mut self.session, &asked)
+    }
+
+    fn delete(&mut self, number: usize) -> Answer {
+        editing::delete(&mut self.image, &mut self.session, number)
+    }
+}
+
+/// An entry of 20 bytes, byte by byte, in the image and in the table; and zeroed again.
+#[test]
+fn add_and_delete_one_entry() {
+    for engine in BOTH {
+        let mut bench = Bench::new(engine, small_image()[..].to_vec());
+        let before = bench.image.clone();
+        assert_eq!(bench.add("NEW9", COMPRESSED, 132, 1), Err(NoGap));
+        assert_eq!(bench.delete(1), Done);
+        assert_eq!(bench.add("NEW9", COMPRESSED, 132, 2), Ok(1));
+        let mut image = before.clone();
+        image[20..40].copy_from_slice(&[
+            0xD5, 0xC5, 0xE6, 0xF9, 0x40, 0x40, 0x40, 0x40, 0, 3, 0, 132, 0, 5, 0, 2, 0, 0, 0, 0,
+        ]);
+        assert_eq!(bench.image, image);
+        assert_eq!(bench.session.table, table_of(&bench.image));
+        assert_eq!(bench.delete(1), Done);
+        assert_eq!(bench.delete(1), NotThere);
+        image[20..40].fill(0);
+        assert_eq!(bench.image, image);
+        assert_eq!(bench.session.table, table_of(&bench.image));
+    }
+}
+
+/// Every refusal of ADD, the earlier ones before the later ones, on a full table without a free sector.
+#[test]
+fn refusals_of_add() {
+    let mut image = empty_image(19);
+    for number in 0..ENTRIES {
+        let entry = new_entry(&format!("F{number}"), BLOCKED, 100, number + 1, 1);
+        put_entry(&mut image, number, &entry);
+    }
+    for engine in BOTH {
+        let mut bench = Bench::new(engine, image.clone());
+        assert_eq!(bench.add("NEW", BLOCKED, 100, 1), Err(NoFreeEntry));
+        assert_eq!(bench.add("F17", BLOCKED, 100, 1), Err(NameInUse));
+        assert_eq!(bench.add("F17", BLOCKED, 362, 1), Err(BadShape));
+        assert_eq!(bench.add("F17", BLOCKED, 100, 0), Err(BadShape));
+        assert_eq!(bench.add("F17", 5, 100, 1), Err(BadShape));
+        assert_eq!(bench.add("17F", 5, 100, 0), Err(BadName));
+        assert_eq!(bench.image, image);
+        assert_eq!(bench.delete(4), Done);
+        assert_eq!(bench.add("NEW", BLOCKED, 100, 2), Err(NoGap));
+        assert_eq!(bench.add("NEW", BLOCKED, 100, 65_535), Err(NoGap));
+        assert_eq!(bench.add("NEW", RANDOM, 100, 1), Ok(4));
+        assert_eq!(bench.session.table[4].first, 5);
+        bench.session.open[0].in_use = true;
+        bench.session.open[0].entry = 18;
+        assert_eq!(bench.add("17F", 5, 100, 0), Err(IllegalSession));
+        assert_eq!(bench.delete(4), IllegalSession);
+    }
+}
+
+/// Refused mountings: 11 to ADD and 8 to DELETE; 12 to a session that says so with a used entry.
+#[test]
+fn sessions_of_refused_mountings() {
+    for engine in BOTH {
+        let mut image = small_image();
+        image[8] = 9;
+        let (answer, session) = mount(engine, &image);
+        assert_eq!((answer, session.refused), (BadImage, true));
+        let mut bench = Bench { image, session };
+        let before = bench.image.clone();
+        assert_eq!(bench.add("NEW", 9, 100, 1), Err(BadImage));
+        assert_eq!(bench.delete(0), NotThere);
+        assert_eq!(bench.image, before);
+        bench.session.table[0] = new_entry("FILE", BLOCKED, 100, 1, 1);
+        assert_eq!(bench.add("NEW", 9, 100, 1), Err(IllegalSession));
+        assert_eq!(bench.delete(0), IllegalSession);
+        bench.session.refused = false;
+        assert_eq!(bench.add("NEW", BLOCKED, 100, 1), Ok(1));
+        // Any image of a lawful length will do, also a good one.
+        let (_, mut session) = mount(engine, &small_image());
+        session.table = [Entry::default(); ENTRIES];
+        session.refused = true;
+        assert!(session.is_legal(&small_image()));
+        assert!(!session.is_legal(&small_image()[1..]));
+    }
+}
+
+/// An open file is not deleted, and its buffer is not put back; its count in the image stays old.
+#[test]
+fn editing_while_open() {
+    let mut bench = Bench::with_file(Engine::Buffered, BLOCKED, 100, 2);
+    bench.image.resize(6 * SECTOR, 0x77);
+    assert_eq!(bench.write(&[1; 100]), Done);
+    let before = (bench.image.clone(), bench.session.open);
+    assert_eq!(bench.delete(0), OpenAlready);
+    assert_eq!(bench.add("RANDOM", RANDOM, 360, 2), Ok(1));
+    assert_eq!(bench.image[..20], before.0[..20]);
+    assert_eq!(bench.image[40..], before.0[40..]);
+    assert_eq!(bench.session.open, before.1);
+    assert_eq!(bench.entry().count, 1);
+    assert_eq!(bench.open(1), Done);
+    let shown = engine::look(&bench.image, &bench.session, 1, 1);
+    assert_eq!(shown, [0x77; 360]);
+}
+
+/// The text of rows 14 and 15, and that a name's bytes are used up.
+#[test]
+fn play_text_of_edits() {
+    let words = "add:FILE:2:80:1 hex:C1:2:80:1 add:NEW:2:80:1 @1 open write:2 delete close delete @18 delete";
+    let mut image = empty_image(3);
+    put_entry(&mut image, 0, &new_entry("FILE", BLOCKED, 80, 1, 1));
+    for engine in BOTH {
+        let text = play(engine, image.clone(), &[], &script(80, words)).text;
+        let expected = "MOUNT 0
+0 14 0 - -
+1 13 0 - -
+2 0 1 - -
+3 0 0 0 0
+4 0 10805 1 0
+5 9 0 - -
+6 0 0 - -
+7 0 0 - -
+8 8 0 - -
+";
+        assert_eq!(text, expected);
+    }
+}
+
+/// Every way to be refused, alone and before a later one, gives the answer that the case's name tells.
+#[test]
+fn cases_of_refusals_say_so() {
+    let mut met = HashSet::new();
+    for case in edit_cases() {
+        let answer = case
+            .name
+            .strip_prefix("add-")
+            .and_then(|name| name.get(..2));
+        let Some(answer) = answer.filter(|told| told.parse::<u8>().is_ok()) else {
+            continue;
+        };
+        for engine in BOTH {
+            let text = case.expected(engine).text;
+            let first = text.lines().nth(1).and_then(|row| row.split(' ').nth(1));
+            assert_eq!(first, Some(answer), "{}", case.name);
+        }
+        met.insert(answer.to_string());
+    }
+    assert_eq!(met.len(), 7);
+}
+
+/// The lowest gap, told by hand: the pictures' first sectors.
+#[test]
+fn lowest_gaps() {
+    for (picture, sectors, first) in [
+        ("...A.B..", 1, Some(1)),
+        ("...A.B..", 3, Some(1)),
+        ("...A.B..", 4, None),
+        ("A.B..C...", 1, Some(2)),
+        ("A.B..C...", 2, Some(4)),
+        ("A.B..C...", 3, Some(7)),
+        ("A.B..C...", 4, None),
+        ("..CC.BA", 3, None),
+        ("BBBA...", 3, Some(5)),
+        (".......", 7, Some(1)),
+        (".......", 8, None),
+    ] {
+        let mut bench = Bench::new(Engine::Plain, pictured(picture));
+        let added = bench.add("NEW", RANDOM, 2, sectors).ok();
+        let found = added.map(|number| bench.session.table[number].first);
+        assert_eq!(found, first, "{picture} {sectors}");
+    }
+}
+
+// ---------------------------------------------------------------------------------------------
 // Scripts, cases, selfcheck.
 
 #[test]
@@ -1062,13 +1265,32 @@ fn rows_that_are_not_in_order() {
     assert!(parse(&good[..15], 4).is_err());
     for bad in [
         row([0; 8]),
-        row([14, 0, 0, 0, 0, 0, 0, 0]),
+        row([16, 0, 0, 0, 0, 0, 0, 0]),
+        row([14, 2, 5, 100, 1, 0, 0, 0]),
+        row([14, 2, 4, 100, 1, 0, 1, 0]),
+        row([15, 2, 4, 100, 1, 0, 0, 1]),
         row([1, 0, 0, 0, 0, 0, 1, 0]),
         row([1, 0, 0, 0, 0, 0, 0, 1]),
     ] {
         assert!(parse(&bad, 4).is_err());
     }
     assert!(parse(&[], 0).is_ok());
+    let adding = row([14, 2, 8, 100, 1, 77, 0, 0]);
+    assert!(parse(&adding, 8).is_ok());
+    assert_eq!(
+        parse(&adding, 7).err().as_deref(),
+        Some("row 0: bytes are missing for its name of 8")
+    );
+    assert_eq!(
+        parse(&good, 3).err().as_deref(),
+        Some("row 0: bytes are missing for its write of 4")
+    );
+    assert!(parse(&row([15, 2, 65_535, 1, 1, 1, 0, 0]), 0).is_ok());
+    let unknown = row([16, 0, 0, 0, 0, 0, 0, 0]);
+    assert_eq!(
+        parse(&unknown, 0).err().as_deref(),
+        Some("row 0: unknown code 16")
+    );
 }
 
 #[test]
@@ -1117,15 +1339,18 @@ fn cases_have_names_of_their_own_and_parse() {
 fn scripts_in_words() {
     let told = script(
         4,
-        "open @2 read:R+1 text:A..B put:7:2 forward*2 look:9 close",
+        "open @2 read:R+1 text:A..B put:7:2 forward*2 look:9 close add:AB:3:R+2:7 hex:00C1:4:2:1 delete",
     );
     let mut wanted = Script::default();
     wanted.open(0).read(2, 5);
     wanted.write(2, &[0xC1, BLANK, BLANK, 0xC2]);
-    wanted.granule_write(2, 7, &told.bytes[4..]);
+    wanted.granule_write(2, 7, &told.bytes[4..6]);
     wanted.order(2, Order::RecordForward);
     wanted.order(2, Order::RecordForward);
     wanted.granule_look(2, 9).close(2);
+    let name = [0xC1, 0xC2, BLANK, BLANK, BLANK, BLANK, BLANK, BLANK];
+    wanted.add(&asked(&name, COMPRESSED, 6, 7));
+    wanted.add(&asked(&[0, 0xC1], RANDOM, 2, 1)).delete(2);
     assert_eq!(told.rows, wanted.rows);
     assert_eq!(told.bytes, wanted.bytes);
 }
@@ -1236,7 +1461,7 @@ fn committed_cases_come_back() {
 /// Bundles that are cut short or name no known form are refused.
 #[test]
 fn bad_bundles() {
-    let file = bundle(&[random_case(1, 0, 5)]);
+    let file = bundle(&[random_case(1, 0, 5, Sort::All)]);
     for length in [1, 15, 16, 40, file.len() - 1] {
         assert!(unbundle(&file[..length]).is_err());
     }
@@ -1252,7 +1477,7 @@ fn committed_cases_meet_the_answers() {
         .lines()
         .filter(|line| line.starts_with(|c: char| c.is_ascii_digit()));
     let met: HashSet<&str> = rows.filter_map(|row| row.split(' ').nth(1)).collect();
-    for answer in 0..=12 {
+    for answer in 0..=17 {
         let is_met = met.contains(answer.to_string().as_str());
         assert!(is_met, "answer {answer}");
     }

@@ -25,10 +25,9 @@ use Rattle.tables.proofs.Rows.{getD-row}
 use Rattle.storing.specs.Stored.{heldWidth, filesAt, width, hasBuffers, fileStored, holdOf, holdStored, heldStored, frontStored, stateStored, stateIn, stateFlags, isSession, statesIn, sessionIn, stored, layPart, layState, layFresh}
 use Rattle.storing.proofs.Back.{state-same}
 use Rattle.storing.proofs.Laid.{part-there, length-laid, length-front, length-state}
-use Rattle.storing.proofs.Counts.{back, back-long, stored-counted}
+use Rattle.storing.proofs.Counts.{back, back-long, has-table, stored-counted}
 use Rattle.storing.proofs.Read.{size-buffered, told-by-size, session-is, session-bytes, session-size, session-flags}
 use Rattle.finding.specs.Lent.{inUse, stateAt, bufferAt}
-use Rattle.finding.proofs.Lent.{has-table}
 use Rattle.advancing.specs.Advancing.{readied, layNext}
 use Rattle.advancing.proofs.Sessions.{fresh-whole, own-whole}
 use Rattle.directory.specs.declared.Entry.{Entry}
@@ -73,7 +72,7 @@ module _ (b : List ℕ) (i count flags : ℕ) where
 abbrev layHeld : List ℕ → ℕ → BufferedFile → List ℕ
 layHeld b k f = layPart mostOpen filesAt (width true) b k (stateStored true f)
 
-module _ (b : List ℕ) (long : length b ≡ 1980) (k : ℕ) (n : k < mostOpen) where
+module _ (b : List ℕ) (long : filesAt + heldWidth * mostOpen ≤ length b) (k : ℕ) (n : k < mostOpen) where
   abbrev at : ℕ
   at = filesAt + heldWidth * k
 
@@ -88,7 +87,7 @@ module _ (b : List ℕ) (long : length b ≡ 1980) (k : ℕ) (n : k < mostOpen) 
   unfolding stateStored frontStored heldStored
   in-two f = sym (append-assoc (fileStored (f .file)) (holdStored (holdOf f)) (f .buffer))
 
-  laid-in-two : (c : List ℕ) → length c ≡ 1980 → (f : BufferedFile) → length (f .buffer) ≡ sector
+  laid-in-two : (c : List ℕ) → filesAt + heldWidth * mostOpen ≤ length c → (f : BufferedFile) → length (f .buffer) ≡ sector
       → lay c at (stateStored true f) ≡ lay (lay c at (first f)) (bufferAt k) (f .buffer)
   laid-in-two c l f w =
       let s : length (first f) ≡ 36 = length-front (f .file) (holdOf f) in
@@ -121,8 +120,8 @@ module _ (b : List ℕ) (long : length b ≡ 1980) (k : ℕ) (n : k < mostOpen) 
         counts-past (layHeld b k old) i count flags (omega arith) (bufferAt k) room (omega arith)
         ∙ ap (λ (r : List ℕ). lay r (bufferAt k) room) (ap (λ (r : List ℕ). layCounts twoWordsWide entries r i count flags) (held-there b (stateStored true old)) ∙ counts-past b i count flags (omega arith) at (stateStored true old) (omega arith))
 
-    d-long : length d ≡ 1980
-    d-long = length-lay c at (stateStored true old) ∙ length-counted b i count flags ∙ long
+    d-long : filesAt + heldWidth * mostOpen ≤ length d
+    d-long = omega (arith, length-lay c at (stateStored true old), length-counted b i count flags, long)
 
     -- the whole state again
     over : (y : BufferedFile) → length (y .buffer) ≡ sector → lay d at (stateStored true y) ≡ layHeld c k y
@@ -157,8 +156,8 @@ length-readied u b k used = either used
     (λ t. ap length (not-chosen used b (layFresh u b k idle) t) ∙ length-laid mostOpen filesAt (width u) b k (stateStored u (fresh idle)))
 
 module _ (b : List ℕ) (ok : isSession true b ≡ true) (k : ℕ) (n : k < mostOpen) where
-  long : length b ≡ 1980
-  long = session-size true b ok ∙ size-buffered
+  long : filesAt + heldWidth * mostOpen ≤ length b
+  long = omega (arith, session-size true b ok, size-buffered)
 
   abbrev place : ℕ
   place = filesAt + heldWidth * k
@@ -253,9 +252,9 @@ module _ (b : List ℕ) (k : ℕ) (n : k < mostOpen) (f : OpenFile) (v : Verdict
 
   -- what is laid makes them the bytes of the next session
   pub next-stored : (u : Bool) → isSession u b ≡ true → Behind u b k f v h room y c → (i : ℕ) → v .entry ≡ restamped (entryAt (sessionIn u b .table) i) (v .entry .count) (v .entry .flags)
-      → layNext (hasBuffers c) c i k v h ≡ stored u (record { table = set (sessionIn u b .table) i (v .entry); files = set (sessionIn u b .files) k y })
+      → layNext (hasBuffers c) c i k v h ≡ stored u (record { says = sessionIn u b .says; table = set (sessionIn u b .table) i (v .entry); files = set (sessionIn u b .files) k y })
   next-stored u ok p i same =
       ap (λ (w : Bool). layNext w c i k v h) (told-by-size u c (behind-size u p ∙ session-size u b ok))
       ∙ next-laid u ok p i
       ∙ sym (stored-counted u b i k (v .entry .count) (v .entry .flags) ok y (length-state u y (next-whole u p)))
-      ∙ ap (λ (e : Entry). stored u (record { table = set (sessionIn u b .table) i e; files = set (sessionIn u b .files) k y })) (sym same)
+      ∙ ap (λ (e : Entry). stored u (record { says = sessionIn u b .says; table = set (sessionIn u b .table) i e; files = set (sessionIn u b .files) k y })) (sym same)

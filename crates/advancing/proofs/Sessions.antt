@@ -15,7 +15,7 @@ use Rattle.sessions.specs.Session.{idle, fresh}
 use Rattle.tables.specs.Tables.{twoWordsWide}
 use Rattle.tables.proofs.Rows.{getD-row}
 use Rattle.tables.proofs.Tables.{length-entries}
-use Rattle.storing.specs.Stored.{filesAt, width, sizeOf, fileIn, heldIn, stateIn, isSession, tableIn, statesIn, unlawful, sessionIn}
+use Rattle.storing.specs.Stored.{filesAt, width, saidAt, saidWidth, sizeOf, fileIn, heldIn, stateIn, sayingIn, isSession, tableIn, statesIn, unlawful, sessionIn}
 use Rattle.storing.proofs.Read.{session-size, session-is, session-none}
 use Rattle.finding.specs.Lent.{inUse, stateAt}
 use Rattle.finding.proofs.Lent.{length-states}
@@ -44,7 +44,7 @@ module _ (u : Bool) (b : List ℕ) where
   s = sessionIn u b
 
   -- any bytes
-  module _ (P : BufferedSession → Type 0) (is : isSession u b ≡ true → P (record { table = tableIn b; files = statesIn u b })) (none : P unlawful) where
+  module _ (P : BufferedSession → Type 0) (is : isSession u b ≡ true → P (record { says = sayingIn b (saidAt u); table = tableIn b; files = statesIn u b })) (none : P unlawful) where
     either-way : P s
     either-way = either (isSession u b) (λ t. subst P (sym (session-is u b t)) (is t)) (λ t. subst P (sym (session-none u b t)) none)
 
@@ -58,7 +58,7 @@ module _ (u : Bool) (b : List ℕ) where
   all-whole = either-way (λ s. every isWhole (s .files) ≡ true)
       (λ t. every-from isWhole (statesIn u b) (fresh idle) λ (k : ℕ) (h : k < length (statesIn u b)).
       let n : length (statesIn u b) ≡ mostOpen = length-states u b in
-      let l : length b ≡ filesAt + width u * mostOpen = (unfold sizeOf in session-size u b t) in
+      let l : length b ≡ saidAt u + saidWidth = (unfold sizeOf in session-size u b t) in
       eq-eqb _ sector (ap (λ (f : BufferedFile). length (f .buffer)) (at k (omega arith)) ∙ state-whole u b (filesAt + width u * k) (omega (arith, inside u k (omega arith)))))
       (unfold unlawful in every-replicate isWhole mostOpen (fresh idle) refl)
     where

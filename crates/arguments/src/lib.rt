@@ -1,6 +1,7 @@
 // What the programs share: the files that their arguments name, and the line that tells an error. What a file gives and what is printed,
 // no contract can say.
 use libc::STDOUT_FILENO;
+ghost use Rattle.io.specs.Counts.{Counts};
 
 // Opens the file that argument i names, to read it.
 pub fn open_read(i: usize) -> i32 {
@@ -22,4 +23,50 @@ pub fn complain(text: &[u8], i: usize) {
     io::write_all(STDOUT_FILENO, text);
     print(i);
     io::write_all(STDOUT_FILENO, b"\n");
+}
+
+// ---- images
+
+// How many bytes of an image were read, and whether that is all of it.
+pub struct Taken {
+    pub whole: bool,
+    pub size: usize,
+}
+
+// One more byte of a file: more than 0 if there is one, less if it cannot be read.
+pub fn more(fd: i32) -> isize {
+    let mut one = [0u8; 1];
+    libc::read(fd, &mut one)
+}
+
+// Reads the image that argument i names, in room for 4,096 sectors. If it cannot be read whole, that is told.
+pub fn read_image(i: usize, room: &mut [u8]) -> Taken
+    ensures { λ r. ⌜ Counts (r .size) (now (room .exit)) ⌝ }
+{
+    let fd = open_read(i);
+    let size = io::read_full(fd, room);
+    let got = more(fd);
+    libc::close(fd);
+    if got < 0 {
+        complain(b"cannot read ", i);
+    } else if got > 0 {
+        io::write_all(STDOUT_FILENO, b"ERROR image longer than 1474560 bytes\n");
+    }
+    Taken {
+        whole: got == 0,
+        size,
+    }
+}
+
+// Writes an image to the file that argument i names. Whether it was written whole. If not, that is told.
+pub fn save(i: usize, image: &[u8]) -> bool {
+    let mut path = io::buffer();
+    let n = os::arg(i, &mut path);
+    let fd = os::open_overwrite(&path[..n]);
+    let written = io::write_all(fd, image);
+    let saved = (libc::close(fd) == 0) & written;
+    if !saved {
+        complain(b"cannot write ", i);
+    }
+    saved
 }

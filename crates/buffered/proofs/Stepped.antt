@@ -69,7 +69,7 @@ module _ (image : List ℕ) (s : BufferedSession) (i : ℕ) (q : Request) (given
 
     -- the session with the verdict's entry and state, and the buffer that the file then has
     abbrev laid : BufferedFile → BufferedSession
-    laid x = record { table = set (s .table) i (v .entry); files = set (s .files) (slotOf (bare s .files) i) (kept (v .file) x) }
+    laid x = record { says = s .says; table = set (s .table) i (v .entry); files = set (s .files) (slotOf (bare s .files) i) (kept (v .file) x) }
 
     pub done-told : v .answer ≡ Done → (new : List ℕ) (x : BufferedFile) → bench new x ≡ bufferedAll c (effects q c) (bench image (heldOf s i))
         → after new (laid x) ≡ bufferedStep image s i q given buffer

@@ -1,7 +1,7 @@
 -- The calls are the engines in lent bytes: their contracts cite the same definitions, and the number of the bytes says which engine.
 use mathlib.Core.Path.{_≡_, refl, sym, ap, _∙_}
 use mathlib.Core.Bool.{Bool, true, false}
-use mathlib.Core.List.{List}
+use mathlib.Core.List.{List, []}
 use Prim.Native.Nat.{ℕ}
 use lib.Dec.{eqb}
 use lib.ListN.{length, replicate}
@@ -11,6 +11,7 @@ use Rattle.geometry.proofs.Tests.{either, chosen}
 use Rattle.requests.specs.Numbers.{numberOf}
 use Rattle.sessions.specs.Session.{idle, fresh, bare, unheld, spotOf}
 use Rattle.mounting.specs.Mounting.{mounts, startWith, plainMount, bufferedMount}
+use Rattle.steps.specs.Edit.{editFacts, editedNumber, editedEntry, plainEditAnswer, plainEdit, bufferedEditAnswer, bufferedEdit}
 use Rattle.steps.specs.Look.{plainLook, bufferedLook}
 use Rattle.steps.specs.Step.{plainStep, bufferedStep}
 use Rattle.storing.specs.Stored.{sizeOf, hasBuffers, isSession, sessionIn, stored, plainIn, plainStored, layStart}
@@ -18,10 +19,13 @@ use Rattle.storing.proofs.Read.{told-by-size}
 use Rattle.judging.specs.Lent.{lentAfter}
 use Rattle.engines.specs.Engines as Engines
 use Rattle.looking.specs.Looking.{lookIn}
+use Rattle.editing.specs.Editing.{lentEdited, editedIn}
 use Rattle.lleuadrys.specs.Calls.{requested, mountNumber, mountBytes}
 use Rattle.looking.proofs.Shown.{look-is}
 use Rattle.callers.specs.Lent.{lentEngine, leftOf, Called}
 use Rattle.requests.specs.declared.Asked.the-variants.{For}
+use Rattle.requests.specs.declared.Edit.{Edit}
+use Rattle.requests.specs.declared.Edit.the-variants.{Add, Delete}
 use Rattle.requests.specs.declared.Request.{Request}
 
 -- ---- by the number of the bytes
@@ -42,6 +46,28 @@ module _ (image b : List ℕ) (i : ℕ) (q : Request) (given buffer : List ℕ) 
   unfolding requested
   from-c = ap leftOf in-rattle
 
+-- ---- an edit
+
+edits-are : (image b : List ℕ) (i : ℕ) (x : Edit) (name : List ℕ) → editedIn image b i x name ≡ lentEngine (hasBuffers b) .edit image b i x name
+unfolding editedIn
+edits-are image b i x name = by (hasBuffers b)
+  where
+    by : (u : Bool) → elim u [
+      | true ↦ lentEdited (isSession true b) (stored true) b (bufferedEdit image (sessionIn true b) i x name)
+      | false ↦ lentEdited (isSession false b) plainStored b (plainEdit image (plainIn b) i x name)
+    ] ≡ lentEngine u .edit image b i x name
+    by true = refl
+    by false = refl
+
+-- an adding does not look at the entry's number that it is given, nor a deleting at the name
+adds-same : (image b : List ℕ) (i kind size sectors : ℕ) (name : List ℕ) → editedIn image b 0 (Add kind size sectors) name ≡ editedIn image b i (Add kind size sectors) name
+unfolding editedIn bufferedEdit plainEdit bufferedEditAnswer plainEditAnswer editFacts editedNumber
+adds-same image b i kind size sectors name = refl
+
+deletes-same : (image b : List ℕ) (i : ℕ) (name : List ℕ) → editedIn image b i Delete [] ≡ editedIn image b i Delete name
+unfolding editedIn bufferedEdit plainEdit bufferedEditAnswer plainEditAnswer editFacts editedEntry
+deletes-same image b i name = refl
+
 shows : (image b : List ℕ) (i g : ℕ) → lookIn image b i g ≡ lentEngine (hasBuffers b) .look image b i g
 unfolding lookIn
 shows image b i g = by (hasBuffers b)
@@ -57,7 +83,7 @@ position false b i = refl
 -- ---- mounting
 
 -- with nothing open
-start-is : (image : List ℕ) → record { table = plainMount image .session .table; files = replicate mostOpen (fresh idle) } ≡ unheld (plainMount image .session)
+start-is : (image : List ℕ) → record { says = plainMount image .session .says; table = plainMount image .session .table; files = replicate mostOpen (fresh idle) } ≡ unheld (plainMount image .session)
 unfolding plainMount startWith unheld
 start-is image = either (mounts image) (λ (m : mounts image ≡ true). rw (m, plainMount)) (λ (m : mounts image ≡ false). rw (m, plainMount))
 
@@ -92,6 +118,9 @@ pub called : Called
 called = record {
   inRattle = in-rattle;
   requests = from-c;
+  edits = edits-are;
+  adds = adds-same;
+  deletes = deletes-same;
   positions = λ b. position (hasBuffers b) b;
   shows = shows;
   places = look-is;

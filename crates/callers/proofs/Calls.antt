@@ -1,5 +1,5 @@
 -- A run of the calls from C is the run of the engine in lent bytes that their number says, and so that of the tapes and rows: a request leaves as many bytes.
-use mathlib.Core.Path.{_≡_, refl, ap, ap₂, _∙_, fun-ext}
+use mathlib.Core.Path.{_≡_, refl, sym, ap, ap₂, _∙_, fun-ext}
 use mathlib.Core.Bool.{Bool, true}
 use mathlib.Core.List.{List, [], _∷_, map}
 use Prim.Native.Nat.{ℕ}
@@ -13,19 +13,25 @@ use Rattle.requests.specs.declared.Order.the-variants.{WriteMark, RewindOnline,
 use Rattle.requests.specs.Numbers.{numberOf}
 use Rattle.sessions.specs.Session.{bare, spotOf}
 use Rattle.sessions.specs.declared.Spot.{Spot}
-use Rattle.tapes.specs.Model.{Asked, Report}
+use Rattle.steps.specs.Edit.{Edited}
+use Rattle.tapes.specs.Model.{Asked, Report, modelsOf}
+use Rattle.tapes.specs.Edits.{Editing}
+use Rattle.tapes.specs.Runs.{Asking, ofFile, ofDirectory, Heard, modelReports}
+use Rattle.editing.specs.Editing.{editedIn}
 use Rattle.storing.specs.Stored.{sizeOf, hasBuffers, lentSession}
 use Rattle.storing.proofs.Read.{told-by-size, session-size}
 use Rattle.lleuadrys.specs.Calls.{Left, mountBytes}
-use Rattle.demands.specs.Engine.{Engine, Standing, ifLook, shownBy, spotsOf, answered, stepOf, reportOf, reports, mounted, areBytes, giveBytes}
+use Rattle.demands.specs.Engine.{Engine, Standing, ifLook, shownBy, spotsOf, answered, stepOf, reportOf, edited, editOf, editReportOf, next, reportFor, reports, heard, mounted, areBytes, giveBytes}
 use Rattle.demands.proofs.Answers.{bytes-image, bytes-given}
 use Rattle.callers.specs.Lent.{lentEngine, leftOf}
-use Rattle.callers.specs.Calls.{call, toldBy, callReport, callReports, Calling, Coded}
+use Rattle.callers.specs.Calls.{call, toldBy, callReport, editCall, editCallReport, askedCall, callLeaves, callReports, callHeard, Calling, Coded}
 use Rattle.callers.proofs.Called.{called}
 use Rattle.callers.proofs.Demands.{lent-faithful}
 use Rattle.callers.proofs.Kept.{starts}
-use Rattle.callers.proofs.Runs.{step-bytes, size-then, first-gives, rest-gives}
+use Rattle.callers.proofs.Runs.{next-bytes, next-size, first-gives, rest-gives}
 use Rattle.requests.specs.declared.Answer.the-variants.{Done}
+use Rattle.requests.specs.declared.Edit.{Edit}
+use Rattle.requests.specs.declared.Edit.the-variants.{Add, Delete}
 use Rattle.requests.specs.declared.Request.{Request}
 use Rattle.requests.specs.declared.Request.the-variants.{Open, Read, Write, GranuleRead, GranuleWrite, GranuleLook, Position}
 
@@ -59,24 +65,71 @@ module _ (u : Bool) where
     unfolding callReport reportOf stepOf
     report-is n =
         let spots = ap (λ (x : Left). map (spotOf (bare (lentSession (x .session)))) (numbersFrom 0 entries)) call-is ∙ spots-are (answered E w a .session) n in
-        λ j. record { number = call-is j .number; buffer = call-is j .buffer; shown = shown-is j; spots = spots j }
+        λ j. record { number = call-is j .number; told = []; buffer = call-is j .buffer; shown = shown-is j; spots = spots j }
 
     step-is : record { image = call w a .image; session = call w a .session } ≡ stepOf E w a
     unfolding stepOf
     step-is = ap (λ (x : Left). record { image = x .image; session = x .session }) call-is
 
+  -- ---- an adding and a deleting
+
+  module _ (w : Standing (List ℕ)) (x : Editing) (t : hasBuffers (w .session) ≡ u) where
+    edit-call-is : editCall w x (x .edit) ≡ edited E w x
+    unfolding edited
+    edit-call-is = any (x .edit) ∙ called .edits (w .image) (w .session) (x .entry) (x .edit) (x .name) ∙ ap (λ (v : Bool). lentEngine v .edit (w .image) (w .session) (x .entry) (x .edit) (x .name)) t
+      where
+        any : (y : Edit) → editCall w x y ≡ editedIn (w .image) (w .session) (x .entry) y (x .name)
+        any (Add kind size sectors) = unfold editCall in called .adds (w .image) (w .session) (x .entry) kind size sectors (x .name)
+        any Delete = unfold editCall in called .deletes (w .image) (w .session) (x .entry) (x .name)
+
+    edit-report-is : hasBuffers (editOf E w x .session) ≡ u → editCallReport w x ≡ editReportOf E w x
+    unfolding editCallReport editReportOf editOf
+    edit-report-is n =
+        let spots = ap (λ (y : Edited (List ℕ)). map (spotOf (bare (lentSession (y .session)))) (numbersFrom 0 entries)) edit-call-is ∙ spots-are (edited E w x .session) n in
+        λ j. record { number = numberOf (edit-call-is j .answer); told = edit-call-is j .told; buffer = []; shown = []; spots = spots j }
+
+    edit-leaves : record { image = editCall w x (x .edit) .image; session = editCall w x (x .edit) .session } ≡ editOf E w x
+    unfolding editOf
+    edit-leaves = ap (λ (y : Edited (List ℕ)). record { image = y .image; session = y .session }) edit-call-is
+
+  -- ---- whichever is called
+
+  module _ (w : Standing (List ℕ)) (t : hasBuffers (w .session) ≡ u) where
+    any-report : (a : Asking) → hasBuffers (next E w a .session) ≡ u → askedCall w a ≡ reportFor E w a
+    unfolding askedCall reportFor next
+    any-report (ofFile a) n = report-is w a t n
+    any-report (ofDirectory x) n = edit-report-is w x t n
+
+    any-leaves : (a : Asking) → callLeaves w a ≡ next E w a
+    unfolding callLeaves next
+    any-leaves (ofFile a) = step-is w a t
+    any-leaves (ofDirectory x) = edit-leaves w x t
+
   -- ---- a run of them
 
-  reports-are : (asked : List Asked) (w : Standing (List ℕ)) → hasBuffers (w .session) ≡ u → areBytes (w .image) ≡ true → giveBytes asked ≡ true
+  module _ (a : Asking) (rest : List Asking) (w : Standing (List ℕ)) (t : hasBuffers (w .session) ≡ u) (bytes : areBytes (w .image) ≡ true) (h : giveBytes (a ∷ rest) ≡ true) where
+    then-told : hasBuffers (next E w a .session) ≡ u
+    then-told = next-size u w bytes a (first-gives u a rest h) t
+
+    then-bytes : areBytes (next E w a .image) ≡ true
+    then-bytes = next-bytes u w bytes a (first-gives u a rest h)
+
+  reports-are : (asked : List Asking) (w : Standing (List ℕ)) → hasBuffers (w .session) ≡ u → areBytes (w .image) ≡ true → giveBytes asked ≡ true
       → callReports w asked ≡ reports E w asked
   unfolding callReports reports
   reports-are [] w t bytes h = refl
   reports-are (a ∷ rest) w t bytes h =
-      let gives : areBytes (a .given) ≡ true = first-gives u a rest h in
-      let n : hasBuffers (stepOf E w a .session) ≡ u = size-then u w a bytes gives t in
-      ap₂ (λ (x : Report) (xs : List Report). x ∷ xs) (report-is w a t n)
-      (ap (λ (v : Standing (List ℕ)). callReports v rest) (step-is w a t)
-      ∙ reports-are rest (stepOf E w a) n (step-bytes u w a bytes gives) (rest-gives u a rest h))
+      ap₂ (λ (x : Report) (xs : List Report). x ∷ xs) (any-report w t a (then-told a rest w t bytes h))
+      (ap (λ (v : Standing (List ℕ)). callReports v rest) (any-leaves w t a)
+      ∙ reports-are rest (next E w a) (then-told a rest w t bytes h) (then-bytes a rest w t bytes h) (rest-gives u a rest h))
+
+  heard-is : (asked : List Asking) (w : Standing (List ℕ)) → hasBuffers (w .session) ≡ u → areBytes (w .image) ≡ true → giveBytes asked ≡ true → callHeard w asked ≡ heard E w asked
+  unfolding callHeard heard
+  heard-is [] w t bytes h = refl
+  heard-is (a ∷ rest) w t bytes h =
+      ap (λ (hs : List Heard). record { asked = a; lies = w .image } ∷ hs)
+      (ap (λ (v : Standing (List ℕ)). callHeard v rest) (any-leaves w t a)
+      ∙ heard-is rest (next E w a) (then-told a rest w t bytes h) (then-bytes a rest w t bytes h) (rest-gives u a rest h))
 
   -- ---- from a mounting
 
@@ -95,9 +148,12 @@ pub calling : Calling
 calling = record {
   mounting = λ u image b l ok. called .number u image b l ∙ ap numberOf (mount-done u image ok);
   serves = λ u image b l ok asked fit.
+      let bytes : areBytes (mounted (lentEngine u) image .image) ≡ true = unfold mounted in bytes-image image asked fit in
       ap (λ (v : Standing (List ℕ)). callReports v asked) (start-is u image b l)
-      ∙ reports-are u asked (mounted (lentEngine u) image) (start-told u image) (unfold mounted in bytes-image image asked fit) (bytes-given image asked fit)
-      ∙ lent-faithful u .serves image ok asked fit;
+      ∙ reports-are u asked (mounted (lentEngine u) image) (start-told u image) bytes (bytes-given image asked fit)
+      ∙ lent-faithful u .serves image ok asked fit
+      ∙ ap (modelReports (modelsOf image))
+      (sym (ap (λ (v : Standing (List ℕ)). callHeard v asked) (start-is u image b l) ∙ heard-is u asked (mounted (lentEngine u) image) (start-told u image) bytes (bytes-given image asked fit)));
 }
 
 pub coded : Coded

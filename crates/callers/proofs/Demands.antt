@@ -10,18 +10,21 @@ use Rattle.directory.specs.Entries.{entryAt, tableOf}
 use Rattle.directory.specs.declared.Entry.{Entry}
 use Rattle.sessions.specs.Session.{bufferedLegal}
 use Rattle.steps.specs.Step.{After}
-use Rattle.tapes.specs.Model.{Asked, Report}
+use Rattle.tapes.specs.Model.{Model, modelsOf, modelAt, Asked, Report}
+use Rattle.tapes.specs.Runs.{modelReports}
+use Rattle.editing.specs.Editing.{lentEdited}
 use Rattle.judging.specs.Lent.{lentAfter}
 use Rattle.storing.specs.Stored.{isSession}
-use Rattle.demands.specs.Engine.{Engine, Standing, answered, stepOf, mounted, areBytes, sound}
-use Rattle.demands.specs.Demand1.{Proper, Orderly, Passes, Passing}
+use Rattle.demands.specs.Engine.{Engine, Standing, answered, stepOf, editOf, mounted, areBytes, sound}
+use Rattle.demands.specs.Demand1.{Proper, ProperEdit, Orderly, Passes, Passing}
 use Rattle.demands.specs.Demand2.{closing, Faithful, CountsStored}
 use Rattle.demands.specs.Buffer.{deskAt, Buffered, Buffering}
 use Rattle.demands.specs.Writes.{plainCount, bufferedCount, inRun, allDone, Counted, Writing}
 use Rattle.demands.proofs.Sound.{sound-image}
 use Rattle.callers.specs.Lent.{engineOf, readBy, storedBy, lentEngine}
-use Rattle.callers.proofs.Kept.{orderly, passing, faithful, counts, same, starts, meets}
-use Rattle.callers.proofs.Runs.{opened, read-left, opened-then, run-reports, run-sum, then-reports, then-answer, then-image-of}
+use Rattle.callers.proofs.Kept.{orderly, passing, faithful, counts, same, starts, meets, edit-goes}
+use Rattle.callers.proofs.Runs.{opened, read-left, opened-then, read-edited, opened-edit, run-sum, run-done, then-reports, then-heard, then-models, then-answer, then-image-of}
+use Rattle.requests.specs.declared.Edit.{Edit}
 use Rattle.requests.specs.declared.Request.{Request}
 
 module _ (u : Bool) where
@@ -67,10 +70,36 @@ module _ (u : Bool) where
           bufferSize = p .bufferSize;
         }
 
+  -- ---- one edit
+
+  module _ (image b : List ℕ) (i : ℕ) (x : Edit) (name : List ℕ) where
+    -- nothing changed
+    kept-edit : F .edit image (readBy u b) i x name .session ≡ readBy u b → E .edit image b i x name .session ≡ b
+    unfolding lentEdited
+    kept-edit e = either (isSession u b)
+        (λ h. chosen (isSession u b) (storedBy u (F .edit image (readBy u b) i x name .session)) b h ∙ ap (storedBy u) e ∙ same u b h)
+        (λ h. not-chosen (isSession u b) (storedBy u (F .edit image (readBy u b) i x name .session)) b h)
+
+    lent-proper-edit : ProperEdit E image b i x name (E .edit image b i x name)
+    unfolding lentEdited
+    lent-proper-edit =
+        let p : ProperEdit F image (readBy u b) i x name (F .edit image (readBy u b) i x name) = orderly u .every-edit image (readBy u b) i x name in
+        record {
+          ordered = p .ordered;
+          refused = λ h. let n = p .refused h in (n .0, n .1, n .2, kept-edit (n .3), n .4);
+          one = λ d n q e t.
+              let r = p .one d n q e t in
+              (r .0, ap (F .seen) (read-edited u image b i x name (edit-goes u image b i x name)) ∙ r .1, r .2);
+          others = p .others;
+          size = p .size;
+        }
+
   pub lent-orderly : Orderly E
   unfolding lentAfter
   lent-orderly = record {
     line = orderly u .line;
+    editLine = orderly u .editLine;
+    every-edit = lent-proper-edit;
     every-request = lent-proper;
     every-look = λ image b i g given buffer.
         let p = orderly u .every-look image (readBy u b) i g given buffer in
@@ -86,6 +115,11 @@ module _ (u : Bool) where
           isSound = ap (λ (s : S). sound image (F .seen s)) (starts u image .1) ∙ p .isSound;
           isLegal = ap (λ (s : S). bufferedLegal image (F .seen s)) (starts u image .1) ∙ p .isLegal;
         };
+    edits = λ w p x gives.
+        let q : Passes F (opened u (editOf E w x)) =
+        subst (λ (v : Standing S). Passes F v) (sym (opened-edit u w x))
+        (passing u .edits (opened u w) (record { isSound = p .isSound; isLegal = p .isLegal }) x gives) in
+        record { isSound = q .isSound; isLegal = q .isLegal };
     requests = λ w p a gives.
         let q : Passes F (opened u (stepOf E w a)) =
         subst (λ (v : Standing S). Passes F v) (sym (opened-then u w a (sound-image (w .image) (F .seen (readBy u (w .session))) (p .isSound)) gives))
@@ -99,13 +133,14 @@ module _ (u : Bool) where
   lent-faithful = record {
     mounting = faithful u .mounting;
     refusedMounting = λ image e. ap (F .seen) (starts u image .1) ∙ faithful u .refusedMounting image e;
-    serves = λ image ok asked fit. then-reports u image asked fit ∙ faithful u .serves image ok asked fit;
+    serves = λ image ok asked fit.
+        then-reports u image asked fit ∙ faithful u .serves image ok asked fit ∙ ap (modelReports (modelsOf image)) (sym (then-heard u image asked fit));
   }
 
   pub lent-counts : CountsStored E
   lent-counts = record {
     stored = λ image ok asked i fit m here done.
-        let p = counts u .stored image ok asked i fit m here (sym (then-answer u image asked fit (closing i)) ∙ done) in
+        let p = counts u .stored image ok asked i fit m (ap (λ (ms : List Model). modelAt ms i) (sym (then-models u image asked fit)) ∙ here) (sym (then-answer u image asked fit (closing i)) ∙ done) in
         let e = then-image-of u image asked fit (closing i) in
         (ap (λ (x : List ℕ). entryAt (tableOf x) i .count) e ∙ p .0, ap (λ (x : List ℕ). entryAt (tableOf x) i .flags) e ∙ p .1);
   }
@@ -124,6 +159,9 @@ module _ (u : Bool) where
   lent-buffering buffering = record {
     own = λ w a e b. desk-then w a (a .entry) e b ∙ buffering .own (opened u w) a e (value-buffered w a (a .entry) e b);
     others = λ w a i e b n. desk-then w a i e b ∙ buffering .others (opened u w) a i e (value-buffered w a i e b) n;
+    edits = λ w x i e b.
+        ap (λ (v : Standing S). deskAt F v e i) (opened-edit u w x)
+        ∙ buffering .edits (opened u w) x i e (record { isSound = b .isSound; its = b .its; kind = b .kind });
     inside = λ w a e b. buffering .inside (opened u w) a e (value-buffered w a (a .entry) e b);
   }
 
@@ -156,7 +194,7 @@ module _ (u : Bool) where
       isSound = b .isSound;
       standing = b .standing;
       bytes = b .bytes;
-      done = ap (every (λ (r : Report). eqb (r .number) 0)) (sym (run-reports u w bytes asked (b .bytes))) ∙ b .done;
+      done = sym (run-done u w bytes asked (b .bytes)) ∙ b .done;
     }
 
     pub lent-sum : (c : Standing (List ℕ) → Asked → ℕ) (d : Standing S → Asked → ℕ) → ((w : Standing (List ℕ)) (a : Asked) → c w a ≡ d (opened u w) a)

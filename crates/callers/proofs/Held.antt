@@ -49,7 +49,7 @@ use Rattle.demands.proofs.Sound.{sound-of, SoundBench, all-sound}
 use Rattle.storing.specs.Fits.{fits, areBytes, areAll, entryFits, fileFits, heldFits, sessionFits, bufferedFits}
 use Rattle.callers.proofs.Next.{below, are-every, are-many, set-are, entry-parts, entry-then, file-then-fits}
 use Rattle.callers.proofs.Read.{fresh-fits}
-use Rattle.callers.proofs.Start.{every-weaker}
+use Rattle.editing.proofs.Entries.{every-weaker}
 
 -- ---- an array of bytes
 
@@ -150,7 +150,7 @@ module _ (s : BufferedSession) (h : bufferedFits s ≡ true) where
 
   -- with another entry and state
   pub next-fits : (i k : ℕ) (e : Entry) (f : BufferedFile) → entryFits e ≡ true → heldFits f ≡ true
-      → bufferedFits (record { table = set (s .table) i e; files = set (s .files) k f }) ≡ true
+      → bufferedFits (record { says = s .says; table = set (s .table) i e; files = set (s .files) k f }) ≡ true
   unfolding bufferedFits
   next-fits i k e f a b =
       and-both _ _ (set-are entries entryFits (s .table) i e (are-many entries entryFits (s .table) table-are) (are-every entries entryFits (s .table) table-are) a)

@@ -19,12 +19,14 @@ use Rattle.demands.proofs.Plain.{plain-faithful}
 use Rattle.demands.proofs.Orderly.{plain-orderly, buffered-orderly}
 use Rattle.demands.proofs.Passing.{plain-passing, buffered-passing}
 use Rattle.callers.specs.Lent.{engineOf, readBy, storedBy}
+use Rattle.editing.proofs.Fits.{plain-edited-fits, edited-fits}
 use Rattle.callers.proofs.Held.{bare-fits, fits-sound, step-fits, step-met-fits}
 use Rattle.callers.proofs.Next.{plain-fits}
 use Rattle.callers.proofs.Read.{read-fits}
 use Rattle.callers.proofs.Start.{mount-fits, mount-fits-buffered}
 use Rattle.requests.specs.declared.Answer.the-variants.{Met}
 use Rattle.requests.specs.declared.Edge.{Edge}
+use Rattle.requests.specs.declared.Edit.{Edit}
 use Rattle.requests.specs.declared.Request.{Request}
 use Rattle.sessions.specs.declared.BufferedSession.{BufferedSession}
 use Rattle.sessions.specs.declared.Session.{Session}
@@ -88,6 +90,11 @@ pub goes : (u : Bool) (image b : List ℕ) (i : ℕ) (q : Request) (given buffer
     → Back u (engineOf u .request image (readBy u b) i q given buffer .session)
 goes true image b i q given buffer x y = with-buffers _ (step-fits image (sessionIn true b) (read-fits true b) i q given buffer x y)
 goes false image b i q given buffer x y = plain-goes image b i q given buffer
+
+-- and what an edit leaves
+pub edit-goes : (u : Bool) (image b : List ℕ) (i : ℕ) (x : Edit) (name : List ℕ) → Back u (engineOf u .edit image (readBy u b) i x name .session)
+edit-goes true image b i x name = with-buffers _ (edited-fits image i x name (sessionIn true b) (read-fits true b))
+edit-goes false image b i x name = with-none _ (plain-edited-fits image i x name (plainIn b) (bare-fits (sessionIn false b) (read-fits false b)))
 
 pub meets : (u : Bool) (image b : List ℕ) (i : ℕ) (q : Request) (given buffer : List ℕ) (x : Edge) → engineOf u .request image (readBy u b) i q given buffer .answer ≡ Met x
     → Back u (engineOf u .request image (readBy u b) i q given buffer .session)

@@ -1,34 +1,39 @@
 -- The demands of the engines in lent bytes: the bytes keep what a mounting hands out and what a request leaves, so what is proved of the engines on
 -- sessions as values holds of them. The first of each demand stands in Demands.antt.
 use mathlib.Core.Path.{_≡_, sym, ap, _∙_}
-use mathlib.Core.Bool.{Bool, true, false}
+use mathlib.Core.Bool.{Bool, true, false, not}
 use mathlib.Core.List.{List, [], _∷_, _++_}
 use Prim.Native.Nat.{ℕ, _*_}
 use lib.ListN.{length, getD}
 use Rattle.geometry.specs.Bytes.{part}
+use Rattle.geometry.specs.Lists.{every}
 use Rattle.geometry.specs.Sizes.{sector}
 use Rattle.directory.specs.Entries.{entryAt}
 use Rattle.mounting.specs.Mounting.{mounts}
 use Rattle.sessions.specs.Session.{extent}
 use Rattle.sessions.specs.declared.BufferedSession.{BufferedSession}
 use Rattle.steps.specs.Step.{heldOf}
-use Rattle.tapes.specs.Model.{Asked, modelsOf}
+use Rattle.tapes.specs.Model.{Asked, modelsOf, nothingOpen}
+use Rattle.tapes.specs.Runs.{Asking, Heard, touched}
 use Rattle.storing.specs.Stored.{sessionIn}
 use Rattle.demands.specs.Engine.{plainEngine, bufferedEngine, Standing, run, mounted, inBytes}
 use Rattle.demands.specs.Demand1.{Running}
 use Rattle.demands.specs.Demand2.{closing, ReadsBack, RoomAlone}
-use Rattle.demands.specs.Demand3.{Agreeing, Agree}
+use Rattle.demands.specs.Edits.{Editable, Adding}
+use Rattle.demands.specs.Demand3.{belongs, Outside, Agreeing, Agree}
 use Rattle.demands.specs.Buffer.{Buffering, Holding}
 use Rattle.demands.specs.Writes.{plainCount, bufferedCount, inRun, records, Counted, Writing, Saving}
+use Rattle.demands.proofs.Adding.{adds}
 use Rattle.demands.proofs.Agree.{agree}
+use Rattle.demands.proofs.Editable.{editable}
 use Rattle.demands.proofs.Buffering.{buffering}
 use Rattle.demands.proofs.Holding.{holding}
 use Rattle.demands.proofs.Writes.{plain-counted, buffered-counted, saving}
 use Rattle.demands.proofs.Running.{running}
 use Rattle.demands.proofs.ReadsBack.{reads-back, room-alone}
-use Rattle.callers.specs.Lent.{lentEngine, lentPlain, lentBuffered}
+use Rattle.callers.specs.Lent.{engineOf, lentEngine, lentPlain, lentBuffered}
 use Rattle.callers.proofs.Demands.{lent-orderly, lent-passing, lent-faithful, lent-buffering, plain-same, buffered-same, lent-counted, value-writing, lent-sum}
-use Rattle.callers.proofs.Runs.{opened, then-opened, then-reports, then-image}
+use Rattle.callers.proofs.Runs.{opened, then-opened, then-reports, then-heard, then-models, then-image}
 
 -- ---- demand 1
 
@@ -43,9 +48,17 @@ lent-back u = reads-back (lentEngine u) (lent-faithful u)
 pub lent-room : (u : Bool) → RoomAlone (lentEngine u)
 lent-room u = room-alone (lentEngine u) (lent-faithful u)
 
+-- ---- ADD and DELETE
+
+pub lent-editable : (u : Bool) → Editable (lentEngine u)
+lent-editable u = editable (lentEngine u) (lent-orderly u)
+
+pub lent-adding : (u : Bool) → Adding (lentEngine u)
+lent-adding u = adds (lentEngine u) (lent-faithful u)
+
 -- ---- demand 3
 
-module _ (image : List ℕ) (ok : mounts image ≡ true) (asked : List Asked) (fit : inBytes image asked ≡ true) where
+module _ (image : List ℕ) (ok : mounts image ≡ true) (asked : List Asking) (fit : inBytes image asked ≡ true) where
   on-values : Agreeing plainEngine bufferedEngine image asked
   on-values = agree .agreeing image ok asked fit
 
@@ -58,19 +71,24 @@ module _ (image : List ℕ) (ok : mounts image ≡ true) (asked : List Asked) (f
   buffered-session : sessionIn true (run lentBuffered (mounted lentBuffered image) asked .session) ≡ run bufferedEngine (mounted bufferedEngine image) asked .session
   buffered-session = ap (λ (v : Standing BufferedSession). v .session) (then-opened true image asked fit)
 
+  outside : (u : Bool) (j : ℕ) → Outside (lentEngine u) image asked j → Outside (engineOf u) image asked j
+  outside u j h = ap (λ (hs : List Heard). every (λ t. not (belongs j t)) (touched (modelsOf image) hs)) (sym (then-heard u image asked fit)) ∙ h
+
   lent-agreeing : Agreeing lentPlain lentBuffered image asked
   lent-agreeing = record {
     alike =
         then-reports false image asked fit
         ∙ on-values .alike
         ∙ sym (then-reports true image asked fit);
+    same = then-models false image asked fit ∙ on-values .same ∙ sym (then-models true image asked fit);
     untouched = (
-      (ap length plain-image ∙ on-values .untouched .0 .0, λ j h. ap (λ (b : List ℕ). getD b j 0) plain-image ∙ on-values .untouched .0 .1 j h),
-      (ap length buffered-image ∙ on-values .untouched .1 .0, λ j h. ap (λ (b : List ℕ). getD b j 0) buffered-image ∙ on-values .untouched .1 .1 j h),
+      (ap length plain-image ∙ on-values .untouched .0 .0, λ j h. ap (λ (b : List ℕ). getD b j 0) plain-image ∙ on-values .untouched .0 .1 j (outside false j h)),
+      (ap length buffered-image ∙ on-values .untouched .1 .0, λ j h. ap (λ (b : List ℕ). getD b j 0) buffered-image ∙ on-values .untouched .1 .1 j (outside true j h)),
     );
     whenIdle = λ z.
-        let n = on-values .whenIdle z in
-        (plain-image ∙ n .0 ∙ sym buffered-image, ap mounts plain-image ∙ n .1, ap modelsOf plain-image ∙ n .2);
+        let m = then-models false image asked fit in
+        let n = on-values .whenIdle (ap nothingOpen (sym m) ∙ z) in
+        (plain-image ∙ n .0 ∙ sym buffered-image, ap mounts plain-image ∙ n .1, ap modelsOf plain-image ∙ n .2 ∙ sym m);
     held = λ i e b p k q h.
         on-values .held i e b (ap (λ (s : BufferedSession). entryAt (s .table) i) (sym buffered-session) ∙ p) k (ap (λ (s : BufferedSession). heldOf s i) (sym buffered-session) ∙ q) h
         ∙ ap (λ (x : List ℕ). part (extent e x) (sector * b .held) sector) (sym plain-image);

@@ -101,7 +101,7 @@ restamped-fits e count flags h c f =
       flags = below 2 flags f;
     })
 
-free-fits : entryFits freeEntry ≡ true
+pub free-fits : entryFits freeEntry ≡ true
 unfolding entryFits all fits areBytes every
 free-fits = refl
 

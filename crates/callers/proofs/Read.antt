@@ -20,7 +20,7 @@ use Rattle.tables.proofs.Rows.{length-row}
 use Rattle.sessions.specs.Session.{fresh}
 use Rattle.sessions.specs.declared.OpenFile.{OpenFile}
 use Rattle.storing.specs.Fits.{fits, areBytes, areAll, entryFits, fileFits, heldFits, bufferedFits}
-use Rattle.storing.specs.Stored.{heldWidth, filesAt, width, sizeOf, placeIn, fileIn, heldIn, stateIn, isSession, tableIn, statesIn, sessionIn, unlawful}
+use Rattle.storing.specs.Stored.{saidAt, sayingIn, heldWidth, filesAt, width, sizeOf, placeIn, fileIn, heldIn, stateIn, isSession, tableIn, statesIn, sessionIn, unlawful}
 use Rattle.storing.proofs.Parts.{part-bytes}
 use Rattle.storing.proofs.Read.{session-is, session-none, session-bytes, session-size}
 
@@ -121,10 +121,10 @@ unfolding bufferedFits unlawful areAll every entryFits fileFits heldFits all are
 none-fits = refl
 
 module _ (u : Bool) (b : List ℕ) where
-  told-fits : isSession u b ≡ true → bufferedFits (record { table = tableIn b; files = statesIn u b }) ≡ true
+  told-fits : isSession u b ≡ true → bufferedFits (record { says = sayingIn b (saidAt u); table = tableIn b; files = statesIn u b }) ≡ true
   unfolding bufferedFits entriesIn statesIn sizeOf
   told-fits h =
-      let l : length b ≡ filesAt + width u * mostOpen = session-size u b h in
+      let l : length b ≡ filesAt + width u * mostOpen + 1 = session-size u b h in
       let y : every isByte b ≡ true = session-bytes u b h in
       and-both _ _ (row-are (entryIn twoWordsWide) entryFits twoWordsWide b (entry-fits b y) entries 0 (omega arith))
       (row-are (stateIn u) heldFits (width u) b (state-fits b y u) mostOpen filesAt (omega arith))

@@ -12,9 +12,8 @@ use Rattle.geometry.specs.Lists.{all, every}
 use Rattle.geometry.specs.Sizes.{entries, mostOpen, mostSectors, blocked, compressed, blank, sectorsOf}
 use Rattle.geometry.proofs.Places.{lawful-most}
 use Rattle.geometry.proofs.Tests.{and-left, and-right, and-both, or-either, either, all-getD, every-any, every-from}
-use Rattle.names.specs.Names.{capital, digit, restOfName, isName}
 use Rattle.directory.specs.Entries.{freeEntry, entryAt, isFree, entryBytes, tableOf}
-use Rattle.directory.specs.Rules.{freeIsZero, longest, tableRules, tableGood}
+use Rattle.directory.specs.Rules.{freeIsZero, tableRules, tableGood}
 use Rattle.directory.proofs.Free.{zero-entry}
 use Rattle.directory.proofs.Good.{Lies, lies}
 use Rattle.directory.proofs.Table.{length-table, table-name}
@@ -25,72 +24,11 @@ use Rattle.sessions.specs.declared.Session.{Session}
 use Rattle.mounting.specs.Mounting.{mounts, startWith, plainMount, bufferedMount}
 use Rattle.mounting.proofs.Mounted.{mounts-length, mounts-good}
 use Rattle.storing.specs.Fits.{fits, areBytes, areAll, entryFits, fileFits, heldFits, sessionFits, bufferedFits}
+use Rattle.editing.proofs.Entries.{every-weaker, same-byte, are-bytes, used-fits}
 use Rattle.callers.proofs.Read.{pow-some, fresh-fits}
 use Rattle.callers.proofs.Next.{below, entry-whole, table-every, table-many, files-every, files-four}
 
--- ---- bytes
-
-pub every-weaker : {A : Type 0} (p q : A → Bool) → ((x : A) → p x ≡ true → q x ≡ true) → (xs : List A) → every p xs ≡ true → every q xs ≡ true
-unfolding every
-every-weaker p q w [] h = refl
-every-weaker p q w (x ∷ xs) h = and-both (q x) (every q xs) (w x (and-left (p x) (every p xs) h)) (every-weaker p q w xs (and-right (p x) (every p xs) h))
-
-up-to : (a n c : ℕ) → n < 256 → leb a c && leb c n ≡ true → isByte c ≡ true
-up-to a n c l h = lt-ltb c 256 (omega (arith, leb-true c n (and-right (leb a c) (leb c n) h)))
-
-capital-byte : (c : ℕ) → capital c ≡ true → isByte c ≡ true
-unfolding capital
-capital-byte c h =
-    or-either (leb 0xC1 c && leb c 0xC9) ((leb 0xD1 c && leb c 0xD9) || (leb 0xE2 c && leb c 0xE9)) h (up-to 0xC1 0xC9 c (omega arith))
-    λ k. or-either (leb 0xD1 c && leb c 0xD9) (leb 0xE2 c && leb c 0xE9) k (up-to 0xD1 0xD9 c (omega arith)) (up-to 0xE2 0xE9 c (omega arith))
-
-digit-byte : (c : ℕ) → digit c ≡ true → isByte c ≡ true
-unfolding digit
-digit-byte c h = up-to 0xF0 0xF9 c (omega arith) h
-
-same-byte : (n : ℕ) → n < 256 → (c : ℕ) → eqb c n ≡ true → isByte c ≡ true
-same-byte n l c h = lt-ltb c 256 (omega (arith, eqb-true c n h))
-
-rest-bytes : (cs : List ℕ) → restOfName cs ≡ true → every isByte cs ≡ true
-unfolding restOfName every
-rest-bytes [] h = refl
-rest-bytes (c ∷ cs) h =
-    or-either ((capital c || digit c) && restOfName cs) (every (λ b. eqb b blank) (c ∷ cs)) h
-    (λ k. and-both (isByte c) (every isByte cs)
-    (or-either (capital c) (digit c) (and-left (capital c || digit c) (restOfName cs) k) (capital-byte c) (digit-byte c))
-    (rest-bytes cs (and-right (capital c || digit c) (restOfName cs) k)))
-    (λ k. every-weaker (λ b. eqb b blank) isByte (same-byte blank (omega arith)) (c ∷ cs) k)
-
-name-bytes : (cs : List ℕ) → isName cs ≡ true → every isByte cs ≡ true
-unfolding isName every
-name-bytes [] h = refl
-name-bytes (c ∷ cs) h = and-both (isByte c) (every isByte cs) (capital-byte c (and-left (capital c) (restOfName cs) h)) (rest-bytes cs (and-right (capital c) (restOfName cs) h))
-
-are-bytes : (n : ℕ) (xs : List ℕ) → length xs ≡ n → every isByte xs ≡ true → areBytes n xs ≡ true
-unfolding areBytes
-are-bytes n xs l h = and-both _ _ (eq-eqb (length xs) n l) h
-
 -- ---- an entry of a good table
-
-longest-most : (kind : ℕ) → longest kind ≤ 3600
-unfolding longest
-longest-most kind = go (eqb kind blocked) (eqb kind compressed)
-  where
-    go : (a b : Bool) → elim a [ true ↦ 360 | false ↦ elim b [ true ↦ 132 | false ↦ 3600 ] ] ≤ 3600
-    go true b = omega arith
-    go false true = omega arith
-    go false false = omega arith
-
-used-fits : (N : ℕ) (e : Entry) → N ≤ mostSectors → length (e .name) ≡ 8 → Lies N e → entryFits e ≡ true
-used-fits N e m n l = entry-whole e (record {
-  name = are-bytes 8 (e .name) n (name-bytes (e .name) (l .named));
-  kind = below 2 (e .kind) (omega (arith, l .known));
-  length = below 2 (e .length) (omega (arith, l .most, longest-most (e .kind)));
-  first = below 2 (e .first) (omega (arith, l .ends));
-  sectors = below 2 (e .sectors) (omega (arith, l .ends));
-  count = below 4 (e .count) (omega (arith, l .counted m));
-  flags = below 2 (e .flags) (omega (arith, l .flagged));
-})
 
 zero-fits : (n x : ℕ) → eqb x 0 ≡ true → fits n x ≡ true
 zero-fits n x h = below n x (omega (arith, eqb-true x 0 h, pow-some n))
@@ -136,9 +74,9 @@ idles-fit : areAll mostOpen fileFits (replicate mostOpen idle) ≡ true
 unfolding areAll every fileFits all fits
 idles-fit = refl
 
-start-fits : (t : List Entry) → areAll entries entryFits t ≡ true → sessionFits (startWith t) ≡ true
+start-fits : (r : Bool) (t : List Entry) → areAll entries entryFits t ≡ true → sessionFits (startWith r t) ≡ true
 unfolding sessionFits startWith
-start-fits t h = and-both _ _ h idles-fit
+start-fits r t h = and-both _ _ h idles-fit
 
 frees-fit : areAll entries entryFits (replicate entries freeEntry) ≡ true
 unfolding areAll every entryFits all fits areBytes
@@ -147,9 +85,9 @@ frees-fit = refl
 pub mount-fits : (image : List ℕ) → sessionFits (plainMount image .session) ≡ true
 unfolding plainMount
 mount-fits image = either (mounts image)
-    (λ (m : mounts image ≡ true). rw (m, plainMount) (start-fits (tableOf image)
+    (λ (m : mounts image ≡ true). rw (m, plainMount) (start-fits false (tableOf image)
     (good-fits (sectorsOf image) (tableOf image) (lawful-most image (mounts-length image m)) (mounts-good image m) (table-name image) (length-table image))))
-    (λ (m : mounts image ≡ false). rw (m, plainMount) (start-fits (replicate entries freeEntry) frees-fit))
+    (λ (m : mounts image ≡ false). rw (m, plainMount) (start-fits true (replicate entries freeEntry) frees-fit))
 
 -- ---- and with buffers that hold nothing
 

@@ -2,7 +2,7 @@
 -- the calls are these engines. Definitions only.
 use mathlib.Core.Path.{_≡_}
 use mathlib.Core.Bool.{Bool, true, false}
-use mathlib.Core.List.{List}
+use mathlib.Core.List.{List, []}
 use Prim.Native.Nat.{ℕ}
 use lib.ListN.{length}
 use Rattle.geometry.specs.Bytes.{part}
@@ -12,10 +12,13 @@ use Rattle.steps.specs.Step.{After}
 use Rattle.storing.specs.Stored.{sizeOf, hasBuffers, isSession, sessionIn, stored, lentSession, plainIn, plainStored}
 use Rattle.judging.specs.Lent.{lentAfter}
 use Rattle.engines.specs.Engines as Engines
+use Rattle.editing.specs.Editing.{lentEdited, editedIn}
 use Rattle.looking.specs.Looking.{lookIn, lookPlace}
 use Rattle.lleuadrys.specs.Calls.{Left, left, requested, mountNumber, mountBytes}
 use Rattle.demands.specs.Engine.{Engine, plainEngine, bufferedEngine}
 use Rattle.requests.specs.declared.Asked.the-variants.{For}
+use Rattle.requests.specs.declared.Edit.{Edit}
+use Rattle.requests.specs.declared.Edit.the-variants.{Add, Delete}
 use Rattle.requests.specs.declared.Request.{Request}
 
 -- two engines: the one with buffers, and the one with none
@@ -33,7 +36,7 @@ abbrev pub storedBy : (u : Bool) → engineOf u .Session → List ℕ
 storedBy true s = stored true s
 storedBy false s = plainStored s
 
--- an engine whose session is the lent bytes: a request does its step on the session that the bytes are, and leaves the bytes of the next one. A mounting
+-- an engine whose session is the lent bytes: a request or an edit is done on the session that the bytes are, and leaves the bytes of the next one. A mounting
 -- writes the session that it hands out, one that is refused too
 abbrev pub lentEngine : Bool → Engine
 lentEngine u = record {
@@ -41,6 +44,7 @@ lentEngine u = record {
   seen = λ b. engineOf u .seen (readBy u b);
   mount = λ image. record { answer = engineOf u .mount image .answer; session = storedBy u (engineOf u .mount image .session) };
   request = λ image b i q given buffer. lentAfter (isSession u b) (storedBy u) b (engineOf u .request image (readBy u b) i q given buffer);
+  edit = λ image b i x name. lentEdited (isSession u b) (storedBy u) b (engineOf u .edit image (readBy u b) i x name);
   position = λ b. engineOf u .position (readBy u b);
   look = λ image b. engineOf u .look image (readBy u b);
 }
@@ -65,6 +69,11 @@ pub record Called : Type 0 where
       → Engines.requested image b i q given buffer ≡ lentEngine (hasBuffers b) .request image b i q given buffer
   pub requests : (image b : List ℕ) (i : ℕ) (q : Request) (given buffer : List ℕ)
       → requested image b i (For q) given buffer ≡ leftOf (lentEngine (hasBuffers b) .request image b i q given buffer)
+  -- and an edit
+  pub edits : (image b : List ℕ) (i : ℕ) (x : Edit) (name : List ℕ) → editedIn image b i x name ≡ lentEngine (hasBuffers b) .edit image b i x name
+  -- ADD looks at no entry's number that it is given, and DELETE at no name: C gives 0, and none
+  pub adds : (image b : List ℕ) (i kind size sectors : ℕ) (name : List ℕ) → editedIn image b 0 (Add kind size sectors) name ≡ editedIn image b i (Add kind size sectors) name
+  pub deletes : (image b : List ℕ) (i : ℕ) (name : List ℕ) → editedIn image b i Delete [] ≡ editedIn image b i Delete name
   pub positions : (b : List ℕ) (i : ℕ) → spotOf (bare (lentSession b)) i ≡ lentEngine (hasBuffers b) .position b i
   -- what is shown, and that C is told its place and size
   pub shows : (image b : List ℕ) (i g : ℕ) → lookIn image b i g ≡ lentEngine (hasBuffers b) .look image b i g

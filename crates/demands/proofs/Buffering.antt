@@ -37,7 +37,10 @@ use Rattle.serving.proofs.Keeping.{done, met}
 use Rattle.settling.proofs.Bench.{Elsewhere}
 use Rattle.settling.proofs.Kept.{table-length}
 use Rattle.tapes.specs.Model.{Asked}
-use Rattle.demands.specs.Engine.{bufferedEngine, Standing, answered, stepOf, sound}
+use Rattle.tapes.specs.Edits.{Editing}
+use Rattle.settling.proofs.Edited.{edit-held}
+use Rattle.demands.proofs.Edits.{extent-edited}
+use Rattle.demands.specs.Engine.{bufferedEngine, Standing, answered, stepOf, edited, editOf, sound}
 use Rattle.demands.specs.Buffer.{Desk, deskOf, seenOn, back, taken, worked, closed, inTurn, readIn, changesOf, deskDone, deskNext, takenBy, putsBack, within, deskAt, fileAt, Buffering}
 use Rattle.demands.proofs.Desk.{desk, Ready, desk-back, desk-takes, desk-works, same-all}
 use Rattle.demands.proofs.Illegal.{answers-12, nothing-changed}
@@ -403,8 +406,20 @@ module _ (w : Standing BufferedSession) (a : Asked) (fine : sound (w .image) (w 
       ∙ after-other (w .image) (w .session) fine ok i (a .given) (a .buffer) j n (buffer-used (entryAt (w .session .table) j) kind) (a .request) (answer ok) (judged ok))
       (λ l. ap (λ (v : Standing BufferedSession). deskAt bufferedEngine v (entryAt (w .session .table) j) j) (stays l))
 
+-- ---- an edit
+
+edit-step : (w : Standing BufferedSession) (x : Editing) → sound (w .image) (w .session) ≡ true → (i : ℕ) → hasBuffer (entryAt (w .session .table) i) ≡ true
+    → deskAt bufferedEngine (editOf bufferedEngine w x) (entryAt (w .session .table) i) i ≡ deskAt bufferedEngine w (entryAt (w .session .table) i) i
+unfolding deskOf editOf edited
+edit-step w x fine i kind =
+    ap₂ (λ (y : List ℕ) (b : BufferedFile). record { extent = y; holds = b .holds; held = b .held; changed = b .changed; buffer = b .buffer })
+    (extent-edited (w .image) (w .session) (x .entry) (x .edit) (x .name) (sound-typed (w .image) (w .session) fine) i (buffer-used (entryAt (w .session .table) i) kind))
+    (edit-held (w .image) (w .session) (x .entry) (x .edit) (x .name) i)
+
 pub buffering : Buffering bufferedEngine
 buffering = record {
+  edits = λ w x i e b.
+      subst (λ (y : Entry). deskAt bufferedEngine (editOf bufferedEngine w x) y i ≡ deskAt bufferedEngine w y i) (b .its) (edit-step w x (b .isSound) i (rw (b .its) (b .kind)));
   own = λ w a e b. subst (Own w a (b .isSound)) (b .its) (own-step w a (b .isSound) (rw (b .its) (b .kind)));
   others = λ w a i e b n.
       subst (λ (x : Entry). deskAt bufferedEngine (stepOf bufferedEngine w a) x i ≡ deskAt bufferedEngine w x i) (b .its) (others-step w a (b .isSound) i (rw (b .its) (b .kind)) n);

@@ -18,6 +18,8 @@ use Rattle.coding.specs.Encode.{keeps, inGap, runLength, runCode, runsCode, enc
 use Rattle.coding.proofs.Runs.{run-le}
 use Rattle.directory.specs.Entries.{isKind}
 use Rattle.directory.specs.Stamp.{stampBytes}
+use Rattle.directory.specs.declared.Entry.{Entry}
+use Rattle.tables.specs.Tables.{oneWordWide, countOf, entryOf}
 use Rattle.directory.proofs.Free.{every-append}
 use Rattle.packing.specs.Placing.{filled, changes, fitsHere}
 use Rattle.packing.specs.Reading.{nextSector, goesOn}
@@ -74,6 +76,16 @@ word-bytes n h = and-both (isByte (n / 256)) _ (byte-is (n / 256) (omega arith))
 stamp-bytes : (count flags : ℕ) → flags < 65536 → Bytes (stampBytes count flags)
 unfolding stampBytes
 stamp-bytes count flags h = both-bytes (word (count % 65536)) (word flags) (word-bytes (count % 65536) (omega arith)) (word-bytes flags h)
+
+-- the bytes of an entry whose numbers are words
+pub entry-bytes : (e : Entry) → Bytes (e .name) → e .kind < 65536 → e .length < 65536 → e .first < 65536 → e .sectors < 65536 → e .flags < 65536 → Bytes (entryOf oneWordWide e)
+unfolding entryOf countOf stampBytes
+entry-bytes e h k l f s g =
+    both-bytes (e .name) _ h
+    (both-bytes (word (e .kind)) _ (word-bytes (e .kind) k)
+    (both-bytes (word (e .length)) _ (word-bytes (e .length) l)
+    (both-bytes (word (e .first)) _ (word-bytes (e .first) f)
+    (both-bytes (word (e .sectors)) _ (word-bytes (e .sectors) s) (stamp-bytes (e .count) (e .flags) g)))))
 
 -- ---- the code of a record
 

@@ -20,13 +20,14 @@ use Rattle.sessions.proofs.Legal.{good-table}
 use Rattle.mounting.specs.Mounting.{mounts}
 use Rattle.tapes.specs.Tape.{tapeNext, tapeDone}
 use Rattle.tapes.specs.Row.{rowNext, rowDone}
-use Rattle.tapes.specs.Model.{Model, nothing, tape, row, shapeOf, Asked, modelAt, modelsOf, modelNext, modelRun, modelStep, isOpenModel}
+use Rattle.tapes.specs.Model.{Model, nothing, tape, row, shapeOf, modelAt, modelNext, modelStep, isOpenModel}
+use Rattle.tapes.specs.Runs.{Asking}
 use Rattle.serving.proofs.Lifting.{Stands}
 use Rattle.serving.proofs.Step.{tape-counts}
 use Rattle.serving.proofs.Solo.{shows}
 use Rattle.serving.proofs.Taped.{shows-tape}
 use Rattle.serving.proofs.View.{showsAt, view-at, open-at}
-use Rattle.demands.specs.Engine.{plainEngine, Standing, answered, stepOf, run, mounted, inBytes}
+use Rattle.demands.specs.Engine.{plainEngine, Standing, answered, stepOf, run, mounted, modelsThen, inBytes}
 use Rattle.demands.specs.Demand2.{countOf, flagsOf, closing, CountsStored}
 use Rattle.demands.proofs.Answers.{no-bytes, bytes-one, step-at, same-answer}
 use Rattle.demands.proofs.Plain.{stands-then, view-then, then-stands, then-view, plain-faithful}
@@ -88,12 +89,12 @@ closed nothing given = (refl, refl, refl)
 closed (tape t) given = (refl, refl, refl)
 closed (row w) given = (refl, refl, refl)
 
-module _ (image : List ℕ) (ok : mounts image ≡ true) (before : List Asked) (i : ℕ) (fit : inBytes image before ≡ true) where
+module _ (image : List ℕ) (ok : mounts image ≡ true) (before : List Asking) (i : ℕ) (fit : inBytes image before ≡ true) where
   abbrev w : Standing Session
   w = run plainEngine (mounted plainEngine image) before
 
   abbrev ms : List Model
-  ms = modelRun (modelsOf image) before
+  ms = modelsThen plainEngine image before
 
   v : Stands (w .image) (w .session)
   v = then-stands image ok before

@@ -1,77 +1,39 @@
 -- A granule that is written reads back and is shown, and no other granule changes: of every faithful engine, since it is so of the rows.
-use mathlib.Core.Path.{_≡_, refl, sym, ap, _∙_}
+use mathlib.Core.Path.{_≡_, refl, sym, ap, subst, _∙_}
 use mathlib.Core.Bool.{true, false}
 use mathlib.Core.List.{List, [], _∷_, _++_}
-use Prim.Native.Nat.{ℕ, zero, suc, _+_, _≤_, _<_}
+use Prim.Native.Nat.{ℕ, _+_, _≤_, _<_}
 use native.Mathlib.Omega.{arith}
 use lib.Dec.{eqb}
-use lib.ListN.{length, drop, set, length-append}
+use lib.ListN.{length, drop, set}
 use lib.Seq.{getD-set-same, getD-set-other}
 use borrow.Author.Tests.{eqb-true, lt-leb, le-ltb}
 use Rattle.geometry.specs.Bytes.{lay, padded}
 use Rattle.geometry.specs.Places.{capacity}
 use Rattle.geometry.specs.Sizes.{free, random}
 use Rattle.geometry.proofs.Bytes.{lay-fits, length-padded}
-use Rattle.geometry.proofs.Tests.{either}
-use Rattle.directory.specs.Entries.{isFree, isKind}
-use Rattle.directory.specs.declared.Entry.{Entry}
 use Rattle.requests.specs.Judge.{judge, tests, firstOf, orElse, whether}
 use Rattle.requests.proofs.Done.{WritesGranule, done-allows}
 use Rattle.mounting.specs.Mounting.{mounts}
-use Rattle.tapes.specs.Row.{Row, granulesIn, rowFacts, rowDone, rowNext, rowHolding, granule}
-use Rattle.tapes.specs.Tape.{Shape}
-use Rattle.tapes.specs.Model.{Model, nothing, tape, row, Asked, shapeOf, modelAt, modelsOf, modelFacts, modelNext, modelGranule, modelInto, modelShown, modelAnswer, modelStep, modelRun, openModels, ifDone}
-use Rattle.serving.proofs.Solo.{shows}
+use Rattle.tapes.specs.Row.{Row, rowFacts, rowDone, rowNext, rowHolding, granule}
+use Rattle.tapes.specs.Model.{Model, row, Asked, modelAt, modelsOf, modelFacts, modelNext, modelGranule, modelInto, modelShown, modelAnswer, modelStep, openModels, ifDone}
+use Rattle.tapes.specs.Runs.{Asking, ofFile, stepIn, modelRun}
+use Rattle.tapes.proofs.Within.{Within, image-within, run-within}
 use Rattle.serving.proofs.Step.{asked}
-use Rattle.serving.proofs.View.{showsAt}
-use Rattle.demands.specs.Engine.{Engine, Standing, ifLook, answered, run, mounted, areBytes, inBytes}
+use Rattle.demands.specs.Engine.{Engine, Standing, ifLook, answered, run, heard, mounted, modelsThen, areBytes, inBytes}
 use Rattle.demands.specs.Demand2.{Faithful, GranuleBack, granuleWriting, granuleReading}
 use Rattle.demands.proofs.Answers.{run-append, step-at, bytes-one, no-bytes, same-answer, same-buffer, same-shown}
-use Rattle.demands.proofs.Plain.{then-shows}
 use Rattle.requests.specs.declared.Answer.{Answer}
 use Rattle.requests.specs.declared.Answer.the-variants.{Done}
 use Rattle.requests.specs.declared.Facts.{Facts}
 use Rattle.requests.specs.declared.Request.{Request}
 use Rattle.requests.specs.declared.Request.the-variants.{GranuleRead, GranuleWrite, GranuleLook}
-use Rattle.sessions.specs.declared.OpenFile.{OpenFile}
 
 -- n bytes laid at the front of a buffer
 pub lay-front : (n : ℕ) (buffer xs : List ℕ) → length xs ≡ n → n ≤ length buffer → lay buffer 0 xs ≡ xs ++ drop n buffer
 lay-front n buffer xs e l =
     let z : 0 + length xs ≡ n = omega arith in
     lay-fits buffer 0 xs (omega arith) ∙ ap (λ (k : ℕ). xs ++ drop k buffer) z
-
--- ---- as many granules as there is room for
-
-length-granules : (s : Shape) (bytes : List ℕ) (n : ℕ) → length (granulesIn s bytes n) ≡ n
-unfolding granulesIn
-length-granules s bytes zero = refl
-length-granules s bytes (suc n) = length-append (granulesIn s bytes n) _ ∙ ap (λ (k : ℕ). k + 1) (length-granules s bytes n) ∙ omega arith
-
-manyOf : Model → ℕ
-manyOf nothing = 0
-manyOf (tape t) = 0
-manyOf (row w) = length (w .granules)
-
-roomOf : Model → ℕ
-roomOf nothing = 0
-roomOf (tape t) = 0
-roomOf (row w) = capacity random (w .shape .recordLength) (w .shape .sectors)
-
-shows-many : (e : Entry) (f : OpenFile) (bytes : List ℕ) → manyOf (shows e f bytes) ≡ roomOf (shows e f bytes)
-unfolding shows manyOf roomOf shapeOf
-shows-many e f bytes =
-    either (isFree e) (λ (u : isFree e ≡ true). rw (u, shows))
-    λ (u : isFree e ≡ false). either (isKind random e)
-    (λ (r : isKind random e ≡ true). rw (u, r, shows) (length-granules (shapeOf e) bytes (capacity random (e .length) (e .sectors))))
-    (λ (r : isKind random e ≡ false). rw (u, r, shows))
-
-row-many : (image : List ℕ) (ok : mounts image ≡ true) (before : List Asked) (i : ℕ) (w : Row) → modelAt (modelRun (modelsOf image) before) i ≡ row w
-    → length (w .granules) ≡ capacity random (w .shape .recordLength) (w .shape .sectors)
-unfolding showsAt manyOf roomOf
-row-many image ok before i w e =
-    let z = sym (then-shows image ok before i) ∙ e in
-    ap manyOf (sym z) ∙ shows-many _ _ _ ∙ ap roomOf z
 
 -- ---- one request on a row
 
@@ -108,16 +70,16 @@ same-look : (w : Row) (n m : ℕ) (gs : List (List ℕ)) (h : ℕ) → w .isOpen
 unfolding judge tests firstOf orElse whether rowFacts
 same-look w n m gs h o = rw o
 
-module _ (E : Engine) (faithful : Faithful E) (image : List ℕ) (ok : mounts image ≡ true) (before : List Asked) (i g : ℕ) (w : Row) (fit : inBytes image before ≡ true)
-    (here : modelAt (modelRun (modelsOf image) before) i ≡ row w) (given : List ℕ) (bytes : areBytes given ≡ true)
+module _ (E : Engine) (faithful : Faithful E) (image : List ℕ) (ok : mounts image ≡ true) (before : List Asking) (i g : ℕ) (w : Row) (fit : inBytes image before ≡ true)
+    (here : modelAt (modelsThen E image before) i ≡ row w) (given : List ℕ) (bytes : areBytes given ≡ true)
     (done : answered E (run E (mounted E image) before) (granuleWriting i g given) .answer ≡ Done) where
   abbrev ms : List Model
-  ms = modelRun (modelsOf image) before
+  ms = modelsThen E image before
 
   abbrev R : ℕ
   R = w .shape .recordLength
 
-  written : inBytes image (before ++ (granuleWriting i g given ∷ [])) ≡ true
+  written : inBytes image (before ++ (ofFile (granuleWriting i g given) ∷ [])) ≡ true
   written = bytes-one image before (granuleWriting i g given) fit bytes
 
   judged : judge (GranuleWrite g) (rowFacts (openModels ms) given 0 w) ≡ Done
@@ -146,11 +108,15 @@ module _ (E : Engine) (faithful : Faithful E) (image : List ℕ) (ok : mounts im
   unfolding rowFacts
   short = allowed .short
 
+  many : length (w .granules) ≡ capacity random R (w .shape .sectors)
+  unfolding modelsThen
+  many = subst Within here (run-within (heard E (mounted E image) before) (modelsOf image) (image-within image) i)
+
   inside : g < length (w .granules)
   inside =
       let k : w .shape .kind ≡ random = eqb-true (w .shape .kind) random isRandom in
       let c : capacity (w .shape .kind) R (w .shape .sectors) ≡ capacity random R (w .shape .sectors) = ap (λ (n : ℕ). capacity n R (w .shape .sectors)) k in
-      omega (arith, room, row-many image ok before i w here)
+      omega (arith, room, many)
 
   -- behind the write
   abbrev gs : List (List ℕ)
@@ -159,16 +125,16 @@ module _ (E : Engine) (faithful : Faithful E) (image : List ℕ) (ok : mounts im
   abbrev w′ : Row
   w′ = rowHolding w true gs
 
-  abbrev after : List Asked
-  after = before ++ (granuleWriting i g given ∷ [])
+  abbrev after : List Asking
+  after = before ++ (ofFile (granuleWriting i g given) ∷ [])
 
   abbrev ms′ : List Model
-  ms′ = modelRun (modelsOf image) after
+  ms′ = modelsThen E image after
 
   here′ : modelAt ms′ i ≡ row w′
-  unfolding modelRun rowDone
+  unfolding modelRun rowDone modelsThen heard stepIn
   here′ =
-      ap (λ (x : List Model). modelAt x i) (run-append (modelsOf image) before (granuleWriting i g given ∷ []))
+      ap (λ (x : List Model). modelAt x i) (run-append E before (ofFile (granuleWriting i g given) ∷ []) (mounted E image) (modelsOf image))
       ∙ row-step ms i w here (GranuleWrite g) given [] judged
 
   abbrev v : Standing (E .Session)
@@ -177,13 +143,13 @@ module _ (E : Engine) (faithful : Faithful E) (image : List ℕ) (ok : mounts im
   abbrev v′ : Standing (E .Session)
   v′ = run E (mounted E image) after
 
-  read-bytes : (asked : List Asked) → inBytes image asked ≡ true → (h : ℕ) (buffer : List ℕ) → inBytes image (asked ++ (granuleReading i h buffer ∷ [])) ≡ true
+  read-bytes : (asked : List Asking) → inBytes image asked ≡ true → (h : ℕ) (buffer : List ℕ) → inBytes image (asked ++ (ofFile (granuleReading i h buffer) ∷ [])) ≡ true
   read-bytes asked t h buffer = bytes-one image asked (granuleReading i h buffer) t (no-bytes)
 
   abbrev looking : ℕ → Asked
   looking h = record { entry = i; request = GranuleLook h; given = []; buffer = [] }
 
-  look-bytes : (asked : List Asked) → inBytes image asked ≡ true → (h : ℕ) → inBytes image (asked ++ (looking h ∷ [])) ≡ true
+  look-bytes : (asked : List Asking) → inBytes image asked ≡ true → (h : ℕ) → inBytes image (asked ++ (ofFile (looking h) ∷ [])) ≡ true
   look-bytes asked t h = bytes-one image asked (looking h) t (no-bytes)
 
   -- what a read answers and gives, and what a look shows, before and behind

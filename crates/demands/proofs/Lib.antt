@@ -18,3 +18,7 @@ pub mod ReadsBack
 pub mod Counts
 pub mod Impostors
 pub mod Writes
+pub mod Edits
+pub mod Heard
+pub mod Editable
+pub mod Adding

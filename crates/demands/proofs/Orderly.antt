@@ -26,6 +26,7 @@ use Rattle.steps.specs.Look.{shown, plainLookAnswer, plainLook, bufferedLookAns
 use Rattle.steps.specs.Next.{Scene, factsOf, fixedAt, recordHere, bytesGot, fileMet, intoBuffer}
 use Rattle.steps.specs.Step.{After, plainScene, plainAnswer, plainAfter, plainStep, heldOf, bufferedScene, bufferedAnswer, kept, bufferedAfter, bufferedStep}
 use Rattle.demands.specs.Engine.{Engine, plainEngine, bufferedEngine}
+use Rattle.demands.proofs.Edits.{edits-along, buffered-proper-edit, plain-proper-edit}
 use Rattle.demands.specs.Demand1.{inLine, sessionMet, mayChange, Proper, Shows, Orderly}
 use Rattle.geometry.specs.declared.Place.{Place}
 use Rattle.requests.specs.declared.Answer.{Answer}
@@ -186,6 +187,8 @@ buffered-proper image s i q given buffer =
 pub buffered-orderly : Orderly bufferedEngine
 buffered-orderly = record {
   line = along-the-line;
+  editLine = edits-along;
+  every-edit = buffered-proper-edit;
   every-request = buffered-proper;
   every-look = λ image s i g given buffer. shows bufferedEngine image s i g refl given buffer (buffered-proper image s i (GranuleLook g) given buffer);
 }
@@ -198,9 +201,9 @@ map-set (g ∷ fs) zero f = refl
 map-set (g ∷ fs) (suc k) f = ap (λ (r : List BufferedFile). fresh g ∷ r) (map-set fs k f)
 
 set-unheld : (s : Session) (k : ℕ) (f : OpenFile)
-    → unheld (record { table = s .table; files = set (s .files) k f }) ≡ record { table = unheld s .table; files = set (unheld s .files) k (fresh f) }
+    → unheld (record { says = s .says; table = s .table; files = set (s .files) k f }) ≡ record { says = unheld s .says; table = unheld s .table; files = set (unheld s .files) k (fresh f) }
 unfolding unheld
-set-unheld s k f = ap (λ (r : List BufferedFile). record { table = s .table; files = r }) (map-set (s .files) k f)
+set-unheld s k f = ap (λ (r : List BufferedFile). record { says = s .says; table = s .table; files = r }) (map-set (s .files) k f)
 
 unheld-table : (s : Session) → unheld s .table ≡ s .table
 unfolding unheld
@@ -235,7 +238,7 @@ unfolding plainAnswer bufferedAnswer
 same-answer image s i q given n = rw (unheld-legal image s, bare-unheld s, same-scene image s i given)
 
 met-unheld : (x : Edge) (s : Session) (i : ℕ)
-    → unheld (record { table = s .table; files = set (s .files) (slotOf (s .files) i) (fileMet x (fileOf (s .files) i)) }) ≡ sessionMet x (unheld s) i
+    → unheld (record { says = s .says; table = s .table; files = set (s .files) (slotOf (s .files) i) (fileMet x (fileOf (s .files) i)) }) ≡ sessionMet x (unheld s) i
 unfolding sessionMet
 met-unheld x s i =
     let h = fresh-held s i in
@@ -264,6 +267,8 @@ same-look image s i g = rw (same-answer image s i (GranuleLook g) [] 0, unheld-t
 pub plain-orderly : Orderly plainEngine
 plain-orderly = record {
   line = along-the-line;
+  editLine = edits-along;
+  every-edit = plain-proper-edit;
   every-request = plain-proper;
   every-look = λ image s i g given buffer. shows plainEngine image s i g (same-look image s i g) given buffer (plain-proper image s i (GranuleLook g) given buffer);
 }

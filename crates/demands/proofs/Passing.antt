@@ -35,7 +35,8 @@ use Rattle.steps.proofs.Standing.{heldAt, Standing, isOpen, isShut, standing}
 use Rattle.settling.proofs.Kept.{table-length, names-eight, files-length}
 use Rattle.settling.proofs.Next.{SameShape, same-shape, entry-shape, bare-next, held-next}
 use Rattle.settling.proofs.Begin.{mounted-kept}
-use Rattle.demands.specs.Engine.{plainEngine, bufferedEngine, answered, stepOf, mounted, sound}
+use Rattle.demands.specs.Engine.{plainEngine, bufferedEngine, answered, stepOf, edited, editOf, mounted, sound}
+use Rattle.demands.proofs.Edits.{buffered-edit-passes, plain-edit-passes}
 use Rattle.demands.specs.Demand1.{Passing}
 use Rattle.demands.proofs.Bytes.{Bytes, effects-bytes, plain-bytes}
 use Rattle.demands.proofs.Sound.{sound-image, sound-typed, held-whole, sound-next, unheld-sound, SoundBench, all-sound}
@@ -88,8 +89,8 @@ module _ (image : List ℕ) (s : BufferedSession) (fine : sound image s ≡ true
 
   -- what is left of the session is legal if it is without its buffers
   next-legal : (x : List ℕ) (a : Entry) (f : OpenFile) (b : BufferedFile) → length x ≡ length image → SameShape a (entryAt (s .table) i) → (f .used ≡ true → f .entry ≡ i) → Within (entryAt (s .table) i) b
-      → legal image (record { table = set (plain .table) i a; files = set (plain .files) (slotOf (plain .files) i) f }) ≡ true
-      → bufferedLegal x (record { table = set (s .table) i a; files = set (s .files) (slotOf (plain .files) i) (kept f b) }) ≡ true
+      → legal image (record { says = plain .says; table = set (plain .table) i a; files = set (plain .files) (slotOf (plain .files) i) f }) ≡ true
+      → bufferedLegal x (record { says = s .says; table = set (s .table) i a; files = set (s .files) (slotOf (plain .files) i) (kept f b) }) ≡ true
   unfolding bufferedLegal
   next-legal x a f b l z e w g =
       and-both (legal x (bare _)) _ (ap (legal x) (bare-next s i (slotOf (plain .files) i) a f b) ∙ legal-length x image _ l ∙ g) (held-next s i (slotOf (plain .files) i) a z f e b w (all-held image s ok))
@@ -143,11 +144,14 @@ module _ (image : List ℕ) (s : BufferedSession) (fine : sound image s ≡ true
   step-passes gives = (after-sound gives (bufferedAnswer image s i q given (length buffer)) (rw ok), after-legal (bufferedAnswer image s i q given (length buffer)) (rw ok))
 
 pub buffered-passing : Passing bufferedEngine
-unfolding stepOf answered mounted bufferedMount
+unfolding stepOf answered editOf edited mounted bufferedMount
 buffered-passing = record {
   mounting = λ image b l. record { isSound = unheld-sound image (plainMount image .session) b (mounted-typed image); isLegal = mounted-kept image l .isLegal };
   requests = λ w p a gives.
       let z = step-passes (w .image) (w .session) (p .isSound) (p .isLegal) (a .entry) (a .request) (a .given) (a .buffer) gives in
+      record { isSound = z .0; isLegal = z .1 };
+  edits = λ w p x gives.
+      let z = buffered-edit-passes (w .image) (w .session) (x .entry) (x .edit) (x .name) (p .isSound) (p .isLegal) gives in
       record { isSound = z .0; isLegal = z .1 };
 }
 
@@ -170,7 +174,7 @@ module _ (image : List ℕ) (s : Session) (fine : sound image (unheld s) ≡ tru
   plain-names = unfold unheld in names-eight (unheld s) typed-unheld
 
   plain-next : (x : List ℕ) → Bytes x → (a : Entry) → a .name ≡ entryAt (s .table) i .name → (k : ℕ) (f : OpenFile)
-      → sound x (unheld (record { table = set (s .table) i a; files = set (s .files) k f })) ≡ true
+      → sound x (unheld (record { says = s .says; table = set (s .table) i a; files = set (s .files) k f })) ≡ true
   plain-next x b a n k f = unheld-sound x _ b (unheld-typed _ (length-set (s .table) i a ∙ plain-many)
       (every-set-same (λ e. eqb (length (e .name)) 8) (s .table) i a freeEntry (ap (λ (m : List ℕ). eqb (length m) 8) n) ∙ plain-names)
       (length-set (s .files) k f ∙ plain-four))
@@ -194,10 +198,13 @@ module _ (image : List ℕ) (s : Session) (fine : sound image (unheld s) ≡ tru
   plain-step gives = (plain-after gives (plainAnswer image s i q given (length buffer)) (rw ok), unheld-legal _ _ ∙ legal-step image s ok plain-many plain-four i q given buffer)
 
 pub plain-passing : Passing plainEngine
-unfolding stepOf answered mounted
+unfolding stepOf answered editOf edited mounted
 plain-passing = record {
   mounting = λ image b l. record { isSound = unheld-sound image (plainMount image .session) b (mounted-typed image); isLegal = unheld-legal image (plainMount image .session) ∙ mounted-legal image l };
   requests = λ w p a gives.
       let z = plain-step (w .image) (w .session) (p .isSound) (sym (unheld-legal (w .image) (w .session)) ∙ p .isLegal) (a .entry) (a .request) (a .given) (a .buffer) gives in
+      record { isSound = z .0; isLegal = z .1 };
+  edits = λ w p x gives.
+      let z = plain-edit-passes (w .image) (w .session) (x .entry) (x .edit) (x .name) (p .isSound) (sym (unheld-legal (w .image) (w .session)) ∙ p .isLegal) gives in
       record { isSound = z .0; isLegal = z .1 };
 }

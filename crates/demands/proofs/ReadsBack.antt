@@ -1,7 +1,7 @@
 -- What is written reads back, and a lawful write is refused for want of room alone: of every faithful engine, since it is so of the tapes.
-use mathlib.Core.Path.{_≡_, refl, sym, ap, _∙_}
+use mathlib.Core.Path.{_≡_, refl, sym, ap, subst, _∙_}
 use mathlib.Core.Bool.{Bool, true, false, _||_}
-use mathlib.Core.List.{List, [], _∷_, _++_}
+use mathlib.Core.List.{List, [], _∷_, _++_, map}
 use Prim.Native.Nat.{ℕ, zero, suc, _+_, _≤_, _<_}
 use native.Mathlib.Omega.{arith}
 use lib.Dec.{eqb, leb}
@@ -17,14 +17,15 @@ use Rattle.requests.specs.Judge.{Test, noRoom, isFull, judge, tests, firstOf, o
 use Rattle.requests.proofs.Done.{Writes, done-allows}
 use Rattle.mounting.specs.Mounting.{mounts}
 use Rattle.tapes.specs.Tape.{Tape, padByte, tapeFacts, tapeDone, tapeNext, tapeRecord, newRecord}
-use Rattle.tapes.specs.Model.{Model, tape, Asked, modelAt, modelsOf, modelFacts, modelNext, modelRecord, modelInto, modelAnswer, modelStep, modelRun, openModels, ifDone}
+use Rattle.tapes.specs.Model.{Model, tape, Asked, modelAt, modelsOf, modelFacts, modelNext, modelRecord, modelInto, modelAnswer, modelStep, openModels, ifDone}
+use Rattle.tapes.specs.Runs.{Asking, ofFile, modelRun}
+use Rattle.tapes.proofs.Within.{Within, image-within, run-within}
 use Rattle.packing.specs.Reading.{Recorded}
 use Rattle.serving.proofs.Step.{asked}
-use Rattle.demands.specs.Engine.{Engine, answered, run, mounted, areBytes, giveBytes, inBytes}
+use Rattle.demands.specs.Engine.{Engine, answered, run, heard, mounted, modelsThen, areBytes, givesBytes, giveBytes, inBytes}
 use Rattle.demands.specs.Demand2.{Faithful, ReadsBack, RoomAlone, checksBefore3, writing, skipping, asking}
-use Rattle.demands.proofs.Answers.{run-append, step-at, bytes-more, bytes-one, no-bytes, same-answer, same-buffer}
+use Rattle.demands.proofs.Answers.{run-append, filesRun, files-heard, file-bytes, step-at, bytes-more, bytes-one, no-bytes, same-answer, same-buffer}
 use Rattle.demands.proofs.Granules.{lay-front, granule-back}
-use Rattle.demands.proofs.Plain.{then-counts}
 use Rattle.requests.specs.declared.Answer.{Answer}
 use Rattle.requests.specs.declared.Answer.the-variants.{Done, Met, Refused}
 use Rattle.requests.specs.declared.Facts.{Facts}
@@ -87,8 +88,8 @@ module _ (i : ℕ) (t : Tape) (given : List ℕ) (standing : t .position ≤ len
   goes-forward ms k e h =
       tape-step ms i (at k) e (Position RecordForward) [] [] (skips _ refl used refl sequential refl refl (omega (arith, length-rs)))
 
-  goes-far : (n : ℕ) (ms : List Model) (k : ℕ) → modelAt ms i ≡ tape (at k) → k + n ≤ t .position → modelAt (modelRun ms (replicate n (forward i))) i ≡ tape (at (k + n))
-  unfolding modelRun
+  goes-far : (n : ℕ) (ms : List Model) (k : ℕ) → modelAt ms i ≡ tape (at k) → k + n ≤ t .position → modelAt (filesRun ms (replicate n (forward i))) i ≡ tape (at (k + n))
+  unfolding filesRun
   goes-far zero ms k e h = let z : k ≡ k + 0 = omega arith in e ∙ ap (λ (m : ℕ). tape (at m)) z
   goes-far (suc n) ms k e h =
       let z : k + 1 + n ≡ k + suc n = omega arith in
@@ -97,10 +98,10 @@ module _ (i : ℕ) (t : Tape) (given : List ℕ) (standing : t .position ≤ len
   module _ (ms : List Model) (here : modelAt ms i ≡ tape t) (done : modelAnswer ms (writing i given) ≡ Done) where
     -- behind the write, the rewinding and the skips
     abbrev then : List Model
-    then = modelRun ms (writing i given ∷ skipping i (t .position))
+    then = filesRun ms (writing i given ∷ skipping i (t .position))
 
     then-at : modelAt then i ≡ tape (at (t .position))
-    unfolding modelRun tapeDone tapeFacts
+    unfolding filesRun tapeDone tapeFacts
     then-at =
         let z : 0 + t .position ≡ t .position = omega arith in
         let w : modelAt (modelStep ms (writing i given)) i ≡ tape (tapeDone Write given t) = tape-step ms i t here Write given [] (sym (tape-answer ms i t here Write given []) ∙ done) in
@@ -121,10 +122,10 @@ module _ (i : ℕ) (t : Tape) (given : List ℕ) (standing : t .position ≤ len
           rw then-at
           (ap (λ (r : Recorded). r .bytes) (getD-at (take (t .position) (t .records)) (newRecord given t) [] _ (t .position) (length-take-le (t .position) (t .records) standing)))
 
-module _ (E : Engine) (faithful : Faithful E) (image : List ℕ) (ok : mounts image ≡ true) (before : List Asked) (i : ℕ) (t : Tape) (fit : inBytes image before ≡ true)
-    (here : modelAt (modelRun (modelsOf image) before) i ≡ tape t) (given : List ℕ) (bytes : areBytes given ≡ true) where
+module _ (E : Engine) (faithful : Faithful E) (image : List ℕ) (ok : mounts image ≡ true) (before : List Asking) (i : ℕ) (t : Tape) (fit : inBytes image before ≡ true)
+    (here : modelAt (modelsThen E image before) i ≡ tape t) (given : List ℕ) (bytes : areBytes given ≡ true) where
   abbrev ms : List Model
-  ms = modelRun (modelsOf image) before
+  ms = modelsThen E image before
 
   module _ (buffer : List ℕ) (size : t .shape .recordLength ≤ length buffer) (done : answered E (run E (mounted E image) before) (writing i given) .answer ≡ Done) where
     wrote : modelAnswer ms (writing i given) ≡ Done
@@ -134,7 +135,8 @@ module _ (E : Engine) (faithful : Faithful E) (image : List ℕ) (ok : mounts im
     allowed = done-allows Write _ (sym (tape-answer ms i t here Write given []) ∙ wrote)
 
     standing : t .position ≤ length (t .records)
-    standing = then-counts image ok before i t here .1
+    unfolding modelsThen
+    standing = subst Within here (run-within (heard E (mounted E image) before) (modelsOf image) (image-within image) i)
 
     used : eqb (t .shape .kind) free ≡ false
     unfolding tapeFacts
@@ -148,21 +150,28 @@ module _ (E : Engine) (faithful : Faithful E) (image : List ℕ) (ok : mounts im
     unfolding tapeFacts
     short = allowed .short
 
-    abbrev all : List Asked
-    all = before ++ (writing i given ∷ skipping i (t .position))
+    abbrev all : List Asking
+    all = before ++ map ofFile (writing i given ∷ skipping i (t .position))
 
-    skips-bytes : giveBytes (writing i given ∷ skipping i (t .position)) ≡ true
-    unfolding every
+    skips-bytes : giveBytes (map ofFile (writing i given ∷ skipping i (t .position))) ≡ true
+    unfolding every givesBytes
     skips-bytes =
-        and-both (areBytes given) _ bytes (and-both (areBytes []) _ no-bytes (every-replicate (λ (a : Asked). areBytes (a .given)) (t .position) _ no-bytes))
+        and-both (areBytes given) _ bytes (and-both (areBytes []) _ no-bytes (file-bytes (replicate (t .position) (forward i)) (every-replicate (λ (a : Asked). areBytes (a .given)) (t .position) _ no-bytes)))
 
-    all-bytes : inBytes image (all ++ (asking i [] buffer ∷ [])) ≡ true
+    -- the model behind them
+    all-run : modelsThen E image all ≡ filesRun ms (writing i given ∷ skipping i (t .position))
+    unfolding modelsThen
+    all-run =
+        run-append E before (map ofFile (writing i given ∷ skipping i (t .position))) (mounted E image) (modelsOf image)
+        ∙ files-heard E (writing i given ∷ skipping i (t .position)) (run E (mounted E image) before) (modelRun (modelsOf image) (heard E (mounted E image) before))
+
+    all-bytes : inBytes image (all ++ (ofFile (asking i [] buffer) ∷ [])) ≡ true
     all-bytes = bytes-one image all (asking i [] buffer) (bytes-more image before _ fit skips-bytes) (no-bytes)
 
     answers : answered E (run E (mounted E image) all) (asking i [] buffer) .answer ≡ Done
     answers =
         same-answer E faithful image ok all (asking i [] buffer) all-bytes
-        ∙ rw (run-append (modelsOf image) before (writing i given ∷ skipping i (t .position))) (back-answer i t given standing used sequential ms here wrote buffer size)
+        ∙ rw all-run (back-answer i t given standing used sequential ms here wrote buffer size)
 
     gives : answered E (run E (mounted E image) all) (asking i [] buffer) .buffer
         ≡ padded (padByte (t .shape .kind)) (t .shape .recordLength) given ++ drop (t .shape .recordLength) buffer
@@ -170,7 +179,7 @@ module _ (E : Engine) (faithful : Faithful E) (image : List ℕ) (ok : mounts im
     gives =
         same-buffer E faithful image ok all (asking i [] buffer) all-bytes
         ∙ rw (
-          run-append (modelsOf image) before (writing i given ∷ skipping i (t .position)),
+          all-run,
           back-answer i t given standing used sequential ms here wrote buffer size,
           back-record i t given standing used sequential ms here wrote buffer size,
         ) (lay-front (t .shape .recordLength) buffer _ (length-padded _ (t .shape .recordLength) given short) size)
@@ -185,12 +194,12 @@ reads-back E faithful = record {
 -- ---- room
 
 -- tests that all refuse, and of which none holds, hand on
-isRefusal : Answer → Bool
+unfoldable pub isRefusal : Answer → Bool
 isRefusal Done = false
 isRefusal (Met x) = false
 isRefusal (Refused x) = true
 
-passed : (ts : List Test) (f : Facts) (later : Answer) → every (λ u. isRefusal (u .gives)) ts ≡ true → orElse ts f Done ≡ Done → orElse ts f later ≡ later
+pub passed : {F : Type 0} (ts : List (Test F)) (f : F) (later : Answer) → every (λ u. isRefusal (u .gives)) ts ≡ true → orElse ts f Done ≡ Done → orElse ts f later ≡ later
 unfolding orElse every isRefusal whether
 passed [] f later r e = refl
 passed (u ∷ ts) f later r e = go (u .holds f) e (passed ts f later (and-right (isRefusal (u .gives)) _ r))
@@ -200,8 +209,8 @@ passed (u ∷ ts) f later r e = go (u .holds f) e (passed ts f later (and-right 
     go true h more = both-ways (isRefusal (u .gives)) (and-left (isRefusal (u .gives)) _ r) (ap isRefusal h)
     go false h more = more h
 
-module _ (E : Engine) (faithful : Faithful E) (image : List ℕ) (ok : mounts image ≡ true) (before : List Asked) (i : ℕ) (t : Tape) (given : List ℕ) (f : Facts)
-    (fit : inBytes image before ≡ true) (bytes : areBytes given ≡ true) (here : modelAt (modelRun (modelsOf image) before) i ≡ tape t) (is : f ≡ tapeFacts (openModels (modelRun (modelsOf image) before)) given 0 t)
+module _ (E : Engine) (faithful : Faithful E) (image : List ℕ) (ok : mounts image ≡ true) (before : List Asking) (i : ℕ) (t : Tape) (given : List ℕ) (f : Facts)
+    (fit : inBytes image before ≡ true) (bytes : areBytes given ≡ true) (here : modelAt (modelsThen E image before) i ≡ tape t) (is : f ≡ tapeFacts (openModels (modelsThen E image before)) given 0 t)
     (lawful : firstOf checksBefore3 f ≡ Done) where
   last-test : judge Write f ≡ whether (leb mostRecords (t .position) || isFull f) (Refused NoRoom) Done
   unfolding judge tests firstOf orElse isRefusal every tapeFacts
@@ -210,7 +219,7 @@ module _ (E : Engine) (faithful : Faithful E) (image : List ℕ) (ok : mounts im
       ∙ ap (λ (p : ℕ). whether (leb mostRecords p || isFull f) (Refused NoRoom) Done) (ap (λ (g : Facts). g .position) is)
 
   decides : answered E (run E (mounted E image) before) (writing i given) .answer ≡ whether (leb mostRecords (t .position) || isFull f) (Refused NoRoom) Done
-  decides = same-answer E faithful image ok before (writing i given) (bytes-one image before (writing i given) fit bytes) ∙ tape-answer (modelRun (modelsOf image) before) i t here Write given [] ∙ ap (judge Write) (sym is) ∙ last-test
+  decides = same-answer E faithful image ok before (writing i given) (bytes-one image before (writing i given) fit bytes) ∙ tape-answer (modelsThen E image before) i t here Write given [] ∙ ap (judge Write) (sym is) ∙ last-test
 
 pub room-alone : (E : Engine) → Faithful E → RoomAlone E
 unfolding whether

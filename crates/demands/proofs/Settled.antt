@@ -1,4 +1,4 @@
--- A run of the buffered engine, seen with every held buffer laid back, is the plain engine's run: one step is, and what a step needs is kept.
+-- A run of the buffered engine, seen with every held buffer laid back, is the plain engine's run: one step is, one edit is, and what they need is kept.
 use mathlib.Core.Path.{_≡_, refl, sym, ap, ap₂, _∙_, fun-ext}
 use mathlib.Core.Bool.{true, false}
 use mathlib.Core.List.{List, [], _∷_, map}
@@ -12,15 +12,18 @@ use Rattle.sessions.specs.Session.{bare, isOf, fileOf, legal, spotOf}
 use Rattle.sessions.proofs.Files.{is-of, Finds, opened, closed, finds}
 use Rattle.steps.specs.Step.{plainStep}
 use Rattle.tapes.specs.Model.{Asked, Report}
+use Rattle.tapes.specs.Edits.{Editing}
+use Rattle.tapes.specs.Runs.{Asking, ofFile, ofDirectory}
 use Rattle.serving.proofs.Keeping.{legal-step}
 use Rattle.settling.proofs.Settle.{settle}
 use Rattle.steps.proofs.Standing.{heldAt, bare-at}
 use Rattle.settling.proofs.Kept.{Kept, used-entry, table-length, files-length}
 use Rattle.settling.proofs.Scene.{settled-legal}
 use Rattle.settling.proofs.Step.{Agrees, step-agrees}
+use Rattle.settling.proofs.Edited.{EditAgrees, edit-agrees}
 use Rattle.settling.proofs.Look.{look-agrees}
 use Rattle.settling.proofs.Begin.{settle-idle, mounted-kept, mounted-settles, mounted-bare}
-use Rattle.demands.specs.Engine.{plainEngine, bufferedEngine, Standing, spotsOf, ifLook, shownBy, answered, stepOf, reportOf, reports, run, mounted}
+use Rattle.demands.specs.Engine.{plainEngine, bufferedEngine, Standing, spotsOf, ifLook, shownBy, answered, stepOf, reportOf, edited, editOf, editReportOf, next, reportFor, reports, run, mounted}
 use Rattle.requests.specs.declared.Request.{Request}
 use Rattle.sessions.specs.declared.BufferedSession.{BufferedSession}
 use Rattle.sessions.specs.declared.Session.{Session}
@@ -71,37 +74,81 @@ module _ (w : Standing BufferedSession) (ok : KeptAt w) (a : Asked) where
   unfolding reportOf
   same-report = λ j. record {
     number = numberOf (agrees .answer j);
+    told = [];
     buffer = agrees .buffer j;
     shown = same-shown j;
     spots = same-spots j;
   }
 
+-- ---- an edit
+
+module _ (w : Standing BufferedSession) (ok : KeptAt w) (x : Editing) where
+  pub edits-agree : EditAgrees (edited bufferedEngine w x) (edited plainEngine (settled w) x)
+  unfolding edited
+  edits-agree = edit-agrees (w .image) (w .session) ok (x .entry) (x .edit) (x .name)
+
+  pub kept-edit : KeptAt (editOf bufferedEngine w x)
+  unfolding editOf edited
+  kept-edit = edits-agree .stays
+
+  settled-edit : settled (editOf bufferedEngine w x) ≡ editOf plainEngine (settled w) x
+  unfolding editOf
+  settled-edit = ap₂ (λ (z : List ℕ) (s : Session). record { image = z; session = s }) (edits-agree .image) (edits-agree .session)
+
+  same-edit-report : editReportOf bufferedEngine w x ≡ editReportOf plainEngine (settled w) x
+  unfolding editReportOf spotsOf
+  same-edit-report = λ j. record {
+    number = numberOf (edits-agree .answer j);
+    told = edits-agree .told j;
+    buffer = [];
+    shown = [];
+    spots = map (spotOf (edits-agree .session j)) (numbersFrom 0 entries);
+  }
+
+-- ---- whichever is asked
+
+module _ (w : Standing BufferedSession) (ok : KeptAt w) where
+  pub kept-next : (a : Asking) → KeptAt (next bufferedEngine w a)
+  unfolding next
+  kept-next (ofFile a) = kept-step w ok a
+  kept-next (ofDirectory x) = kept-edit w ok x
+
+  pub settled-next : (a : Asking) → settled (next bufferedEngine w a) ≡ next plainEngine (settled w) a
+  unfolding next
+  settled-next (ofFile a) = settled-step w ok a
+  settled-next (ofDirectory x) = settled-edit w ok x
+
+  report-next : (a : Asking) → reportFor bufferedEngine w a ≡ reportFor plainEngine (settled w) a
+  unfolding reportFor
+  report-next (ofFile a) = same-report w ok a
+  report-next (ofDirectory x) = same-edit-report w ok x
+
 -- a run from a standing that is kept
-pub run-kept : (w : Standing BufferedSession) → KeptAt w → (asked : List Asked) → KeptAt (run bufferedEngine w asked)
+pub run-kept : (w : Standing BufferedSession) → KeptAt w → (asked : List Asking) → KeptAt (run bufferedEngine w asked)
 unfolding run
 run-kept w ok [] = ok
-run-kept w ok (a ∷ asked) = run-kept (stepOf bufferedEngine w a) (kept-step w ok a) asked
+run-kept w ok (a ∷ asked) = run-kept (next bufferedEngine w a) (kept-next w ok a) asked
 
-pub run-settled : (w : Standing BufferedSession) → KeptAt w → (asked : List Asked) → settled (run bufferedEngine w asked) ≡ run plainEngine (settled w) asked
+pub run-settled : (w : Standing BufferedSession) → KeptAt w → (asked : List Asking) → settled (run bufferedEngine w asked) ≡ run plainEngine (settled w) asked
 unfolding run
 run-settled w ok [] = refl
 run-settled w ok (a ∷ asked) =
-    run-settled (stepOf bufferedEngine w a) (kept-step w ok a) asked ∙ ap (λ (v : Standing Session). run plainEngine v asked) (settled-step w ok a)
+    run-settled (next bufferedEngine w a) (kept-next w ok a) asked ∙ ap (λ (v : Standing Session). run plainEngine v asked) (settled-next w ok a)
 
-pub run-reports : (w : Standing BufferedSession) → KeptAt w → (asked : List Asked) → reports bufferedEngine w asked ≡ reports plainEngine (settled w) asked
+pub run-reports : (w : Standing BufferedSession) → KeptAt w → (asked : List Asking) → reports bufferedEngine w asked ≡ reports plainEngine (settled w) asked
 unfolding reports
 run-reports w ok [] = refl
 run-reports w ok (a ∷ asked) =
-    ap₂ (λ (x : Report) (xs : List Report). x ∷ xs) (same-report w ok a)
-    (run-reports (stepOf bufferedEngine w a) (kept-step w ok a) asked ∙ ap (λ (v : Standing Session). reports plainEngine v asked) (settled-step w ok a))
+    ap₂ (λ (x : Report) (xs : List Report). x ∷ xs) (report-next w ok a)
+    (run-reports (next bufferedEngine w a) (kept-next w ok a) asked ∙ ap (λ (v : Standing Session). reports plainEngine v asked) (settled-next w ok a))
 
 -- and from a mounting
-module _ (image : List ℕ) (lawful : lawfulLength image ≡ true) (asked : List Asked) where
-  start-kept : KeptAt (mounted bufferedEngine image)
+module _ (image : List ℕ) (lawful : lawfulLength image ≡ true) (asked : List Asking) where
+  pub start-kept : KeptAt (mounted bufferedEngine image)
   unfolding mounted
   start-kept = mounted-kept image lawful
 
-  start-settled : settled (mounted bufferedEngine image) ≡ mounted plainEngine image
+  pub start-settled : settled (mounted bufferedEngine image) ≡ mounted plainEngine image
   unfolding mounted
   start-settled = ap₂ (λ (x : List ℕ) (s : Session). record { image = x; session = s }) (mounted-settles image) (mounted-bare image)
 

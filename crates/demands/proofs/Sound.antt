@@ -78,12 +78,12 @@ module _ (image : List ℕ) (s : BufferedSession) where
 
     -- another image of bytes, another entry of the same name, and another state with a buffer
     pub sound-next : (x : List ℕ) → Bytes x → (i : ℕ) (a : Entry) → a .name ≡ entryAt (s .table) i .name → (k : ℕ) (f : OpenFile) (b : BufferedFile) → Whole b
-        → sound x (record { table = set (s .table) i a; files = set (s .files) k (kept f b) }) ≡ true
+        → sound x (record { says = s .says; table = set (s .table) i a; files = set (s .files) k (kept f b) }) ≡ true
     unfolding sound
     sound-next x y i a n k f b w =
         let z : Whole (kept f b) = kept-whole f b w in
         and-both (areBytes x) _ y
-        (and-both (typed (record { table = set (s .table) i a; files = set (s .files) k (kept f b) })) _ (typed-set s sound-typed i a k (kept f b) n (z .size))
+        (and-both (typed (record { says = s .says; table = set (s .table) i a; files = set (s .files) k (kept f b) })) _ (typed-set s sound-typed i a k (kept f b) n (z .size))
         (every-set (λ c. areBytes (c .buffer)) (s .files) k (kept f b) sound-buffers (z .bytes)))
 
   pub sound-of : Bytes image → typed s ≡ true → every (λ b. areBytes (b .buffer)) (s .files) ≡ true → sound image s ≡ true

@@ -47,7 +47,7 @@ module _ (image : List ℕ) (s : BufferedSession) (types : typed s ≡ true) (ok
 
   -- the session that is left
   abbrev next : BufferedSession
-  next = record { table = table; files = set (s .files) k (kept f b) }
+  next = record { says = s .says; table = table; files = set (s .files) k (kept f b) }
 
   its : Of plain i scene
   unfolding bufferedScene bare

@@ -142,26 +142,31 @@ buffered-counted = record {
 module _ (E : Engine) where
   all-first : (w : Standing (E .Session)) (a : Asked) (rest : List Asked) → allDone E w (a ∷ rest) ≡ true
       → (answered E w a .answer ≡ Done) × (allDone E (stepOf E w a) rest ≡ true)
-  unfolding allDone reports reportOf every
+  unfolding allDone
   all-first w a rest h = (
     done-is (answered E w a .answer) (eqb-true (numberOf (answered E w a .answer)) 0 (and-left (eqb (numberOf (answered E w a .answer)) 0) _ h)),
     and-right (eqb (numberOf (answered E w a .answer)) 0) _ h,
   )
 
+  -- where requests on files lead
+  unfoldable behindAll : Standing (E .Session) → List Asked → Standing (E .Session)
+  behindAll w [] = w
+  behindAll w (a ∷ rest) = behindAll (stepOf E w a) rest
+
   -- one run behind another
   module _ (count : Standing (E .Session) → Asked → ℕ) (b : Asked) where
-    then-sum : (asked : List Asked) (w : Standing (E .Session)) → inRun E count w (asked ++ (b ∷ [])) ≡ inRun E count w asked + count (run E w asked) b
-    unfolding inRun run
+    then-sum : (asked : List Asked) (w : Standing (E .Session)) → inRun E count w (asked ++ (b ∷ [])) ≡ inRun E count w asked + count (behindAll w asked) b
+    unfolding inRun behindAll
     then-sum [] w = omega arith
     then-sum (a ∷ asked) w = omega (arith, then-sum asked (stepOf E w a))
 
-    then-done : (asked : List Asked) (w : Standing (E .Session)) → allDone E w (asked ++ (b ∷ [])) ≡ true → (allDone E w asked ≡ true) × (answered E (run E w asked) b .answer ≡ Done)
-    unfolding allDone reports run every
+    then-done : (asked : List Asked) (w : Standing (E .Session)) → allDone E w (asked ++ (b ∷ [])) ≡ true → (allDone E w asked ≡ true) × (answered E (behindAll w asked) b .answer ≡ Done)
+    unfolding allDone behindAll
     then-done [] w h = (refl, all-first w b [] h .0)
     then-done (a ∷ asked) w h =
         let z : (answered E w a .answer ≡ Done) × (allDone E (stepOf E w a) (asked ++ (b ∷ [])) ≡ true) = all-first w a (asked ++ (b ∷ [])) h in
         let r = then-done asked (stepOf E w a) (z .1) in
-        let first : Bool = eqb (reportOf E w a .number) 0 in
+        let first : Bool = eqb (numberOf (answered E w a .answer)) 0 in
         (and-both first _ (and-left first _ h) (r .0), r .1)
 
 -- ---- the plain engine
@@ -299,9 +304,9 @@ unfolding takeWrites
 take-next w k j h c e (inl s) = rw (h, eq-eqb (w .file .held) j (e ∙ sym s), takeWrites) (omega arith)
 take-next w k j h c e (inr s) = rw (h, ne-eqb (w .file .held) j (omega arith), takeWrites) (omega (arith, back-changed w h c))
 
-run-behind : (i q : ℕ) (givens : List (List ℕ)) → giveBytes (records i givens) ≡ true → (w : Standing BufferedSession) (m : ℕ) → Behind w i q m → allDone bufferedEngine w (records i givens) ≡ true
-    → (inRun bufferedEngine count w (records i givens) + m / q ≡ (m + length givens) / q) × Behind (run bufferedEngine w (records i givens)) i q (m + length givens)
-unfolding inRun run every
+run-behind : (i q : ℕ) (givens : List (List ℕ)) → every (λ a. areBytes (a .given)) (records i givens) ≡ true → (w : Standing BufferedSession) (m : ℕ) → Behind w i q m → allDone bufferedEngine w (records i givens) ≡ true
+    → (inRun bufferedEngine count w (records i givens) + m / q ≡ (m + length givens) / q) × Behind (behindAll bufferedEngine w (records i givens)) i q (m + length givens)
+unfolding inRun behindAll every
 run-behind i q [] g w m b h =
     let n : m ≡ m + length {A = List ℕ} [] = omega arith in
     (omega (arith, ap (λ (k : ℕ). k / q) n), subst (Behind w i q) n b)
@@ -313,13 +318,13 @@ run-behind i q (given ∷ givens) g w m b h =
     let r = run-behind i q givens (and-right (areBytes given) _ g) v (m + 1) (behind w (b .isSound) i (m + 1) q (b .blockedAt) given y (z .0)) (z .1) in
     let n : m + 1 + length givens ≡ m + length (given ∷ givens) = omega arith in
     let t : takeWrites ((m + 1) / q) (benchAt bufferedEngine w i) + m / q ≡ (m + 1) / q = take-next (benchAt bufferedEngine w i) (m / q) ((m + 1) / q) (b .holds) (b .changed) (b .held) (next-sector m q) in
-    (omega (arith, o, r .0, t) ∙ ap (λ (k : ℕ). k / q) n, subst (Behind (run bufferedEngine v (records i givens)) i q) n (r .1))
+    (omega (arith, o, r .0, t) ∙ ap (λ (k : ℕ). k / q) n, subst (Behind (behindAll bufferedEngine v (records i givens)) i q) n (r .1))
 
 -- the first write finds what was held before
 buffered-run : (w : Standing BufferedSession) (i p q : ℕ) (given : List ℕ) (givens : List (List ℕ)) → Writing bufferedEngine w i p q (records i (given ∷ givens))
     → (inRun bufferedEngine count w (records i (given ∷ givens)) ≡ takeWrites (p / q) (benchAt bufferedEngine w i) + ((p + length givens) / q - p / q))
-    × Behind (run bufferedEngine w (records i (given ∷ givens))) i q (p + length givens)
-unfolding inRun run every
+    × Behind (behindAll bufferedEngine w (records i (given ∷ givens))) i q (p + length givens)
+unfolding inRun behindAll every
 buffered-run w i p q given givens b =
     let v : Standing BufferedSession = stepOf bufferedEngine w (writing i given) in
     let z : (answered bufferedEngine w (writing i given) .answer ≡ Done) × (allDone bufferedEngine v (records i givens) ≡ true) = all-first bufferedEngine w (writing i given) (records i givens) (b .done) in
@@ -372,11 +377,11 @@ whole-file : (w : Standing BufferedSession) (i q : ℕ) (given : List ℕ) (give
     → inRun bufferedEngine count w (records i (given ∷ givens) ++ (closing i ∷ [])) ≡ (length givens / q + 1) + 1
 whole-file w i q given givens c b =
     let all : List Asked = records i (given ∷ givens) in
-    let z : (allDone bufferedEngine w all ≡ true) × (answered bufferedEngine (run bufferedEngine w all) (closing i) .answer ≡ Done) = then-done bufferedEngine count (closing i) all w (b .done) in
-    let g : giveBytes all ≡ true = and-left (giveBytes all) _ (sym (every-append (λ a. areBytes (a .given)) all (closing i ∷ [])) ∙ b .bytes) in
+    let z : (allDone bufferedEngine w all ≡ true) × (answered bufferedEngine (behindAll bufferedEngine w all) (closing i) .answer ≡ Done) = then-done bufferedEngine count (closing i) all w (b .done) in
+    let g : every (λ a. areBytes (a .given)) all ≡ true = and-left (every (λ a. areBytes (a .given)) all) _ (sym (every-append (λ a. areBytes (a .given)) all (closing i ∷ [])) ∙ b .bytes) in
     let r = buffered-run w i 0 q given givens (record { isSound = b .isSound; standing = b .standing; bytes = g; done = z .0 }) in
     let t : takeWrites (0 / q) (benchAt bufferedEngine w i) ≡ 0 = take-unchanged (0 / q) (benchAt bufferedEngine w i) c in
-    let k : count (run bufferedEngine w all) (closing i) ≡ 2 = close-count (run bufferedEngine w all) i q _ (r .1) (z .1) in
+    let k : count (behindAll bufferedEngine w all) (closing i) ≡ 2 = close-count (behindAll bufferedEngine w all) i q _ (r .1) (z .1) in
     let x : (0 + length givens) / q ≡ length givens / q = ap (λ (n : ℕ). n / q) (omega arith) in
     omega (arith, then-sum bufferedEngine count (closing i) all w, r .0, t, k, x, zero-div q)
 

@@ -19,7 +19,8 @@ use Rattle.sessions.specs.Session as sessions
 use Rattle.sessions.specs.Session.{hasBuffer}
 use Rattle.steps.specs.Step.{heldOf}
 use Rattle.tapes.specs.Model.{Asked}
-use Rattle.demands.specs.Engine.{Engine, Standing, answered, stepOf, areBytes, sound}
+use Rattle.tapes.specs.Edits.{Editing}
+use Rattle.demands.specs.Engine.{Engine, Standing, answered, stepOf, editOf, areBytes, sound}
 use Rattle.geometry.specs.declared.Place.{Place}
 use Rattle.directory.specs.declared.Entry.{Entry}
 use Rattle.requests.specs.declared.Answer.{Answer}
@@ -168,6 +169,12 @@ pub record Buffered (E : Engine) (w : Standing (E .Session)) (a : Asked) (i : �
   pub its : entryAt (E .seen (w .session) .table) i ≡ e
   pub kind : hasBuffer e ≡ true
 
+-- and so where an edit is asked
+pub record Keeping (E : Engine) (w : Standing (E .Session)) (i : ℕ) (e : Entry) : Type 0 where
+  pub isSound : sound (w .image) (E .seen (w .session)) ≡ true
+  pub its : entryAt (E .seen (w .session) .table) i ≡ e
+  pub kind : hasBuffer e ≡ true
+
 -- and no sector of it is taken but the one that is held
 abbrev pub Keeps : (E : Engine) → Standing (E .Session) → Asked → ℕ → Entry → Type 0
 Keeps E w a i e = within (deskAt E w e i) (takenBy (a .request) e (fileAt E w i .file) (a .given) (deskAt E w e i)) ≡ true
@@ -178,6 +185,8 @@ pub record Buffering (E : Engine) : Type 0 where
       → deskAt E (stepOf E w a) e (a .entry) ≡ deskNext (answered E w a .answer) (a .request) e (fileAt E w (a .entry) .file) (a .given) (deskAt E w e (a .entry))
   -- a request on any other entry
   pub others : (w : Standing (E .Session)) (a : Asked) (i : ℕ) (e : Entry) → Buffered E w a i e → ¬ (i ≡ a .entry) → deskAt E (stepOf E w a) e i ≡ deskAt E w e i
+  -- an edit: "Neither puts a buffer back"
+  pub edits : (w : Standing (E .Session)) (x : Editing) (i : ℕ) (e : Entry) → Keeping E w i e → deskAt E (editOf E w x) e i ≡ deskAt E w e i
   -- "so a write wholly in the held sector leaves the image as it was"; and so does a read in it, an opening, a record skip
   pub inside : (w : Standing (E .Session)) (a : Asked) (e : Entry) → Buffered E w a (a .entry) e → putsBack (a .request) ≡ false
       → Keeps E w a (a .entry) e → answered E w a .image ≡ w .image

@@ -11,11 +11,12 @@ use Rattle.geometry.specs.Places.{perSector, sectorsFor}
 use Rattle.geometry.specs.Sizes.{blocked}
 use Rattle.directory.specs.Entries.{entryAt, isKind}
 use Rattle.sessions.specs.Session.{bare, fileOf, hasBuffer}
+use Rattle.requests.specs.Numbers.{numberOf}
 use Rattle.steps.specs.Effects.{Effect, hold, change, store, stamp, putBack, effects, Bench, bufferedDo}
 use Rattle.steps.specs.Next.{Scene}
 use Rattle.steps.specs.Step.{bufferedScene}
 use Rattle.tapes.specs.Model.{Asked}
-use Rattle.demands.specs.Engine.{Engine, Standing, answered, stepOf, reports, giveBytes, sound}
+use Rattle.demands.specs.Engine.{Engine, Standing, answered, stepOf, areBytes, sound}
 use Rattle.demands.specs.Demand2.{writing, closing}
 use Rattle.demands.specs.Buffer.{fileAt}
 use Rattle.directory.specs.declared.Entry.{Entry}
@@ -90,7 +91,8 @@ module _ (E : Engine) where
 
   -- every request of a run is answered 0
   unfoldable pub allDone : Standing (E .Session) → List Asked → Bool
-  allDone w asked = every (λ r. eqb (r .number) 0) (reports E w asked)
+  allDone w [] = true
+  allDone w (a ∷ rest) = eqb (numberOf (answered E w a .answer)) 0 && allDone (stepOf E w a) rest
 
 -- records written to entry i one behind another
 abbrev pub records : ℕ → List (List ℕ) → List Asked
@@ -112,7 +114,7 @@ pub record BlockedAt (s : BufferedSession) (i p q : ℕ) : Type 0 where
 pub record Writing (E : Engine) (w : Standing (E .Session)) (i p q : ℕ) (asked : List Asked) : Type 0 where
   pub isSound : sound (w .image) (E .seen (w .session)) ≡ true
   pub standing : BlockedAt (E .seen (w .session)) i p q
-  pub bytes : giveBytes asked ≡ true
+  pub bytes : every (λ a. areBytes (a .given)) asked ≡ true
   pub done : allDone E w asked ≡ true
 
 -- E writes straight, F by way of the buffer

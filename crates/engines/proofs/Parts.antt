@@ -2,9 +2,8 @@
 use mathlib.Core.Path.{_≡_, sym, ap, subst, _∙_}
 use mathlib.Core.Bool.{Bool, true, false}
 use mathlib.Core.List.{List, _++_}
-use Prim.Native.Nat.{ℕ, _+_, _-_, _≤_, _<_}
+use Prim.Native.Nat.{ℕ, _+_, _-_, _*_, _≤_, _<_}
 use native.Mathlib.Omega.{arith}
-use borrow.Author.Tests.{eqb-true}
 use borrow.Rule.Slice.PartMut.{midOf, putMid}
 use lib.ListN.{length, take, drop}
 use lib.Seq.{drop-drop}
@@ -12,8 +11,8 @@ use Rattle.geometry.specs.Bytes.{part, lay}
 use Rattle.geometry.specs.Sizes.{sector, mostOpen}
 use Rattle.geometry.proofs.Bytes.{length-part, lay-fits}
 use Rattle.steps.specs.Effects.{Bench}
-use Rattle.storing.specs.Stored.{width, sizeOf, hasBuffers}
-use Rattle.storing.proofs.Read.{size-buffered, told-by-size}
+use Rattle.storing.specs.Stored.{heldWidth, filesAt, hasBuffers}
+use Rattle.storing.proofs.Laid.{held-long}
 use Rattle.finding.specs.Lent.{bufferAt}
 use Rattle.blocking.specs.Blocking.{lent, scene}
 use Rattle.held.specs.Held.{heldAll}
@@ -25,10 +24,6 @@ use Rattle.engines.specs.Parts.{Acted, Moved}
 use Rattle.requests.specs.declared.Request.{Request}
 use Rattle.sessions.specs.declared.Holding.{Holding}
 use Rattle.finding.specs.declared.Seen.{Seen}
-
-pub long : (b : List ℕ) → hasBuffers b ≡ true → length b ≡ 1980
-unfolding hasBuffers sizeOf width
-long b h = eqb-true (length b) 1980 h
 
 -- ---- a buffer lent from the bytes
 
@@ -45,13 +40,13 @@ module _ (x : Seen) (i : ℕ) (q : Request) (given code : List ℕ) (k : ℕ) (i
   abbrev works : List ℕ → Bench
   works c = heldAll (scene i (x .entry)) (effectsWith q (x .entry) (x .file) given code k) (lent image (x .hold) c)
 
-  pub acted : x .slot < mostOpen → length b ≡ 1980 → (c : List ℕ) → c ≡ readied (hasBuffers b) b (x .slot) (x .file .used) → (room : List ℕ) → length room ≡ length (midOf (bufferAt (x .slot)) m c)
+  pub acted : x .slot < mostOpen → hasBuffers b ≡ true → (c : List ℕ) → c ≡ readied (hasBuffers b) b (x .slot) (x .file .used) → (room : List ℕ) → length room ≡ length (midOf (bufferAt (x .slot)) m c)
       → lent image′ h room ≡ works (midOf (bufferAt (x .slot)) m c) → Acted x i q given code k image b image′ (putMid (bufferAt (x .slot)) m c room) h
   unfolding part
   acted n l c told room s z =
-      let e : c ≡ readied true b (x .slot) (x .file .used) = told ∙ ap (λ (u : Bool). readied u b (x .slot) (x .file .used)) (told-by-size true b (l ∙ sym size-buffered)) in
+      let e : c ≡ readied true b (x .slot) (x .file .used) = told ∙ ap (λ (u : Bool). readied u b (x .slot) (x .file .used)) l in
       let p : m ≡ sector = omega arith in
-      let y : length c ≡ 1980 = ap (λ (d : List ℕ). length d) e ∙ length-readied true b (x .slot) (x .file .used) ∙ l in
+      let y : filesAt + heldWidth * mostOpen ≤ length c = omega (arith, ap (λ (d : List ℕ). length d) e, length-readied true b (x .slot) (x .file .used), held-long b l) in
       let j : length room ≡ m = s ∙ length-part c (bufferAt (x .slot)) m (omega arith) in
       let z′ : lent image′ h room ≡ works (part (readied true b (x .slot) (x .file .used)) (bufferAt (x .slot)) sector) = z ∙ ap works (rw (p, e)) in
       let r : room ≡ works (part (readied true b (x .slot) (x .file .used)) (bufferAt (x .slot)) sector) .file .buffer = ap (λ (w : Bench). w .file .buffer) z′ in (

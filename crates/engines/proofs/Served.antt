@@ -120,7 +120,7 @@ module _ (image b : List ℕ) (i : ℕ) (q : Request) (given buffer : List ℕ) 
         ∙ own-is s i
 
     abbrev after : List ℕ → BufferedFile → After BufferedSession
-    after new y = record { answer = v .answer; image = new; session = record { table = set (s .table) i (v .entry); files = set (s .files) k y }; buffer = moved }
+    after new y = record { answer = v .answer; image = new; session = record { says = s .says; table = set (s .table) i (v .entry); files = set (s .files) k y }; buffer = moved }
 
     -- the next session is laid
     ends : isSession u b ≡ true → k < mostOpen → (g : Holding) (room : List ℕ) (y : BufferedFile) (b′ : List ℕ) → Behind u b k f v g room y b′ → (new : List ℕ) → after new y ≡ stepIn u

@@ -11,8 +11,8 @@ use sessions::Holding;
 use storing::Form;
 use storing::has_buffers;
 ghost use mathlib.Core.Path.{_≡_};
+ghost use mathlib.Core.Bool.{true};
 ghost use Prim.Native.Nat.{_<_};
-ghost use lib.ListN.{length};
 ghost use Rattle.geometry.specs.Sizes.{mostOpen};
 ghost use Rattle.storing.specs.Stored.{hasBuffers};
 ghost use Rattle.judging.specs.Lent.{afterIn};
@@ -32,7 +32,7 @@ fn act_held(
     code: &[u8],
     k: u32,
 ) -> Holding
-    requires { ⌜ (seen .slot < mostOpen) × (length (now session) ≡ 1980) ⌝ }
+    requires { ⌜ (seen .slot < mostOpen) × (hasBuffers (now session) ≡ true) ⌝ }
     ensures { λ r. ⌜ Acted seen i q (now (given .entry)) (now (code .entry)) k (now (image .entry)) (now (session .entry)) (now (image .exit)) (now (session .exit)) r ⌝ }
 {
     let e = seen.entry;

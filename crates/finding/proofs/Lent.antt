@@ -14,9 +14,9 @@ use Rattle.geometry.specs.Lists.{every, firstWith, howMany}
 use Rattle.geometry.specs.Sizes.{sector, entries, mostOpen}
 use Rattle.geometry.proofs.Left.{every-on, every-off, every-end}
 use Rattle.geometry.proofs.Tests.{either, and-left, all-getD, alike, every-alike, every-from, first-holds}
-use Rattle.directory.specs.Entries.{entryAt}
+use Rattle.directory.specs.Entries.{entryAt, isFree}
 use Rattle.directory.specs.declared.Entry.{Entry}
-use Rattle.sessions.specs.Session.{idle, fresh, bare, isOf, ofOther, stand, fileOf, slotOf, openFiles, spotOf, heldGood, legal, bufferedLegal}
+use Rattle.sessions.specs.Session.{idle, fresh, bare, isOf, ofOther, stand, fileOf, slotOf, openFiles, spotOf, heldGood, sayingGood, legal, bufferedLegal}
 use Rattle.sessions.specs.Grouped.{fileGood, openGood, holdGood}
 use Rattle.sessions.proofs.Files.{Finds, opened, closed, finds}
 use Rattle.sessions.proofs.Grouped.{file-told, held-unused, held-told}
@@ -26,21 +26,18 @@ use Rattle.sessions.specs.declared.Holding.{Holding}
 use Rattle.sessions.specs.declared.OpenFile.{OpenFile}
 use Rattle.sessions.specs.declared.Spot.the-variants.{Closed}
 use Rattle.tables.specs.Numbers.{numberIn}
-use Rattle.tables.specs.Tables.{twoWordsWide, hasRows}
+use Rattle.tables.specs.Tables.{twoWordsWide}
 use Rattle.tables.specs.Tables as Tables
 use Rattle.tables.specs.Rows.{rowIn}
 use Rattle.tables.proofs.Rows.{length-row, getD-row}
-use Rattle.tables.proofs.Widths.{rows-there}
 use Rattle.storing.specs.Numbers.{isSet, isFlag}
-use Rattle.storing.specs.Stored.{heldWidth, filesAt, width, sizeOf, hasBuffers, fileIn, fileFlags, heldIn, heldFlags, stateFlags, stateIn, holdOf, noHold, isSession, tableIn, statesIn, unlawful, sessionIn, lentSession}
+use Rattle.storing.specs.Stored.{heldWidth, filesAt, width, saidAt, saidWidth, sizeOf, hasBuffers, fileIn, fileFlags, heldIn, heldFlags, stateFlags, sayingIn, stateIn, holdOf, noHold, isSession, tableIn, statesIn, unlawful, sessionIn, lentSession}
 use Rattle.storing.proofs.Read.{width-least, width-most, session-size, session-flags, session-is, session-none, bare-states}
+use Rattle.storing.proofs.Counts.{has-table}
 use Rattle.storing.proofs.Illegal.{unlawful-held}
 use Rattle.finding.specs.Lent.{Spaced, Flagged, filesIn, bareIn, ifUsed, inUse, stateAt, lentBy, lentIn, bufferAt, ownState, seenOf, seenIn}
 
 -- ---- the table
-
-pub has-table : (b : List ℕ) → filesAt ≤ length b → hasRows twoWordsWide entries b ≡ true
-has-table b room = rows-there twoWordsWide entries b (omega arith, omega arith, refl) room
 
 pub table-is : (b : List ℕ) → filesAt ≤ length b → Tables.tableIn twoWordsWide entries b ≡ tableIn b
 unfolding Tables.tableIn
@@ -58,7 +55,7 @@ lent-table b h =
 module _ (u : Bool) (b : List ℕ) (w : ℕ) (pw : w ≡ width u) where
   pub spaced : isSession u b ≡ true → Spaced w b
   spaced t =
-      let l : length b ≡ filesAt + width u * mostOpen = session-size u b t ∙ (unfold sizeOf in refl) in
+      let l : length b ≡ saidAt u + saidWidth = session-size u b t ∙ (unfold sizeOf in refl) in
       (omega (arith, width-least u), omega (arith, width-most u), omega arith)
 
   -- each state of a session says by 0 or 1 whether it is in use
@@ -100,6 +97,18 @@ opened-sum w b (h₀, h₁, h₂, h₃) =
     more zero r h = omega arith
     more (suc zero) r h = omega arith
     more (suc (suc x)) r h = absurd (omega arith)
+
+-- ---- what it says of itself
+
+module _ (w : ℕ) (b : List ℕ) (r : Bool) (told : r ≡ isSet (getD b (filesAt + w * mostOpen) 0)) where
+  pub says-refused : filesAt ≤ length b → r ≡ true → (x : Bool) (n : ℕ) → x ≡ every isFree (Tables.tableIn twoWordsWide entries b) → n ≡ openFiles (filesIn w b)
+      → (x && eqb n 0) ≡ sayingGood (bareIn w b)
+  unfolding sayingGood sayingIn
+  says-refused room t x n px pn = rw (sym told, t, px, pn, table-is b room)
+
+  pub says-mounted : r ≡ false → true ≡ sayingGood (bareIn w b)
+  unfolding sayingGood sayingIn
+  says-mounted t = rw (sym told, t)
 
 -- ---- those before number i
 
@@ -326,7 +335,7 @@ module _ (b : List ℕ) (k : ℕ) where
 -- without their buffers
 pub bare-is : (u : Bool) (b : List ℕ) → isSession u b ≡ true → bare (sessionIn u b) ≡ bareIn (width u) b
 unfolding bare filesIn
-bare-is u b h = ap bare (session-is u b h) ∙ ap (λ (fs : List OpenFile). record { table = tableIn b; files = fs }) (bare-states u b)
+bare-is u b h = ap bare (session-is u b h) ∙ ap (λ (fs : List OpenFile). record { says = sayingIn b (saidAt u); table = tableIn b; files = fs }) (bare-states u b)
 
 -- with the rule of held sectors
 legal-is : (u : Bool) (image b : List ℕ) → isSession u b ≡ true

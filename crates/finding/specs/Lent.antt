@@ -13,12 +13,12 @@ use Rattle.sessions.specs.declared.BufferedFile.{BufferedFile}
 use Rattle.sessions.specs.declared.BufferedSession.{BufferedSession}
 use Rattle.sessions.specs.declared.OpenFile.{OpenFile}
 use Rattle.sessions.specs.declared.Session.{Session}
-use Rattle.storing.specs.Stored.{fileWidth, heldWidth, filesAt, fileIn, holdOf, tableIn, lentSession}
+use Rattle.storing.specs.Stored.{fileWidth, heldWidth, filesAt, saidWidth, fileIn, holdOf, sayingIn, tableIn, lentSession}
 use Rattle.finding.specs.declared.Seen.{Seen}
 
--- four open-file states of w bytes each stand in the bytes, with or without a buffer
+-- four open-file states of w bytes each stand in the bytes, with or without a buffer, and behind them what the session says of itself
 abbrev pub Spaced : ℕ → List ℕ → Type 0
-Spaced w b = (fileWidth ≤ w) × (w ≤ heldWidth) × (filesAt + w * mostOpen ≤ length b)
+Spaced w b = (fileWidth ≤ w) × (w ≤ heldWidth) × (filesAt + w * mostOpen + saidWidth ≤ length b)
 
 -- and each says by 0 or 1 whether it is in use
 abbrev pub Flagged : ℕ → List ℕ → Type 0
@@ -30,7 +30,7 @@ filesIn w b = rowIn fileIn w mostOpen b filesAt
 
 -- and the session of them
 abbrev pub bareIn : ℕ → List ℕ → Session
-bareIn w b = record { table = tableIn b; files = filesIn w b }
+bareIn w b = record { says = sayingIn b (filesAt + w * mostOpen); table = tableIn b; files = filesIn w b }
 
 -- a state; the idle one where it is not in use
 unfoldable pub ifUsed : OpenFile → OpenFile

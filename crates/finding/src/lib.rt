@@ -2,6 +2,7 @@
 // States stand w bytes apart, with or without a buffer behind each: the first 30 bytes are the same.
 use directory::Entry;
 use directory::free_entry;
+use gaps::none_used;
 use geometry::Geometry;
 use geometry::Place;
 use geometry::part;
@@ -29,7 +30,7 @@ ghost use Rattle.geometry.specs.Bytes as Bytes;
 ghost use Rattle.geometry.specs.Lists.{every, firstWith};
 ghost use Rattle.directory.specs.Entries.{entryAt};
 ghost use Rattle.tables.specs.Numbers.{numberIn};
-ghost use Rattle.sessions.specs.Session.{idle, bare, isOf, fileOf, slotOf, openFiles, spotOf, heldGood, legal};
+ghost use Rattle.sessions.specs.Session.{idle, bare, isOf, fileOf, slotOf, openFiles, spotOf, heldGood, sayingGood, legal};
 ghost use Rattle.sessions.specs.Grouped.{filesGood};
 ghost use Rattle.storing.specs.Numbers.{isSet};
 ghost use Rattle.storing.specs.Stored.{heldWidth, filesAt, width, placeIn, fileIn, heldIn, holdOf, noHold, tableIn, statesIn, unlawful, lentSession};
@@ -212,16 +213,45 @@ fn holds_good(b: &[u8], buffers: bool) -> bool
     if buffers { held_good(b) } else { true }
 }
 
+// The truth value at a place as a number, 0 or 1.
+fn flag_at(b: &[u8], at: usize) -> u32
+    requires { ⌜ (at + 1 ≤ length (now b)) × (getD (now b) at 0 ≤ 1) ⌝ }
+    ensures { λ r. ⌜ (r ≡ getD (now (b .entry)) at 0) × (r ≤ 1) ⌝ }
+{
+    b[at] as u32
+}
+
+// How many files are open: each state of a session says so by 0 or 1.
+fn opened_in(b: &[u8], w: usize) -> u32
+    requires { ⌜ Spaced w (now b) × Flagged w (now b) ⌝ }
+    ensures { λ r. ⌜ r ≡ openFiles (filesIn w (now (b .entry))) ⌝ }
+{
+    let at = Form::FILES;
+    flag_at(b, at) + flag_at(b, at + w) + flag_at(b, at + 2 * w) + flag_at(b, at + 3 * w)
+}
+
+// Whether a session that says that it is from a refused mounting has no used entry and no open file.
+fn saying_good(b: &[u8], w: usize) -> bool
+    requires { ⌜ Spaced w (now b) × Flagged w (now b) ⌝ }
+    ensures { λ r. ⌜ r ≡ sayingGood (bareIn w (now (b .entry))) ⌝ }
+{
+    if is_set(b, Form::FILES + w * Geometry::MOST_OPEN) {
+        none_used(b, Width::TWO, Geometry::ENTRIES) & (opened_in(b, w) == 0)
+    } else {
+        true
+    }
+}
+
 // ---- legal sessions
 
 // Whether a session is legal for an image, but for what its buffers hold.
 fn is_lawful(image: &[u8], b: &[u8], w: usize) -> bool
-    requires { ⌜ Spaced w (now b) ⌝ }
+    requires { ⌜ Spaced w (now b) × Flagged w (now b) ⌝ }
     ensures { λ r. ⌜ r ≡ legal (now (image .entry)) (bareIn w (now (b .entry))) ⌝ }
 {
     if Geometry::lawful_length(image) {
         let n = Geometry::sectors_of(image) as u32;
-        table_good(b, Width::TWO, Geometry::ENTRIES, n) & files_good(b, w)
+        table_good(b, Width::TWO, Geometry::ENTRIES, n) & (files_good(b, w) & saying_good(b, w))
     } else {
         false
     }
@@ -259,23 +289,6 @@ fn first_idle(b: &[u8], w: usize) -> usize
         k += 1;
     }
     Geometry::MOST_OPEN
-}
-
-// The truth value at a place as a number, 0 or 1.
-fn flag_at(b: &[u8], at: usize) -> u32
-    requires { ⌜ (at + 1 ≤ length (now b)) × (getD (now b) at 0 ≤ 1) ⌝ }
-    ensures { λ r. ⌜ (r ≡ getD (now (b .entry)) at 0) × (r ≤ 1) ⌝ }
-{
-    b[at] as u32
-}
-
-// How many files are open: each state of a session says so by 0 or 1.
-fn opened_in(b: &[u8], w: usize) -> u32
-    requires { ⌜ Spaced w (now b) × Flagged w (now b) ⌝ }
-    ensures { λ r. ⌜ r ≡ openFiles (filesIn w (now (b .entry))) ⌝ }
-{
-    let at = Form::FILES;
-    flag_at(b, at) + flag_at(b, at + w) + flag_at(b, at + 2 * w) + flag_at(b, at + 3 * w)
 }
 
 // What the state at a place holds; nothing where it is not in use.

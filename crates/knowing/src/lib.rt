@@ -9,7 +9,7 @@ ghost use lib.ListN.{length, getD};
 ghost use Rattle.geometry.specs.Bytes.{isByte};
 ghost use Rattle.geometry.specs.Lists.{every};
 ghost use Rattle.storing.specs.Numbers.{isFlag};
-ghost use Rattle.storing.specs.Stored.{width, fileFlags, stateFlags, isSession};
+ghost use Rattle.storing.specs.Stored.{width, saidWidth, fileFlags, stateFlags, sayingFlags, isSession};
 
 // Whether a byte is a truth value.
 fn is_flag(b: &[u8], at: usize) -> bool
@@ -39,16 +39,26 @@ fn state_flags(b: &[u8], buffers: bool, at: usize) -> bool
     }
 }
 
+// Whether each truth value of what a session says of itself is 0 or 1.
+fn saying_flags(b: &[u8], at: usize) -> bool
+    requires { ⌜ at + saidWidth ≤ length (now b) ⌝ }
+    ensures { λ r. ⌜ r ≡ sayingFlags (now (b .entry)) at ⌝ }
+{
+    is_flag(b, at)
+}
+
 // Whether bytes are a session, with buffers or with none.
 pub fn is_session(b: &[u8], buffers: bool) -> bool
     ensures { λ r. ⌜ r ≡ isSession buffers (now (b .entry)) ⌝ }
 {
     let w = state_width(buffers);
     let at = Form::FILES;
-    if b.len() == at + Geometry::MOST_OPEN * w {
-        state_flags(b, buffers, at)
+    let says = at + Geometry::MOST_OPEN * w;
+    if b.len() == says + Form::SAYING {
+        (state_flags(b, buffers, at)
             & (state_flags(b, buffers, at + w)
-                & (state_flags(b, buffers, at + 2 * w) & state_flags(b, buffers, at + 3 * w)))
+                & (state_flags(b, buffers, at + 2 * w) & state_flags(b, buffers, at + 3 * w))))
+            & saying_flags(b, says)
     } else {
         false
     }

@@ -1,12 +1,11 @@
--- What the calls meet on their way: the table that mounting lays is the one that it hands out, and a look that shows something shows a granule of a session.
+-- What the calls meet on their way: the table that mounting lays is the one that it hands out, and so is what the session says of itself; a look that shows something shows a granule of a session.
 use mathlib.Core.Path.{_≡_, refl, sym, ap, _∙_}
-use mathlib.Core.Bool.{Bool, true, false, _||_}
+use mathlib.Core.Bool.{Bool, true, false}
 use mathlib.Core.List.{List}
 use Prim.Native.Nat.{ℕ, _*_, _≤_}
 use native.Mathlib.Omega.{arith}
-use lib.Dec.{eqb}
 use lib.ListN.{length}
-use borrow.Author.Tests.{eq-eqb, ne-eqb}
+use borrow.Author.Tests.{eq-eqb}
 use Rattle.geometry.specs.Sizes.{sector, entries, lawfulLength, sectorsOf}
 use Rattle.geometry.proofs.Places.{lawful-whole, lawful-some}
 use Rattle.geometry.proofs.Tests.{either, and-left}
@@ -14,8 +13,8 @@ use Rattle.tables.specs.Tables.{oneWordWide, hasRows}
 use Rattle.tables.proofs.Widths.{rows-there}
 use Rattle.requests.specs.Numbers.{numberOf}
 use Rattle.mounting.specs.Mounting.{mounts, startWith, plainMount}
-use Rattle.storing.specs.Stored.{sizeOf, hasBuffers, startTable, layStart}
-use Rattle.storing.proofs.Start.{sized, other-number, start-other}
+use Rattle.storing.specs.Stored.{sizeOf, hasBuffers, startSaying, startTable, layStart}
+use Rattle.storing.proofs.Start.{isSize, sized, other-number, start-other}
 use Rattle.looking.specs.Looking.{lookAnswerIn}
 use Rattle.judging.specs.Lent.{afterIn}
 use Rattle.steps.specs.Step.{After}
@@ -42,12 +41,13 @@ module _ (image : List ℕ) where
   unfolding startTable plainMount startWith
   table-is = either (mounts image) (λ (t : mounts image ≡ true). rw (t, has-directory t, startTable, plainMount)) (λ (t : mounts image ≡ false). rw (t, startTable, plainMount))
 
-module _ (image b : List ℕ) where
-  abbrev isSize : Bool
-  isSize = eqb (length b) 516 || eqb (length b) 1980
+  says-is : startSaying (mounts image) ≡ plainMount image .session .says
+  unfolding startSaying plainMount startWith
+  says-is = either (mounts image) (λ (t : mounts image ≡ true). rw (t, plainMount)) (λ (t : mounts image ≡ false). rw (t, plainMount))
 
+module _ (image b : List ℕ) where
   -- of bytes that are as many as a session takes
-  module _ (t : isSize ≡ true) (g : Bool) (e : g ≡ mounts image) where
+  module _ (t : isSize b ≡ true) (g : Bool) (e : g ≡ mounts image) where
     number-is : mountNumber image b ≡ numberOf (plainMount image .answer)
     unfolding mountNumber
     number-is = rw (eq-eqb (length b) (sizeOf (hasBuffers b)) (sized b image t), mountNumber)
@@ -64,14 +64,14 @@ module _ (image b : List ℕ) where
         bad : numberOf (plainMount image .answer) ≡ 11
         bad = unfold plainMount in rw (sym e ∙ h, plainMount)
 
-    pub mount-leaves : (b′ : List ℕ) → b′ ≡ layStart b (startTable g image) → b′ ≡ mountBytes image b
+    pub mount-leaves : (b′ : List ℕ) → b′ ≡ layStart b (startSaying g) (startTable g image) → b′ ≡ mountBytes image b
     unfolding mountBytes
-    mount-leaves b′ h = h ∙ ap (λ (x : Bool). layStart b (startTable x image)) e ∙ ap (layStart b) (table-is image)
+    mount-leaves b′ h = h ∙ ap (λ (x : Bool). layStart b (startSaying x) (startTable x image)) e ∙ rw (says-is image, table-is image)
 
   -- and of others
-  pub mount-none : isSize ≡ false → (12 ≡ mountNumber image b) × (b ≡ mountBytes image b)
+  pub mount-none : isSize b ≡ false → (12 ≡ mountNumber image b) × (b ≡ mountBytes image b)
   unfolding mountNumber mountBytes
-  mount-none t = (sym (rw (other-number b image t, mountNumber)), start-other b image (plainMount image .session .table) t)
+  mount-none t = (sym (rw (other-number b image t, mountNumber)), start-other b image (plainMount image .session .says) (plainMount image .session .table) t)
 
 -- ---- requests
 

@@ -1,5 +1,6 @@
 // The calls from C: both engines on a lent image, with the session in lent bytes, whose number says which engine's they are. include/lleuadrys.h has the
 // declarations.
+use editing::edit;
 use finding::spot_in;
 use looking::look;
 use looking::look_answer;
@@ -7,6 +8,7 @@ use mounting::mounts;
 use numbering::tell;
 use numbering::unknown;
 use requests::Asked;
+use requests::Edit;
 use requests::by_code;
 use requests::number;
 use storing::Form;
@@ -16,6 +18,7 @@ use telling::find_named;
 use telling::put_words;
 ghost use mathlib.Core.Path.{_≡_};
 ghost use mathlib.Core.Bool.{true, false};
+ghost use mathlib.Core.List.{[]};
 ghost use Prim.Native.Nat.{min};
 ghost use lib.ListN.{length, getD};
 ghost use lib.Seq.{sets};
@@ -25,10 +28,12 @@ ghost use Rattle.listing.specs.Listing.{listing};
 ghost use Rattle.requests.specs.Codes.{askedFor};
 ghost use Rattle.sessions.specs.Session.{bare, spotOf};
 ghost use Rattle.storing.specs.Stored.{sizeOf, lentSession};
+ghost use Rattle.requests.specs.declared.Edit.the-variants.{Add, Delete};
+ghost use Rattle.editing.specs.Editing.{editedIn};
 ghost use Rattle.looking.specs.Looking.{lookIn, lookPlace};
 ghost use Rattle.telling.specs.Told.{found, fieldIn, wordsOf};
 ghost use Rattle.numbering.specs.Codes.{standing, recordAt, codeSize};
-ghost use Rattle.lleuadrys.specs.Calls.{left, requested, mountNumber, mountBytes, version};
+ghost use Rattle.lleuadrys.specs.Calls.{left, requested, Edits, mountNumber, mountBytes, version};
 
 // ---- the calls on a session
 
@@ -125,6 +130,39 @@ pub extern "C" fn lleuadrys_field(session: &[u8], entry: usize, field: u16) -> u
     field_in(session, entry, field)
 }
 
+// ---- the calls of the RAD Editor
+
+// Adds a file; its number. Where that is 0 the new entry's number goes into at.
+#[no_mangle]
+pub extern "C" fn lleuadrys_add(
+    image: &mut [u8],
+    session: &mut [u8],
+    name: &[u8],
+    kind: u16,
+    length: u16,
+    sectors: u16,
+    at: &mut usize,
+) -> u16
+    ensures { λ r. ⌜ Edits (editedIn (now (image .entry)) (now (session .entry)) 0 (Add kind length sectors) (now (name .entry))) r (now (image .exit)) (now (session .exit))
+        × (now (at .exit) ≡ getD (editedIn (now (image .entry)) (now (session .entry)) 0 (Add kind length sectors) (now (name .entry)) .told) 0 (now (at .entry))) ⌝ }
+{
+    let x = Edit::Add {
+        kind: kind,
+        length: length,
+        sectors: sectors,
+    };
+    number(edit(image, session, 0, x, name, at))
+}
+
+// Deletes the file of an entry; its number.
+#[no_mangle]
+pub extern "C" fn lleuadrys_delete(image: &mut [u8], session: &mut [u8], entry: usize) -> u16
+    ensures { λ r. ⌜ Edits (editedIn (now (image .entry)) (now (session .entry)) entry Delete []) r (now (image .exit)) (now (session .exit)) ⌝ }
+{
+    let mut at: usize = 0;
+    number(edit(image, session, entry, Edit::Delete, b"", &mut at))
+}
+
 // ---- the calls that need no session
 
 // The version of the library: 10,000 times its first number, 100 times its second, and its third.
@@ -132,7 +170,7 @@ pub extern "C" fn lleuadrys_field(session: &[u8], entry: usize, field: u16) -> u
 pub extern "C" fn lleuadrys_version() -> u32
     ensures { λ r. ⌜ r ≡ version ⌝ }
 {
-    10000
+    20000
 }
 
 // Puts the words of an answer's number, as far as there is room; the number of bytes put there.

@@ -1,4 +1,4 @@
--- Document 01, "Sizes and the directory": mounting. Definitions only.
+-- Document 01, "Sizes and the directory": mounting; and what document 02, item 1, adds to it. Definitions only.
 use mathlib.Core.Bool.{Bool, true, false, _&&_, _||_, not}
 use mathlib.Core.List.{List}
 use Prim.Native.Nat.{ℕ}
@@ -33,15 +33,15 @@ pub record Mounted (S : Type 0) : Type 0 where
   pub answer : Answer
   pub session : S
 
--- a session with nothing open
-unfoldable pub startWith : List Entry → Session
-startWith table = record { table = table; files = replicate mostOpen idle }
+-- a session with nothing open; whether it says that it is from a refused mounting
+unfoldable pub startWith : Bool → List Entry → Session
+startWith refused table = record { says = record { refused = refused }; table = table; files = replicate mostOpen idle }
 
--- "A refused mounting hands out a table with no used entry and nothing open."
+-- "A refused mounting hands out a table with no used entry and nothing open."; document 02, item 1: "The session from a refused mounting says that it is one"
 unfoldable pub plainMount : List ℕ → Mounted Session
 plainMount image = elim (mounts image) [
-  | true ↦ record { answer = Done; session = startWith (tableOf image) }
-  | false ↦ record { answer = Refused BadImage; session = startWith (replicate entries freeEntry) }
+  | true ↦ record { answer = Done; session = startWith false (tableOf image) }
+  | false ↦ record { answer = Refused BadImage; session = startWith true (replicate entries freeEntry) }
 ]
 
 unfoldable pub bufferedMount : List ℕ → Mounted BufferedSession

@@ -42,9 +42,9 @@ module _ (t : Session) where
 
   -- with another entry and another state
   set-unheld : (i k : ℕ) (e : Entry) (f : OpenFile)
-      → record { table = set (unheld t .table) i e; files = set (unheld t .files) k (fresh f) } ≡ unheld (record { table = set (t .table) i e; files = set (t .files) k f })
+      → record { says = unheld t .says; table = set (unheld t .table) i e; files = set (unheld t .files) k (fresh f) } ≡ unheld (record { says = t .says; table = set (t .table) i e; files = set (t .files) k f })
   unfolding unheld
-  set-unheld i k e f = ap (λ (fs : List BufferedFile). record { table = set (t .table) i e; files = fs }) (sym (map-set fresh (t .files) k f))
+  set-unheld i k e f = ap (λ (fs : List BufferedFile). record { says = t .says; table = set (t .table) i e; files = fs }) (sym (map-set fresh (t .files) k f))
 
   nothing-held : (i : ℕ) → heldOf (unheld t) i .holds ≡ false
   unfolding heldOf
@@ -76,7 +76,7 @@ module _ (image : List ℕ) (t : Session) (i : ℕ) (q : Request) (given buffer 
 
   -- the session with the verdict's entry and state
   abbrev next : Verdict → Session
-  next v = record { table = set (t .table) i (v .entry); files = set (t .files) (slotOf (t .files) i) (v .file) }
+  next v = record { says = t .says; table = set (t .table) i (v .entry); files = set (t .files) (slotOf (t .files) i) (v .file) }
 
   done-after : ownAnswer ≡ Done
       → record { answer = ownAnswer; image = plainAll own (effects q own) image; session = next ownVerdict; buffer = bufferNext ownAnswer q own buffer } ≡ plainStep image t i q given buffer
@@ -127,7 +127,7 @@ module _ (image : List ℕ) (t : Session) (i : ℕ) (q : Request) (given buffer 
       after new z = record { answer = v .answer; image = new; session = z; buffer = moved }
 
       abbrev laid : BufferedSession
-      laid = record { table = set (s .table) i (v .entry); files = set (s .files) (slotOf (bare s .files) i) (fresh (v .file)) }
+      laid = record { says = s .says; table = set (s .table) i (v .entry); files = set (s .files) (slotOf (bare s .files) i) (fresh (v .file)) }
 
       is-next : laid ≡ unheld (next ownVerdict)
       is-next = rw (same-bare, same-verdict, s-is) (set-unheld t i (slotOf (t .files) i) (ownVerdict .entry) (ownVerdict .file))

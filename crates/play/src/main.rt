@@ -1,10 +1,12 @@
 // Plays a script of requests on an image, with one of the two engines: play plain|buffered IMAGE SCRIPT BYTES OUT. docs/PLAY.md says what
 // these files hold and what is printed.
 use arguments::complain;
+use arguments::more;
 use arguments::open_read;
+use arguments::read_image;
+use arguments::save;
 use geometry::same;
 use libc::STDERR_FILENO;
-use libc::STDOUT_FILENO;
 use storing::Form;
 
 // The numbers of its arguments.
@@ -20,12 +22,6 @@ const OUT: usize = 5;
 
 // A proved loop has to end, so rows are counted up to a number that no script has.
 const MOST: u32 = 4294967295;
-
-// One more byte of a file: more than 0 if there is one, less if it cannot be read.
-fn more(fd: i32) -> isize {
-    let mut one = [0u8; 1];
-    libc::read(fd, &mut one)
-}
 
 // Whether the file that argument i names can be read. If not, that is told.
 fn readable(i: usize) -> bool {
@@ -51,18 +47,6 @@ fn writable(i: usize) -> bool {
     }
     libc::close(fd);
     true
-}
-
-// Writes an image to the file that argument i names.
-fn save(i: usize, image: &[u8]) {
-    let mut path = io::buffer();
-    let n = os::arg(i, &mut path);
-    let fd = os::open_overwrite(&path[..n]);
-    let saved = io::write_all(fd, image);
-    libc::close(fd);
-    if !saved {
-        complain(b"cannot write ", i);
-    }
 }
 
 // Whether every row of the script is in order. If not, that is told.
@@ -104,15 +88,9 @@ fn play_image(image: &mut [u8], session: &mut [u8]) {
 
 // Reads the image, and plays the script on it.
 fn play(room: &mut [u8], session: &mut [u8]) {
-    let fd = open_read(IMAGE);
-    let n = io::read_full(fd, room);
-    let got = more(fd);
-    libc::close(fd);
-    if got < 0 {
-        complain(b"cannot read ", IMAGE);
-    } else if got > 0 {
-        io::write_all(STDOUT_FILENO, b"ERROR image longer than 1474560 bytes\n");
-    } else {
+    let image = read_image(IMAGE, room);
+    let n = image.size;
+    if image.whole {
         play_image(&mut room[..n], session);
     }
 }

@@ -1,5 +1,5 @@
 // Plays each case of a file, which its first argument names, with both engines. docs/PLAY.md has the form of that file. What it must print is
-// what the second program, written from document 01 alone, says of each case.
+// what the second program, written from documents 01 and 02 alone, says of each case.
 use arguments::open_read;
 use case_io::Ahead;
 use case_io::Header;

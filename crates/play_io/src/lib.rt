@@ -56,7 +56,7 @@ fn take_bytes(bytes: i32, row: Row, given: &mut [u8]) -> Ahead
     if fails(bytes) {
         Ahead::Wrong(Fault::Unread)
     } else {
-        Ahead::Wrong(Fault::Missing(row.uses))
+        Ahead::Wrong(scripts::missing_for(row))
     }
 }
 

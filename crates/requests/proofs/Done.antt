@@ -166,7 +166,7 @@ positive : (n : ℕ) → eqb n 0 ≡ false → 1 ≤ n
 positive n e = let z : n ≢ 0 = eqb-false n 0 e in omega arith
 
 -- a test that holds gives its answer; one that does not hands on
-passing : (P : Answer → Type 0) (t : Test) (ts : List Test) (f : Facts) → (t .holds f ≡ true → P (t .gives)) → (t .holds f ≡ false → P (firstOf ts f))
+pub passing : {F : Type 0} (P : Answer → Type 0) (t : Test F) (ts : List (Test F)) (f : F) → (t .holds f ≡ true → P (t .gives)) → (t .holds f ≡ false → P (firstOf ts f))
     → P (firstOf (t ∷ ts) f)
 unfolding firstOf orElse whether
 passing P t ts f p r = go (t .holds f) p r
@@ -182,21 +182,21 @@ module _ (q : Request) (f : Facts) where
   last h = h
 
   -- past a test that refuses
-  past : (o : Stage) (x : Refusal) (p : Facts → Bool) (ts : List Test) → (p f ≡ false → Tells q f (firstOf ts f)) → Tells q f (firstOf (refusedIf o x p ∷ ts) f)
+  past : (o : Stage) (x : Refusal) (p : Facts → Bool) (ts : List (Test Facts)) → (p f ≡ false → Tells q f (firstOf ts f)) → Tells q f (firstOf (refusedIf o x p ∷ ts) f)
   past o x p ts k = passing (Tells q f) (refusedIf o x p) ts f (λ e. tt) k
 
   -- past the three that every request on an open file begins with
-  live : (ts : List Test) → (Live f → Tells q f (firstOf ts f)) → Tells q f (firstOf (notLegal ∷ noEntry ∷ notOpen ∷ ts) f)
+  live : (ts : List (Test Facts)) → (Live f → Tells q f (firstOf ts f)) → Tells q f (firstOf (notLegal ∷ noEntry ∷ notOpen ∷ ts) f)
   live ts k =
       past _ _ _ _ λ (a : not (f .legal) ≡ false). past _ _ _ _ λ (b : eqb (f .kind) free ≡ false). past _ _ _ _ λ (c : not (f .opened) ≡ false).
       k (record { legal = not-false _ a; used = b; opened = not-false _ c })
 
   -- and past the one on the kind
-  running : (ts : List Test) → (Running f → Tells q f (firstOf ts f)) → Tells q f (firstOf (notLegal ∷ noEntry ∷ notOpen ∷ notSequential ∷ ts) f)
+  running : (ts : List (Test Facts)) → (Running f → Tells q f (firstOf ts f)) → Tells q f (firstOf (notLegal ∷ noEntry ∷ notOpen ∷ notSequential ∷ ts) f)
   running ts k = live (notSequential ∷ ts) λ (a : Live f). past _ _ _ _ λ (b : eqb (f .kind) random ≡ false). k (record { live = a; sequential = b })
 
   -- the tests of the bytes given
-  sized : (ts : List Test) → ((f .given % 2 ≡ 0) × (1 ≤ f .given) × (f .given ≤ f .length) → Tells q f (firstOf ts f))
+  sized : (ts : List (Test Facts)) → ((f .given % 2 ≡ 0) × (1 ≤ f .given) × (f .given ≤ f .length) → Tells q f (firstOf ts f))
       → Tells q f (firstOf (oddCount ∷ badSize ∷ ts) f)
   sized ts k =
       past _ _ _ _ λ (a : eqb (f .given % 2) 1 ≡ false). past _ _ _ _ λ (b : eqb (f .given) 0 || ltb (f .length) (f .given) ≡ false).

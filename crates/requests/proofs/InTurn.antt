@@ -48,12 +48,12 @@ isBad a = eqb (numberOf a) 11
 -- ---- any other answer stands
 
 -- of some tests
-abbrev Stands : Facts → Bool → List Test → Type 0
+abbrev Stands : Facts → Bool → List (Test Facts) → Type 0
 Stands f b ts = isBad (firstOf ts (supposing true f)) ≡ false → firstOf ts (supposing b f) ≡ firstOf ts (supposing true f)
 
 module _ (f : Facts) (b : Bool) where
   -- a test before
-  before : (t : Test) (ts : List Test) → t .holds (supposing b f) ≡ t .holds (supposing true f) → Stands f b ts → Stands f b (t ∷ ts)
+  before : (t : Test Facts) (ts : List (Test Facts)) → t .holds (supposing b f) ≡ t .holds (supposing true f) → Stands f b ts → Stands f b (t ∷ ts)
   unfolding firstOf orElse whether
   before t ts h k e = rw h (go (t .holds (supposing true f)) e)
     where
@@ -63,7 +63,7 @@ module _ (f : Facts) (b : Bool) where
       go false e = k e
 
   -- the test itself
-  there : (ts : List Test) → Stands f b (badCode ∷ ts)
+  there : (ts : List (Test Facts)) → Stands f b (badCode ∷ ts)
   unfolding firstOf orElse whether
   there ts e = absurd (false≢true (sym e))
 
@@ -119,7 +119,7 @@ Then (Position FileForward) f = ⊥
 Then (Position FileBack) f = ⊥
 
 -- past a test before
-past : {T : Type 0} (f : Facts) (t : Test) (ts : List Test) → isBad (t .gives) ≡ false → (t .holds f ≡ false → isBad (firstOf ts f) ≡ true → T)
+past : {T : Type 0} (f : Facts) (t : Test Facts) (ts : List (Test Facts)) → isBad (t .gives) ≡ false → (t .holds f ≡ false → isBad (firstOf ts f) ≡ true → T)
     → isBad (firstOf (t ∷ ts) f) ≡ true → T
 unfolding firstOf orElse whether
 past {T} f t ts n k e = go (t .holds f) k e
@@ -129,13 +129,13 @@ past {T} f t ts n k e = go (t .holds f) k e
     go false k e = k refl e
 
 -- tests of which none gives 11
-none : {T : Type 0} (ts : List Test) (f : Facts) → every (λ t. not (isBad (t .gives))) ts ≡ true → isBad (firstOf ts f) ≡ true → T
+none : {T : Type 0} (ts : List (Test Facts)) (f : Facts) → every (λ t. not (isBad (t .gives))) ts ≡ true → isBad (firstOf ts f) ≡ true → T
 unfolding firstOf orElse every
 none [] f n e = absurd (false≢true e)
 none (t ∷ ts) f n e = past f t ts (not-true _ (and-left _ _ n)) (λ h. none ts f (and-right (not (isBad (t .gives))) _ n)) e
 
 -- past the four that a request which goes forward begins with, and "beyond"
-advances : {T : Type 0} (f : Facts) (ts : List Test) → (AdvancesThen f → isBad (firstOf ts (supposing true f)) ≡ true → T)
+advances : {T : Type 0} (f : Facts) (ts : List (Test Facts)) → (AdvancesThen f → isBad (firstOf ts (supposing true f)) ≡ true → T)
     → isBad (firstOf (notLegal ∷ noEntry ∷ notOpen ∷ notSequential ∷ isBeyond ∷ ts) (supposing true f)) ≡ true → T
 advances f ts k =
     past _ _ _ refl λ (a : not (f .legal) ≡ false). past _ _ _ refl λ b. past _ _ _ refl λ (c : not (f .opened) ≡ false). past _ _ _ refl λ d. past _ _ _ refl λ e.
@@ -163,7 +163,7 @@ turn (Position FileBack) f = none (tests (Position FileBack)) (supposing true f)
 
 module _ (f : Facts) where
   -- of a request that goes forward
-  advanced : (ts : List Test) → AdvancesThen f
+  advanced : (ts : List (Test Facts)) → AdvancesThen f
       → firstOf (notLegal ∷ noEntry ∷ notOpen ∷ notSequential ∷ isBeyond ∷ ts) (supposing false f) ≡ firstOf ts (supposing false f)
   unfolding firstOf orElse whether
   advanced ts a =

@@ -5,14 +5,15 @@ use Prim.Native.Nat.{ℕ}
 use lib.ListN.{getD}
 use Rattle.requests.specs.Numbers.{numberOf}
 use Rattle.requests.specs.declared.Edge.the-variants.{EndOfFile, BeginningOfTape}
-use Rattle.requests.specs.declared.Refusal.the-variants.{NoRoom, Protected, OddCount, BadSize, WrongSequence, NotThere, AlreadyOpen, FifthFile, BadImage, NotLegal}
+use Rattle.requests.specs.declared.Refusal.the-variants.{NoRoom, Protected, OddCount, BadSize, WrongSequence, NotThere, AlreadyOpen, FifthFile, BadImage, NotLegal, BadName, NameInUse, NoEntry, NoGap, BadShape}
 use Rattle.requests.specs.declared.Answer.{Answer}
 use Rattle.requests.specs.declared.Answer.the-variants.{Done, Met, Refused}
 
 answerOf : ℕ → Answer
 answerOf n =
     getD (Done ∷ Met EndOfFile ∷ Met BeginningOfTape ∷ Refused NoRoom ∷ Refused Protected ∷ Refused OddCount ∷ Refused BadSize ∷ Refused WrongSequence
-    ∷ Refused NotThere ∷ Refused AlreadyOpen ∷ Refused FifthFile ∷ Refused BadImage ∷ Refused NotLegal ∷ []) n Done
+    ∷ Refused NotThere ∷ Refused AlreadyOpen ∷ Refused FifthFile ∷ Refused BadImage ∷ Refused NotLegal ∷ Refused BadName
+    ∷ Refused NameInUse ∷ Refused NoEntry ∷ Refused NoGap ∷ Refused BadShape ∷ []) n Done
 
 of-number : (a : Answer) → answerOf (numberOf a) ≡ a
 unfolding answerOf
@@ -29,6 +30,11 @@ of-number (Refused AlreadyOpen) = refl
 of-number (Refused FifthFile) = refl
 of-number (Refused BadImage) = refl
 of-number (Refused NotLegal) = refl
+of-number (Refused BadName) = refl
+of-number (Refused NameInUse) = refl
+of-number (Refused NoEntry) = refl
+of-number (Refused NoGap) = refl
+of-number (Refused BadShape) = refl
 
 pub same-number : (a b : Answer) → numberOf a ≡ numberOf b → a ≡ b
 same-number a b h = sym (of-number a) ∙ ap answerOf h ∙ of-number b

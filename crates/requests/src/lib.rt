@@ -1,4 +1,5 @@
-// Requests, answers and their numbers, and the tests that a request is judged by: document 01's "The tape a file is" and "Answer numbers".
+// Requests, edits, answers and their numbers, and the tests that each is judged by: document 01's "The tape a file is" and "Answer numbers",
+// document 02's item 1.
 use geometry::Geometry;
 use geometry::Place;
 ghost use mathlib.Core.Path.{_≡_};
@@ -32,6 +33,17 @@ pub enum Request {
     Position(Order),
 }
 
+// What the directory is asked, the RAD Editor's ADD and DELETE: a file is added, with its kind, its record or granule length and its number of
+// sectors, the bytes given being its name; or the file of an entry is deleted.
+pub enum Edit {
+    Add {
+        kind: u16,
+        length: u16,
+        sectors: u16,
+    },
+    Delete,
+}
+
 // What a code asks for.
 pub enum Asked {
     For(Request),
@@ -44,7 +56,7 @@ pub enum Edge {
     BeginningOfTape,
 }
 
-// Answers 3 to 12, in that order.
+// Answers 3 to 17, in that order.
 pub enum Refusal {
     NoRoom,
     Protected,
@@ -56,6 +68,11 @@ pub enum Refusal {
     FifthFile,
     BadImage,
     NotLegal,
+    BadName,
+    NameInUse,
+    NoEntry,
+    NoGap,
+    BadShape,
 }
 
 // An answer: done, an edge met, or a refusal.
@@ -85,7 +102,7 @@ pub struct Facts {
     pub buffer: usize, // the size of the buffer to be read into
 }
 
-// Document 01's number of an answer.
+// Documents 01 and 02's number of an answer.
 pub fn number(a: Answer) -> u16
     ensures { λ r. ⌜ r ≡ numberOf a ⌝ }
 {
@@ -106,6 +123,11 @@ pub fn number(a: Answer) -> u16
             Refusal::FifthFile => 10,
             Refusal::BadImage => 11,
             Refusal::NotLegal => 12,
+            Refusal::BadName => 13,
+            Refusal::NameInUse => 14,
+            Refusal::NoEntry => 15,
+            Refusal::NoGap => 16,
+            Refusal::BadShape => 17,
         },
     }
 }

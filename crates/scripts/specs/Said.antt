@@ -3,7 +3,7 @@ use mathlib.Core.List.{List, [], _∷_, _++_}
 use Prim.Native.Nat.{ℕ, zero, suc}
 use Rattle.texts.specs.Texts.{spelled, decimal, spaced}
 use Rattle.scripts.specs.declared.Fault.{Fault}
-use Rattle.scripts.specs.declared.Fault.the-variants.{Cut, Shape, Code, Missing, Unread}
+use Rattle.scripts.specs.declared.Fault.the-variants.{Cut, Shape, Code, Missing, NoName, Unread}
 use Rattle.scripts.specs.declared.Played.{Played}
 use Rattle.scripts.specs.declared.Sums.{Sums}
 
@@ -30,6 +30,7 @@ faultWords (Cut k) = spelled " cut short at " ++ (decimal k ++ (32 ∷ spelled "
 faultWords Shape = spelled " unknown shape (the last two words are not zero)\n"
 faultWords (Code k) = spelled " unknown code " ++ (decimal k ++ (10 ∷ []))
 faultWords (Missing k) = spelled " bytes are missing for its write of " ++ (decimal k ++ (10 ∷ []))
+faultWords (NoName k) = spelled " bytes are missing for its name of " ++ (decimal k ++ (10 ∷ []))
 faultWords Unread = spelled " cannot be read\n"
 
 unfoldable pub faultLine : ℕ → Fault → List ℕ

@@ -6,7 +6,7 @@ use texts::put_all;
 use texts::put_number;
 ghost use mathlib.Core.Path.{_≡_};
 ghost use Rattle.texts.specs.Texts.{spaced, Wrote};
-ghost use Rattle.scripts.specs.Script.{usedBy, rowOf};
+ghost use Rattle.scripts.specs.Script.{isEdit, usedBy, rowIn, rowOf, missingFor};
 ghost use Rattle.scripts.specs.Sums.{sumsOf};
 ghost use Rattle.scripts.specs.Said.{mountLine, standWords, rowLine, imageLine, faultWords, faultLine};
 
@@ -15,9 +15,10 @@ ghost use Rattle.scripts.specs.Said.{mountLine, standWords, rowLine, ima
 // A row that is in order.
 pub struct Row {
     pub code: u16,
-    pub entry: u16,
-    pub granule: u32,
-    pub length: u16, // the bytes of a write, the buffer of a read
+    pub entry: u16, // of an adding: its kind
+    pub granule: u32, // of an adding: its record length
+    pub length: u16, // the bytes of a write or of a name, the buffer of a read
+    pub sectors: u16, // of an adding
     pub uses: u16, // how many of the bytes given it uses up
 }
 
@@ -27,6 +28,7 @@ pub enum Fault {
     Shape, // its last two words are not zero
     Code(u16), // there is no request of this code
     Missing(u16), // it is a write of so many bytes, and fewer are left
+    NoName(u16), // it adds a file whose name has so many bytes, and fewer are left
     Unread, // a file failed where it was to be read
 }
 
@@ -40,7 +42,34 @@ pub enum Found {
 fn used_by(code: u16, length: u16) -> u16
     ensures { λ r. ⌜ r ≡ usedBy code length ⌝ }
 {
-    if (code == 3) | (code == 5) { length } else { 0 }
+    if (code == 3) | ((code == 5) | (code == 14)) {
+        length
+    } else {
+        0
+    }
+}
+
+// Whether a code, which then names no request, adds or deletes a file.
+pub fn is_edit(code: u16) -> bool
+    ensures { λ r. ⌜ r ≡ isEdit code ⌝ }
+{
+    (code == 14) | (code == 15)
+}
+
+// The words of a row.
+fn row_in(bytes: &[u8]) -> Row
+    ensures { λ r. ⌜ r ≡ rowIn (now (bytes .entry)) ⌝ }
+{
+    let code = word_at(bytes, 0);
+    let length = word_at(bytes, 4);
+    Row {
+        code: code,
+        entry: word_at(bytes, 2),
+        granule: word_at(bytes, 6) as u32,
+        length: length,
+        sectors: word_at(bytes, 8),
+        uses: used_by(code, length),
+    }
 }
 
 // The row that some bytes are, or why it is not in order.
@@ -53,18 +82,28 @@ pub fn row_of(bytes: &[u8]) -> Found
     if (word_at(bytes, 12) != 0) | (word_at(bytes, 14) != 0) {
         return Found::Wrong(Fault::Shape);
     }
-    let code = word_at(bytes, 0);
-    let length = word_at(bytes, 4);
-    let granule = word_at(bytes, 6) as u32;
-    match by_code(code, granule) {
-        Asked::For(_) => Found::InOrder(Row {
-            code: code,
-            entry: word_at(bytes, 2),
-            granule: granule,
-            length: length,
-            uses: used_by(code, length),
-        }),
-        Asked::Unknown => Found::Wrong(Fault::Code(code)),
+    let row = row_in(bytes);
+    let code = row.code;
+    match by_code(code, row.granule) {
+        Asked::For(_) => Found::InOrder(row),
+        Asked::Unknown => {
+            if is_edit(code) {
+                Found::InOrder(row)
+            } else {
+                Found::Wrong(Fault::Code(code))
+            }
+        }
+    }
+}
+
+// Why a row is not in order for which too few bytes are left.
+pub fn missing_for(row: Row) -> Fault
+    ensures { λ r. ⌜ r ≡ missingFor row ⌝ }
+{
+    if row.code == 14 {
+        Fault::NoName(row.uses)
+    } else {
+        Fault::Missing(row.uses)
     }
 }
 
@@ -164,6 +203,10 @@ fn put_fault(out: &mut [u8], at: usize, f: Fault) -> usize
         }
         Fault::Missing(k) => {
             let a = put_all(out, at, b" bytes are missing for its write of ");
+            put_number(out, a, k as u32, b'\n')
+        }
+        Fault::NoName(k) => {
+            let a = put_all(out, at, b" bytes are missing for its name of ");
             put_number(out, a, k as u32, b'\n')
         }
         Fault::Unread => put_all(out, at, b" cannot be read\n"),

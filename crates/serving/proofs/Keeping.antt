@@ -100,7 +100,7 @@ module _ (i files buffer : ℕ) (c : Scene) (number : c .number ≡ i) (mine : c
 
 -- the session with the next entry and state in it
 abbrev pub sessionNext : Answer → Request → Scene → Session → ℕ → Session
-sessionNext a q c s i = record { table = set (s .table) i (entryNext a q c); files = set (s .files) (slotOf (s .files) i) (fileNext a q c) }
+sessionNext a q c s i = record { says = s .says; table = set (s .table) i (entryNext a q c); files = set (s .files) (slotOf (s .files) i) (fileNext a q c) }
 
 -- the scene is entry i's
 pub record Of (s : Session) (i : ℕ) (c : Scene) : Type 0 where
@@ -151,7 +151,7 @@ module _ (image : List ℕ) (s : Session) (ok : legal image s ≡ true) (many : 
 
   pub legal-next : legal image (sessionNext a q c s i) ≡ true
   legal-next =
-      legal-set image s ok four i in-entries inTable (entryNext a q c) (fileNext a q c) (goes-used q i (fileNext a q c) goes) good λ u. record {
+      legal-set image s ok four i in-entries inTable real (entryNext a q c) (fileNext a q c) (goes-used q i (fileNext a q c) goes) good λ u. record {
         real = real-lawful (entryNext a q c) (fileNext a q c) lawfulThen;
         standing = lawfulThen .standing;
         ahead = lawfulThen .ahead;

@@ -12,3 +12,5 @@ pub mod View
 pub mod Lifting
 pub mod Step
 pub mod Mounted
+pub mod Sought
+pub mod Edited

@@ -30,13 +30,13 @@ use Rattle.steps.proofs.Lawful.{Lawful, AllInside}
 use Rattle.steps.proofs.Inside.{lawful, inside}
 use Rattle.steps.proofs.Frame.{length-plain, other-plain, own-plain, Unstamped, table-plain, stamps-or}
 use Rattle.tapes.specs.Model.{Model, nothing, modelAt, modelNext}
-use Rattle.serving.proofs.Solo.{shows, Sound, Serves, Solo, soloAnswer, bytesNext}
+use Rattle.serving.proofs.Solo.{Sound, Serves, Solo, soloAnswer, bytesNext}
 use Rattle.serving.proofs.Stays.{same-next}
 use Rattle.serving.proofs.Packed.{packed-serves}
 use Rattle.serving.proofs.Fixed.{fixed}
 use Rattle.serving.proofs.Granules.{granules}
 use Rattle.serving.proofs.Keeping.{Goes, on, off, goes, Of, Answered, done, sessionNext, legal-next, in-entries, file-then, file-others}
-use Rattle.serving.proofs.View.{showsAt, view, shows-free, length-view, view-at}
+use Rattle.serving.proofs.View.{showsAt, view, shows-same, length-view, view-at}
 use Rattle.directory.specs.declared.Entry.{Entry}
 use Rattle.sessions.specs.declared.OpenFile.{OpenFile}
 use Rattle.sessions.specs.declared.Session.{Session}
@@ -60,6 +60,8 @@ any-serves files buffer q c used v =
 
 pub record Stands (image : List ℕ) (s : Session) : Type 0 where
   pub ok : legal image s ≡ true
+  -- it is from no refused mounting
+  pub said : s .says .refused ≡ false
   pub many : length (s .table) ≡ entries
   pub four : length (s .files) ≡ mostOpen
   pub sound : (i : ℕ) → isFree (entryAt (s .table) i) ≡ false → Sound (entryAt (s .table) i) (fileOf (s .files) i) (extent (entryAt (s .table) i) image)
@@ -214,6 +216,7 @@ module _ (image : List ℕ) (s : Session) (v : Stands image s) (i : ℕ) (used :
     pub stands-next : Stands image′ s′
     stands-next = record {
       ok = legal-length image′ image s′ (moves .long) ∙ legal-next image s (v .ok) (v .many) (v .four) i c its used buffer q a t;
+      said = v .said;
       many = length-set (s .table) i (entryNext a q c) ∙ v .many;
       four = length-set (s .files) (slotOf (s .files) i) (fileNext a q c) ∙ v .four;
       sound = λ j. sound-at j (ℕ-discrete j i);
@@ -242,11 +245,7 @@ module _ (image : List ℕ) (s : Session) (v : Stands image s) (i : ℕ) (used :
 
     shows-there : (j : ℕ) → j ≢ i → showsAt image′ s′ j ≡ showsAt image s j
     unfolding showsAt
-    shows-there j d =
-        rw (entry-there j d, file-there j d)
-        (either (isFree (entryAt (s .table) j))
-        (λ (u : isFree (entryAt (s .table) j) ≡ true). shows-free (entryAt (s .table) j) _ _ u ∙ sym (shows-free (entryAt (s .table) j) _ _ u))
-        (λ (u : isFree (entryAt (s .table) j) ≡ false). ap (shows (entryAt (s .table) j) (fileOf (s .files) j)) (moves .others j d u)))
+    shows-there j d = rw (entry-there j d, file-there j d) (shows-same (entryAt (s .table) j) (fileOf (s .files) j) _ _ (moves .others j d))
 
     pub view-next : view image′ s′ ≡ set (view image s) i (modelNext q a given (modelAt (view image s) i))
     view-next =

@@ -23,6 +23,7 @@ use Rattle.sessions.proofs.Distinct.{file-idle}
 use Rattle.mounting.proofs.Mounted.{start-legal}
 use Rattle.mounting.specs.Mounting.{countDecodes, mounts, startWith, plainMount}
 use Rattle.steps.proofs.Inside.{lawful}
+use Rattle.steps.proofs.Lawful.{Lawful}
 use Rattle.tapes.specs.Tape.{tapeOf}
 use Rattle.tapes.specs.Row.{rowOf}
 use Rattle.tapes.specs.Model.{Model, nothing, shapeOf, modelOf, modelsOf, isOpenModel, nothingOpen}
@@ -34,13 +35,26 @@ use Rattle.sessions.specs.declared.Session.{Session}
 
 -- ---- a session with nothing open
 
-pub nothing-open : (table : List Entry) (i : ℕ) → fileOf (startWith table .files) i ≡ idle
+pub nothing-open : (table : List Entry) (i : ℕ) → fileOf (startWith false table .files) i ≡ idle
 unfolding fileOf firstWith isOf startWith
 nothing-open table i = refl
 
+-- a used entry whose counted records decode is sound where its file is not open
+pub idle-sound : (image : List ℕ) (e : Entry) → lawfulLength image ≡ true → Lies (sectorsOf image) e → Lawful e idle → countDecodes image e ≡ true → Sound e idle (extent e image)
+unfolding behind behindFrom extent countDecodes
+idle-sound image e ok l w d = record {
+  lawful = w;
+  size = length-part image (sector * e .first) (sector * e .sectors) (omega (arith, lawful-whole image ok, l .ends));
+  sound = λ k. rw k at d;
+  here = λ k. refl;
+  end = λ k h. both-ways false h refl;
+  nowhere = λ k. (refl, refl);
+  closed = λ h. (refl, refl);
+}
+
 -- ---- an image's models are what a session shows that has the image's table and nothing open
 
-idle-shows : (image : List ℕ) (e : Entry) → modelOf image e ≡ shows e idle (extent e image)
+pub idle-shows : (image : List ℕ) (e : Entry) → modelOf image e ≡ shows e idle (extent e image)
 unfolding modelOf shows rowOf tapeOf shapeOf
 idle-shows image e = refl
 
@@ -64,7 +78,7 @@ idle-view image s t f =
 
 module _ (image : List ℕ) (ok : mounts image ≡ true) where
   abbrev s : Session
-  s = startWith (tableOf image)
+  s = startWith false (tableOf image)
 
   m-length : lawfulLength image ≡ true
   unfolding mounts
@@ -88,24 +102,17 @@ module _ (image : List ℕ) (ok : mounts image ≡ true) where
   legal-start = start-legal image (tableOf image) m-length m-table
 
   sound-start : (i : ℕ) → isFree (entryAt (tableOf image) i) ≡ false → Sound (entryAt (tableOf image) i) idle (extent (entryAt (tableOf image) i) image)
-  unfolding startWith behind behindFrom extent
+  unfolding startWith
   sound-start i u =
-      let e : Entry = entryAt (tableOf image) i in
-      let l : Lies (sectorsOf image) (entryAt (tableOf image) i) = lies (sectorsOf image) (tableOf image) m-table i (eqb-false (entryAt (tableOf image) i .kind) free u) in
-      record {
-        lawful = rw (nothing-open (tableOf image) i) at (lawful image s legal-start i u);
-        size = length-part image (sector * e .first) (sector * e .sectors) (omega (arith, lawful-whole image m-length, l .ends));
-        sound = λ k. unfold countDecodes in rw k at (m-decodes i);
-        here = λ k. refl;
-        end = λ k h. both-ways false h refl;
-        nowhere = λ k. (refl, refl);
-        closed = λ h. (refl, refl);
-      }
+      idle-sound image (entryAt (tableOf image) i) m-length
+      (lies (sectorsOf image) (tableOf image) m-table i (eqb-false (entryAt (tableOf image) i .kind) free u))
+      (rw (nothing-open (tableOf image) i) at (lawful image s legal-start i u)) (m-decodes i)
 
   pub mounted-stands : Stands image s
   unfolding startWith
   mounted-stands = record {
     ok = legal-start;
+    said = refl;
     many = length-table image;
     four = refl;
     sound = λ i u. rw (nothing-open (tableOf image) i) (sound-start i u);

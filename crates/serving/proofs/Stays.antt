@@ -47,7 +47,7 @@ protected-counted e n m h = go (leb 2 (e .flags)) refl
 
 pub shape-counted : (e : Entry) (n m : ℕ) → m ≤ 1 → shapeOf (counted e n m) ≡ shapeOf e
 unfolding shapeOf counted
-shape-counted e n m h = ap (λ (b : Bool). record { kind = e .kind; recordLength = e .length; sectors = e .sectors; protected = b }) (protected-counted e n m h)
+shape-counted e n m h = ap (λ (b : Bool). record { name = e .name; kind = e .kind; recordLength = e .length; first = e .first; sectors = e .sectors; protected = b }) (protected-counted e n m h)
 
 -- ---- one file, whatever is asked
 

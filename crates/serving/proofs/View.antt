@@ -5,19 +5,18 @@ use mathlib.Core.List.{List, map}
 use Prim.Native.Nat.{ℕ, _+_, _<_}
 use native.Mathlib.Omega.{arith}
 use native.Mathlib.Decide.{decLt}
-use lib.ListN.{length, getD, List·getD-eq-default}
+use lib.ListN.{length, List·getD-eq-default}
 use Rattle.geometry.specs.Lists.{numbersFrom}
 use Rattle.geometry.specs.Sizes.{entries, random}
 use Rattle.geometry.proofs.Tests.{either, both-ways}
 use Rattle.geometry.proofs.Numbered.{length-numbered, getD-numbered, many-map, many-alike}
 use Rattle.directory.specs.Entries.{entryAt, freeEntry, isFree, isKind, isMarked}
-use Rattle.sessions.specs.Session.{idle, fileOf, slotOf, openFiles, stand, spotOf, extent, legal}
-use Rattle.sessions.proofs.Files.{Finds, opened, closed, finds}
-use Rattle.sessions.proofs.Legal.{entry-inside, entry-used}
-use Rattle.sessions.proofs.Distinct.{distinct}
+use Rattle.sessions.specs.Session.{fileOf, openFiles, stand, spotOf, extent, legal}
+use Rattle.sessions.proofs.Legal.{entry-inside}
+use Rattle.sessions.proofs.Distinct.{distinct, free-shut}
 use Rattle.sessions.proofs.Counted.{open-count}
 use Rattle.steps.proofs.Lawful.{Lawful}
-use Rattle.tapes.specs.Model.{Model, nothing, tape, modelAt, isOpenModel, openModels, modelSpot}
+use Rattle.tapes.specs.Model.{Model, nothing, modelAt, isOpenModel, openModels, modelSpot}
 use Rattle.serving.proofs.Solo.{shows}
 use Rattle.directory.specs.declared.Entry.{Entry}
 use Rattle.sessions.specs.declared.OpenFile.{OpenFile}
@@ -41,6 +40,11 @@ spot b p y = elim b [ true ↦ At p y | false ↦ Closed ]
 pub shows-free : (e : Entry) (f : OpenFile) (bytes : List ℕ) → isFree e ≡ true → shows e f bytes ≡ nothing
 unfolding shows
 shows-free e f bytes u = rw (u, shows)
+
+-- a used entry's bytes alone are looked at
+pub shows-same : (e : Entry) (f : OpenFile) (a b : List ℕ) → (isFree e ≡ false → a ≡ b) → shows e f a ≡ shows e f b
+shows-same e f a b q =
+    either (isFree e) (λ (u : isFree e ≡ true). shows-free e f a u ∙ sym (shows-free e f b u)) (λ (u : isFree e ≡ false). ap (shows e f) (q u))
 
 module _ (e : Entry) (f : OpenFile) (bytes : List ℕ) (shut : isFree e ≡ true → f .used ≡ false) where
   open-shows : isOpenModel (shows e f bytes) ≡ f .used
@@ -80,19 +84,9 @@ module _ (image : List ℕ) (s : Session) where
           ∙ sym (shows-free (entryAt (s .table) i) _ _ (ap isFree (List·getD-eq-default (s .table) freeEntry {n = i} (omega (arith, many)))))
 
   module _ (ok : legal image s ≡ true) where
-    -- a free entry has no open file
-    pub free-shut : (i : ℕ) → isFree (entryAt (s .table) i) ≡ true → fileOf (s .files) i .used ≡ false
-    free-shut i e = go (finds (s .files) i)
-      where
-        go : Finds (s .files) i → fileOf (s .files) i .used ≡ false
-        go (opened h f u n b) =
-            let w : isFree (entryAt (s .table) (getD (s .files) (slotOf (s .files) i) idle .entry)) ≡ false = entry-used image s ok (slotOf (s .files) i) (rw f at u) in
-            both-ways (isFree (entryAt (s .table) i)) e (rw (← f, n) at w)
-        go (closed f k b) = ap (λ (g : OpenFile). g .used) f
-
     pub open-at : (i : ℕ) → isOpenModel (showsAt image s i) ≡ fileOf (s .files) i .used
     unfolding showsAt
-    open-at i = open-shows (entryAt (s .table) i) (fileOf (s .files) i) _ (free-shut i)
+    open-at i = open-shows (entryAt (s .table) i) (fileOf (s .files) i) _ (free-shut image s ok i)
 
     pub open-view : openFiles (s .files) ≡ openModels (view image s)
     unfolding view openModels
@@ -103,4 +97,4 @@ module _ (image : List ℕ) (s : Session) where
 
     pub spot-view : (i : ℕ) → (isFree (entryAt (s .table) i) ≡ false → Lawful (entryAt (s .table) i) (fileOf (s .files) i)) → spotOf s i ≡ modelSpot (showsAt image s i)
     unfolding spotOf stand showsAt
-    spot-view i w = spot-shows (entryAt (s .table) i) (fileOf (s .files) i) _ (free-shut i) w
+    spot-view i w = spot-shows (entryAt (s .table) i) (fileOf (s .files) i) _ (free-shut image s ok i) w

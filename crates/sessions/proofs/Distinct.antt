@@ -12,9 +12,10 @@ use lib.Seq.{getD-set-same, getD-set-other, set-out}
 use borrow.Author.Tests.{not-true}
 use Rattle.geometry.specs.Lists.{pairwise}
 use Rattle.geometry.proofs.Tests.{either, both-ways, and-left, and-right, first-holds, pairwise-from}
+use Rattle.directory.specs.Entries.{entryAt, isFree}
 use Rattle.sessions.specs.Session.{idle, isOf, fileOf, slotOf, ofOther, legal}
 use Rattle.sessions.proofs.Files.{is-of, of-used, of-entry, Finds, opened, closed, finds}
-use Rattle.sessions.proofs.Legal.{files-differ}
+use Rattle.sessions.proofs.Legal.{entry-used, files-differ}
 use Rattle.sessions.specs.declared.OpenFile.{OpenFile}
 use Rattle.sessions.specs.declared.Session.{Session}
 
@@ -90,6 +91,24 @@ file-idle files i e = go (finds files i)
     go : Finds files i → fileOf files i ≡ idle
     go (opened h f u n c) = both-ways (fileOf files i .used) u e
     go (closed f k c) = f
+
+-- of a file that is not open there is no state
+pub file-not : (files : List OpenFile) (i : ℕ) → fileOf files i .used ≡ false → (k : ℕ) → isOf i (getD files k idle) ≡ false
+file-not files i e k = go (finds files i)
+  where
+    go : Finds files i → isOf i (getD files k idle) ≡ false
+    go (opened h f u n b) = both-ways (fileOf files i .used) u e
+    go (closed f h b) = b k
+
+-- a free entry has no open file
+pub free-shut : (image : List ℕ) (s : Session) → legal image s ≡ true → (i : ℕ) → isFree (entryAt (s .table) i) ≡ true → fileOf (s .files) i .used ≡ false
+free-shut image s ok i e = go (finds (s .files) i)
+  where
+    go : Finds (s .files) i → fileOf (s .files) i .used ≡ false
+    go (opened h f u n b) =
+        let w : isFree (entryAt (s .table) (getD (s .files) (slotOf (s .files) i) idle .entry)) ≡ false = entry-used image s ok (slotOf (s .files) i) (rw f at u) in
+        both-ways (isFree (entryAt (s .table) i)) e (rw (← f, n) at w)
+    go (closed f k b) = ap (λ (g : OpenFile). g .used) f
 
 -- ---- a state put where entry i's file is, or is to be
 

@@ -1,5 +1,5 @@
 -- A legal session stays legal where one entry and its state change within the rules: every other state keeps its own entry.
-use mathlib.Core.Path.{_≡_, refl, sym, ap, subst}
+use mathlib.Core.Path.{_≡_, refl, sym, ap, _∙_, subst}
 use mathlib.Core.Logic.{_≢_}
 use mathlib.Core.Bool.{Bool, true, false, _&&_, _||_, not}
 use mathlib.Core.List.{List}
@@ -8,17 +8,19 @@ use native.Mathlib.Omega.{arith}
 use native.Mathlib.Decide.{decLt, ℕ-discrete}
 use lib.ListN.{length, getD, set, length-set, List·getD-eq-default}
 use lib.Seq.{getD-set-same, getD-set-other}
-use lib.Dec.{eqb, ltb}
+use lib.Dec.{eqb, leb, ltb}
 use borrow.Author.Tests.{lt-ltb, le-leb, eq-eqb}
-use Rattle.geometry.specs.Lists.{all, every}
-use Rattle.geometry.specs.Sizes.{entries, compressed, mostOpen, sectorsOf}
-use Rattle.geometry.proofs.Tests.{both-ways, and-left, and-right, and-both, every-from, many-most}
+use Rattle.geometry.specs.Lists.{all, every, pairwise}
+use Rattle.geometry.specs.Sizes.{entries, compressed, mostOpen, sectorsOf, lawfulLength}
+use Rattle.geometry.proofs.Tests.{either, both-ways, and-left, and-right, and-both, every-from, every-alike, many-most}
 use Rattle.directory.specs.Entries.{entryAt, freeEntry, isFree, isKind, isMarked}
 use Rattle.directory.specs.Rules.{tableGood}
-use Rattle.sessions.specs.Session.{idle, slotOf, openFiles, ofUsedEntry, positionGood, beyondGood, placeGood, placesGood, sessionRules, legal}
+use Rattle.sessions.specs.Session.{idle, isOf, fileOf, slotOf, openFiles, ofUsedEntry, ofOther, positionGood, beyondGood, placeGood, placesGood, sayingGood, sessionRules, legal}
+use Rattle.sessions.specs.Grouped.{fileGood, filesGood}
 use Rattle.sessions.proofs.Files.{is-of}
-use Rattle.sessions.proofs.Legal.{lawful-length, entry-inside, entry-used, position-most, beyond-marked, places-inside}
-use Rattle.sessions.proofs.Distinct.{distinct, distinct-rule, distinct-set, only-slot}
+use Rattle.sessions.proofs.Grouped.{grouped, file-unused}
+use Rattle.sessions.proofs.Legal.{lawful-length, honest, entry-inside, entry-used, position-most, beyond-marked, places-inside}
+use Rattle.sessions.proofs.Distinct.{distinct, distinct-rule, distinct-set, only-slot, file-not}
 use Rattle.directory.specs.declared.Entry.{Entry}
 use Rattle.sessions.specs.declared.OpenFile.{OpenFile}
 use Rattle.sessions.specs.declared.Session.{Session}
@@ -59,7 +61,7 @@ module _ (t : List Entry) (f : OpenFile) (keeps : f .used ≡ true → (f .entry
       let a = keeps (and-left (f .used) (isKind compressed e) h) .1 .places (and-right (f .used) (isKind compressed e) h) in
       and-both (placeGood e (f .here)) (placeGood e (f .end)) (a .0) (a .1)
 
-module _ (image : List ℕ) (s : Session) (ok : legal image s ≡ true) (four : length (s .files) ≡ mostOpen) (i : ℕ) (inside : i < entries) (there : i < length (s .table))
+module _ (image : List ℕ) (s : Session) (ok : legal image s ≡ true) (four : length (s .files) ≡ mostOpen) (i : ℕ) (inside : i < entries) (there : i < length (s .table)) (real : isFree (entryAt (s .table) i) ≡ false)
     (e : Entry) (f : OpenFile) (mine : f .used ≡ true → f .entry ≡ i) where
   abbrev k : ℕ
   k = slotOf (s .files) i
@@ -70,8 +72,8 @@ module _ (image : List ℕ) (s : Session) (ok : legal image s ≡ true) (four : 
   abbrev files′ : List OpenFile
   files′ = set (s .files) k f
 
-  pub legal-set : tableGood (sectorsOf image) table′ ≡ true → (f .used ≡ true → Keeps e f) → legal image (record { table = table′; files = files′ }) ≡ true
-  unfolding legal sessionRules all openFiles
+  pub legal-set : tableGood (sectorsOf image) table′ ≡ true → (f .used ≡ true → Keeps e f) → legal image (record { says = s .says; table = table′; files = files′ }) ≡ true
+  unfolding legal sessionRules all openFiles sayingGood
   legal-set good keeps =
       rw (
         lawful-length image s ok,
@@ -82,6 +84,7 @@ module _ (image : List ℕ) (s : Session) (ok : legal image s ≡ true) (four : 
         every-state (positionGood table′) (position-rule table′),
         every-state (beyondGood table′) (beyond-rule table′),
         every-state (placesGood table′) (places-rule table′),
+        honest image s ok i real,
       )
     where
       new : f .used ≡ true → (f .entry < entries) × Keeps (entryAt table′ (f .entry)) f
@@ -113,3 +116,25 @@ module _ (image : List ℕ) (s : Session) (ok : legal image s ≡ true) (four : 
 
       every-state : (r : OpenFile → Bool) → ((g : OpenFile) → (g .used ≡ true → (g .entry < entries) × Keeps (entryAt table′ (g .entry)) g) → r g ≡ true) → every r files′ ≡ true
       every-state r h = every-from r files′ idle λ m l. h (getD files′ m idle) (each m)
+
+-- ---- and where an entry changes whose file is not open
+
+one-kept : (t : List Entry) (n : ℕ) (e : Entry) (f : OpenFile) → isOf n f ≡ false → fileGood (set t n e) f ≡ fileGood t f
+unfolding fileGood ofUsedEntry positionGood beyondGood placesGood
+one-kept t n e f h = either (f .used)
+    (λ (u : f .used ≡ true). rw (getD-set-other t n (f .entry) e freeEntry (λ (z : f .entry ≡ n). both-ways (isOf n f) (is-of n f u z) h)))
+    (λ (u : f .used ≡ false). file-unused (set t n e) f u ∙ sym (file-unused t f u))
+
+module _ (image : List ℕ) (s : Session) (ok : legal image s ≡ true) (n : ℕ) (shut : fileOf (s .files) n .used ≡ false) (e : Entry) where
+  abbrev edited : Session
+  edited = record { says = s .says; table = set (s .table) n e; files = s .files }
+
+  files-kept : filesGood (set (s .table) n e) (s .files) ≡ true
+  unfolding filesGood
+  files-kept =
+      ap (λ (b : Bool). leb (openFiles (s .files)) mostOpen && (b && pairwise ofOther (s .files))) (every-alike (fileGood (set (s .table) n e)) (fileGood (s .table)) (s .files) idle (λ m l. one-kept (s .table) n e (getD (s .files) m idle) (file-not (s .files) n shut m)))
+      ∙ and-left (filesGood (s .table) (s .files)) _ (and-right (tableGood (sectorsOf image) (s .table)) _ (and-right (lawfulLength image) _ (sym (grouped image s) ∙ ok)))
+
+  pub legal-elsewhere : s .says .refused ≡ false → tableGood (sectorsOf image) (set (s .table) n e) ≡ true → legal image (record { says = s .says; table = set (s .table) n e; files = s .files }) ≡ true
+  unfolding sayingGood
+  legal-elsewhere honest good = grouped image edited ∙ rw (lawful-length image s ok, good, files-kept, honest)

@@ -10,10 +10,10 @@ use lib.Dec.{eqb, ltb}
 use borrow.Author.Tests.{leb-true, ltb-true, eqb-true, not-true}
 use Rattle.geometry.specs.Lists.{every, pairwise}
 use Rattle.geometry.specs.Sizes.{sector, entries, compressed, sectorsOf, lawfulLength}
-use Rattle.geometry.proofs.Tests.{and-left, and-right, all-getD, every-any, pairwise-getD, both-ways}
-use Rattle.directory.specs.Entries.{entryAt, isFree, isKind, isMarked}
+use Rattle.geometry.proofs.Tests.{and-left, and-right, all-getD, every-any, pairwise-getD, both-ways, either}
+use Rattle.directory.specs.Entries.{entryAt, freeEntry, isFree, isKind, isMarked}
 use Rattle.directory.specs.Rules.{tableGood}
-use Rattle.sessions.specs.Session.{idle, isOf, ofUsedEntry, ofOther, positionGood, beyondGood, placesGood, placeGood, sessionRules, legal, fresh, bare, heldGood, bufferedLegal}
+use Rattle.sessions.specs.Session.{idle, isOf, openFiles, sayingGood, ofUsedEntry, ofOther, positionGood, beyondGood, placesGood, placeGood, sessionRules, legal, fresh, bare, heldGood, bufferedLegal}
 use Rattle.sessions.proofs.Files.{is-of}
 use Rattle.directory.specs.declared.Entry.{Entry}
 use Rattle.sessions.specs.declared.BufferedFile.{BufferedFile}
@@ -39,6 +39,15 @@ module _ (image : List ℕ) (s : Session) (ok : legal image s ≡ true) where
   pub good-table : tableGood (sectorsOf image) (s .table) ≡ true
   unfolding sessionRules
   good-table = rule 1
+
+  -- a session with a used entry does not say that it is from a refused mounting
+  pub honest : (i : ℕ) → isFree (entryAt (s .table) i) ≡ false → s .says .refused ≡ false
+  unfolding sessionRules sayingGood
+  honest i u = either (s .says .refused)
+      (λ (r : s .says .refused ≡ true).
+      let h : (every isFree (s .table) && eqb (openFiles (s .files)) 0) ≡ true = implied (s .says .refused) _ (rule 8) r in
+      both-ways (isFree (entryAt (s .table) i)) (every-any isFree (s .table) i freeEntry (and-left (every isFree (s .table)) _ h) refl) u)
+      (λ r. r)
 
   -- the state of number k
   module _ (k : ℕ) (used : getD (s .files) k idle .used ≡ true) where

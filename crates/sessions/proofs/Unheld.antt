@@ -20,7 +20,7 @@ bare-fresh (f ∷ files) = ap (λ (fs : List OpenFile). f ∷ fs) (bare-fresh fi
 
 pub bare-unheld : (s : Session) → bare (unheld s) ≡ s
 unfolding bare unheld
-bare-unheld s = ap (λ (fs : List OpenFile). record { table = s .table; files = fs }) (bare-fresh (s .files))
+bare-unheld s = ap (λ (fs : List OpenFile). record { says = s .says; table = s .table; files = fs }) (bare-fresh (s .files))
 
 -- each of its states is fresh
 pub unheld-at : (s : Session) (k : ℕ) → getD (unheld s .files) k (fresh idle) ≡ fresh (getD (s .files) k idle)

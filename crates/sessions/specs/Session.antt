@@ -1,4 +1,4 @@
--- Document 01, "Answer numbers", last paragraph: sessions, and when one is legal for an image. Definitions only.
+-- Document 01, "Answer numbers", last paragraph, and document 02, item 1: sessions, and when one is legal for an image. Definitions only.
 use mathlib.Core.Bool.{Bool, true, false, _&&_, _||_, not}
 use mathlib.Core.List.{List, [], _∷_, map}
 use Prim.Native.Nat.{ℕ, _*_}
@@ -29,11 +29,11 @@ fresh f = record { file = f; holds = false; held = 0; changed = false; buffer = 
 
 -- the session without its buffers
 unfoldable pub bare : BufferedSession → Session
-bare s = record { table = s .table; files = map (λ f. f .file) (s .files) }
+bare s = record { says = s .says; table = s .table; files = map (λ f. f .file) (s .files) }
 
 -- a plain session as a buffered one: nothing held
 unfoldable pub unheld : Session → BufferedSession
-unheld s = record { table = s .table; files = map fresh (s .files) }
+unheld s = record { says = s .says; table = s .table; files = map fresh (s .files) }
 
 -- ---- finding a file
 
@@ -114,6 +114,10 @@ placesGood table f =
 unfoldable pub heldGood : List Entry → BufferedFile → Bool
 heldGood table b = not (b .file .used && b .holds) || ltb (b .held) (entryAt table (b .file .entry) .sectors)
 
+-- document 02, item 1: "The session from a refused mounting says that it is one, and if it says so with a used entry or an open file it falls under 12"
+unfoldable pub sayingGood : Session → Bool
+sayingGood s = not (s .says .refused) || (every isFree (s .table) && eqb (openFiles (s .files)) 0)
+
 unfoldable pub sessionRules : List ℕ → Session → List Bool
 sessionRules image s =
     lawfulLength image
@@ -124,6 +128,7 @@ sessionRules image s =
     ∷ every (positionGood (s .table)) (s .files)
     ∷ every (beyondGood (s .table)) (s .files)
     ∷ every (placesGood (s .table)) (s .files)
+    ∷ sayingGood s
     ∷ []
 
 unfoldable pub legal : List ℕ → Session → Bool

@@ -1,4 +1,5 @@
-// Sessions of both engines, and the rules of an open file in a legal one: document 01's "Answer numbers", last paragraph.
+// Sessions of both engines, and the rules of an open file in a legal one: document 01's "Answer numbers", last paragraph,
+// and document 02's item 1.
 use directory::Entry;
 use directory::is_marked;
 use geometry::Geometry;
@@ -33,14 +34,21 @@ pub struct Holding {
     pub changed: bool,
 }
 
+// What a session says of itself.
+pub struct Saying {
+    pub refused: bool, // it is from a refused mounting
+}
+
 // A session of the engine with no buffer. In memory a session stands in lent bytes (storing); this is what they are read as.
 pub struct Session {
+    pub says: Saying,
     pub table: [Entry; Geometry::ENTRIES],
     pub files: [OpenFile; Geometry::MOST_OPEN],
 }
 
 // A session of the engine with a blocking buffer for each open file.
 pub struct BufferedSession {
+    pub says: Saying,
     pub table: [Entry; Geometry::ENTRIES],
     pub files: [BufferedFile; Geometry::MOST_OPEN],
 }

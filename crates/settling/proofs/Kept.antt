@@ -13,7 +13,7 @@ use Rattle.geometry.specs.Lists.{every}
 use Rattle.geometry.specs.Sizes.{sector, entries, mostOpen, sectorsOf}
 use Rattle.geometry.proofs.Bytes.{Apart}
 use Rattle.geometry.proofs.Places.{lawful-whole}
-use Rattle.geometry.proofs.Tests.{either, and-left, and-right, and-both, every-any, every-set, every-set-same, chosen, not-chosen}
+use Rattle.geometry.proofs.Tests.{either, and-left, and-right, and-both, every-any, every-set, chosen, not-chosen}
 use Rattle.directory.specs.Entries.{tableOf, entryAt, freeEntry, isFree}
 use Rattle.directory.specs.Rules.{tableGood}
 use Rattle.directory.proofs.Table.{table-part}
@@ -22,7 +22,7 @@ use Rattle.sessions.specs.Session.{idle, fresh, bare, holdsOne, legal, buffered
 use Rattle.sessions.proofs.Legal.{lawful-length, good-table, entry-inside, entry-used, bare-legal, held-inside}
 use Rattle.steps.specs.Effects.{sectorAt}
 use Rattle.steps.proofs.Standing.{heldAt, bare-at}
-use Rattle.settling.proofs.Settle.{Hold, empty, holdAt, heldBy, holdOf, settle, back-getD, back-part}
+use Rattle.settling.proofs.Settle.{Hold, empty, holdAt, Off, heldBy, holdOf, settle, back-getD, back-part}
 use Rattle.settling.proofs.Bench.{Within, Fits, Clear, held-off}
 use Rattle.directory.specs.declared.Entry.{Entry}
 use Rattle.sessions.specs.declared.BufferedFile.{BufferedFile}
@@ -63,15 +63,29 @@ module _ (s : BufferedSession) (t : typed s ≡ true) where
   pub buffer-length : (k : ℕ) → length (heldAt s k .buffer) ≡ sector
   buffer-length k = eqb-true (length (heldAt s k .buffer)) sector (every-any (λ b. eqb (length (b .buffer)) sector) (s .files) k (fresh idle) buffers-whole refl)
 
-  -- another entry of the same name, and another state with a buffer
-  pub typed-set : (i : ℕ) (a : Entry) (k : ℕ) (b : BufferedFile) → a .name ≡ entryAt (s .table) i .name → length (b .buffer) ≡ sector
-      → typed (record { table = set (s .table) i a; files = set (s .files) k b }) ≡ true
+  name-length : (i : ℕ) → length (entryAt (s .table) i .name) ≡ 8
+  name-length i = eqb-true (length (entryAt (s .table) i .name)) 8 (every-any (λ e. eqb (length (e .name)) 8) (s .table) i freeEntry names-eight refl)
+
+  -- another entry with a name of 8 bytes
+  pub typed-entry : (i : ℕ) (a : Entry) → length (a .name) ≡ 8 → typed (record { says = s .says; table = set (s .table) i a; files = s .files }) ≡ true
   unfolding typed
-  typed-set i a k b n l =
+  typed-entry i a n =
       and-both _ _ (eq-eqb (length (set (s .table) i a)) entries (length-set (s .table) i a ∙ table-length))
-      (and-both _ _ (every-set-same (λ e. eqb (length (e .name)) 8) (s .table) i a freeEntry (ap (λ (x : List ℕ). eqb (length x) 8) n) ∙ names-eight)
+      (and-both _ _ (every-set (λ e. eqb (length (e .name)) 8) (s .table) i a names-eight (eq-eqb (length (a .name)) 8 n)) rest)
+
+  -- another state with a buffer
+  typed-file : (k : ℕ) (b : BufferedFile) → length (b .buffer) ≡ sector → typed (record { says = s .says; table = s .table; files = set (s .files) k b }) ≡ true
+  unfolding typed
+  typed-file k b l =
+      and-both _ _ (eq-eqb (length (s .table)) entries table-length)
+      (and-both _ _ names-eight
       (and-both _ _ (eq-eqb (length (set (s .files) k b)) mostOpen (length-set (s .files) k b ∙ files-length))
       (every-set (λ b. eqb (length (b .buffer)) sector) (s .files) k b buffers-whole (eq-eqb (length (b .buffer)) sector l))))
+
+-- another entry of the same name, and another state with a buffer
+pub typed-set : (s : BufferedSession) → typed s ≡ true → (i : ℕ) (a : Entry) (k : ℕ) (b : BufferedFile) → a .name ≡ entryAt (s .table) i .name → length (b .buffer) ≡ sector
+    → typed (record { says = s .says; table = set (s .table) i a; files = set (s .files) k b }) ≡ true
+typed-set s t i a k b n l = typed-file (record { says = s .says; table = set (s .table) i a; files = s .files }) (typed-entry s t i a (ap length n ∙ name-length s t i)) k b l
 
 -- ---- the states, bare and with what they hold
 
@@ -126,42 +140,49 @@ module _ (image : List ℕ) (s : BufferedSession) (kept : Kept image s) where
       record { starts = r .0; room = r .1; size = buffer-length s (kept .isTyped) k; within = held-below k u; unchanged = kept .inStep k u } in
       subst (λ (x : Entry). Fits x (record { image = image; file = heldAt s k })) q f
 
+  -- what lies apart from an open file's extent lies off what it holds
+  hold-off : (j a n : ℕ)
+      → (heldAt s j .file .used ≡ true → Apart a n (sector * entryAt (s .table) (heldAt s j .file .entry) .first) (sector * entryAt (s .table) (heldAt s j .file .entry) .sectors))
+      → Off a n (holdAt (holds s) j)
+  hold-off j a n x = either (heldAt s j .file .used)
+      (λ (u : heldAt s j .file .used ≡ true).
+      rw (hold-at s j ∙ hold-used (s .table) (heldAt s j) u)
+      (held-off (entryAt (s .table) (heldAt s j .file .entry)) (heldAt s j) a n (buffer-length s (kept .isTyped) j) (held-below j u) (x u)))
+      (λ (u : heldAt s j .file .used ≡ false). rw (hold-at s j ∙ hold-unused (s .table) (heldAt s j) u) (omega arith))
+
+  -- the directory is held by no file
+  pub holds-behind : (j : ℕ) → Off 0 sector (holdAt (holds s) j)
+  holds-behind j = hold-off j 0 sector (λ u. omega (arith, entry-room (heldAt s j .file .entry) (used-entry j u .1) .0))
+
   -- what another file holds
   pub clear : (i : ℕ) → isFree (entryAt (s .table) i) ≡ false → (j : ℕ) → (heldAt s j .file .used ≡ true → ¬ (heldAt s j .file .entry ≡ i))
       → Clear (entryAt (s .table) i) (holdAt (holds s) j)
-  clear i v j d = either (heldAt s j .file .used)
-      (λ (u : heldAt s j .file .used ≡ true).
-      let x : Entry = entryAt (s .table) (heldAt s j .file .entry) in
-      let g : isFree x ≡ false = used-entry j u .1 in
-      let a = extents-apart N (s .table) good i (heldAt s j .file .entry) (λ q. d u (sym q)) (eqb-false (entryAt (s .table) i .kind) 0 v) (eqb-false (x .kind) 0 g) in
-      let l : length (heldAt s j .buffer) ≡ sector = buffer-length s (kept .isTyped) j in
-      let o : Within x (heldAt s j) = held-below j u in
-      rw (hold-at s j ∙ hold-used (s .table) (heldAt s j) u)
-      (held-off x (heldAt s j) (sector * entryAt (s .table) i .first) (sector * entryAt (s .table) i .sectors) l o (omega arith), held-off x (heldAt s j) 0 sector l o (omega (arith, entry-room (heldAt s j .file .entry) g .0))))
-      (λ (u : heldAt s j .file .used ≡ false). rw (hold-at s j ∙ hold-unused (s .table) (heldAt s j) u) (omega arith, omega arith))
+  clear i v j d = (hold-off j (sector * entryAt (s .table) i .first) (sector * entryAt (s .table) i .sectors) apart, holds-behind j)
     where
       good : tableGood N (s .table) ≡ true
       good = unfold bare in good-table image (bare s) is-legal
+
+      apart : heldAt s j .file .used ≡ true
+          → Apart (sector * entryAt (s .table) i .first) (sector * entryAt (s .table) i .sectors) (sector * entryAt (s .table) (heldAt s j .file .entry) .first) (sector * entryAt (s .table) (heldAt s j .file .entry) .sectors)
+      apart u =
+          let a = extents-apart N (s .table) good i (heldAt s j .file .entry) (λ q. d u (sym q)) (eqb-false (entryAt (s .table) i .kind) 0 v)
+          (eqb-false (entryAt (s .table) (heldAt s j .file .entry) .kind) 0 (used-entry j u .1)) in
+          omega arith
 
   -- a byte outside the extents of open files is in no hold
   pub settle-elsewhere : (a : ℕ)
       → ((j : ℕ) → heldAt s j .file .used ≡ true → Apart a 1 (sector * entryAt (s .table) (heldAt s j .file .entry) .first) (sector * entryAt (s .table) (heldAt s j .file .entry) .sectors))
       → getD (settle image s) a 0 ≡ getD image a 0
   unfolding settle
-  settle-elsewhere a x = back-getD (holds s) image a λ j. either (heldAt s j .file .used)
-      (λ (u : heldAt s j .file .used ≡ true).
-      rw (hold-at s j ∙ hold-used (s .table) (heldAt s j) u)
-      (held-off (entryAt (s .table) (heldAt s j .file .entry)) (heldAt s j) a 1 (buffer-length s (kept .isTyped) j) (held-below j u) (x j u)))
-      (λ (u : heldAt s j .file .used ≡ false). rw (hold-at s j ∙ hold-unused (s .table) (heldAt s j) u) (omega arith))
+  settle-elsewhere a x = back-getD (holds s) image a (λ j. hold-off j a 1 (x j))
 
-  -- the directory is held by no file
+  -- nor is a part outside them
+  pub settle-part : (a m : ℕ)
+      → ((j : ℕ) → heldAt s j .file .used ≡ true → Apart a m (sector * entryAt (s .table) (heldAt s j .file .entry) .first) (sector * entryAt (s .table) (heldAt s j .file .entry) .sectors))
+      → part (settle image s) a m ≡ part image a m
+  unfolding settle
+  settle-part a m x = back-part (holds s) image a m (λ j. hold-off j a m (x j))
+
   pub settle-table : tableOf (settle image s) ≡ tableOf image
   unfolding settle
-  settle-table =
-      sym (table-part (settle image s))
-      ∙ ap tableOf (back-part (holds s) image 0 sector λ j. either (heldAt s j .file .used)
-      (λ (u : heldAt s j .file .used ≡ true).
-      rw (hold-at s j ∙ hold-used (s .table) (heldAt s j) u)
-      (held-off (entryAt (s .table) (heldAt s j .file .entry)) (heldAt s j) 0 sector (buffer-length s (kept .isTyped) j) (held-below j u) (omega (arith, entry-room (heldAt s j .file .entry) (used-entry j u .1) .0))))
-      (λ (u : heldAt s j .file .used ≡ false). rw (hold-at s j ∙ hold-unused (s .table) (heldAt s j) u) (omega arith)))
-      ∙ table-part image
+  settle-table = sym (table-part (settle image s)) ∙ ap tableOf (back-part (holds s) image 0 sector holds-behind) ∙ table-part image

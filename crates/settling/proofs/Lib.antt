@@ -7,3 +7,4 @@ pub mod Served
 pub mod Step
 pub mod Begin
 pub mod Look
+pub mod Edited

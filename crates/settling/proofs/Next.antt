@@ -76,10 +76,10 @@ not-used table b u = rw u
 -- ---- the session
 
 pub bare-next : (s : BufferedSession) (i k : ℕ) (a : Entry) (f : OpenFile) (b : BufferedFile)
-    → bare (record { table = set (s .table) i a; files = set (s .files) k (kept f b) }) ≡ record { table = set (bare s .table) i a; files = set (bare s .files) k f }
+    → bare (record { says = s .says; table = set (s .table) i a; files = set (s .files) k (kept f b) }) ≡ record { says = bare s .says; table = set (bare s .table) i a; files = set (bare s .files) k f }
 unfolding bare
 bare-next s i k a f b =
-    ap (λ (fs : List OpenFile). record { table = set (s .table) i a; files = fs }) (map-set (λ x. x .file) (s .files) k (kept f b) ∙ ap (set (bare s .files) k) (kept-file f b))
+    ap (λ (fs : List OpenFile). record { says = s .says; table = set (s .table) i a; files = fs }) (map-set (λ x. x .file) (s .files) k (kept f b) ∙ ap (set (bare s .files) k) (kept-file f b))
 
 -- "a held sector lies in its file's extent" as it did
 module _ (s : BufferedSession) (i k : ℕ) (a : Entry) (shape : SameShape a (entryAt (s .table) i)) (f : OpenFile) (ofEntry : f .used ≡ true → f .entry ≡ i) (b : BufferedFile) where

@@ -74,7 +74,7 @@ module _ (image : List ℕ) (s : BufferedSession) (ok : Kept image s) (i : ℕ) 
     v = bufferedAll c xs w
 
     abbrev next : BufferedSession
-    next = record { table = set (s .table) i a; files = set (s .files) k (kept f (v .file)) }
+    next = record { says = s .says; table = set (s .table) i a; files = set (s .files) k (kept f (v .file)) }
 
     done : Does e w v (plainAll c xs (own e w))
     done = all-does c number xs suits w (z .fits)

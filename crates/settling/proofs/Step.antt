@@ -177,7 +177,7 @@ module _ (image : List ℕ) (s : BufferedSession) (ok : Kept image s) (i : ℕ) 
     left = bufferedAll scene xs found
 
     abbrev next : BufferedSession
-    next = record { table = set (s .table) i a; files = set (s .files) (slotOf (bare s .files) i) (kept f (left .file)) }
+    next = record { says = s .says; table = set (s .table) i a; files = set (s .files) (slotOf (bare s .files) i) (kept f (left .file)) }
 
     number : i < entries
     number = number-inside image s ok i (r .used)
@@ -191,7 +191,7 @@ module _ (image : List ℕ) (s : BufferedSession) (ok : Kept image s) (i : ℕ) 
     left-kept : legal (left .image) (bare next) ≡ true → Kept (left .image) next
     left-kept = kept-next image s ok i number bytes given (slotOf (bare s .files) i) (heldOf s i) (r .slot) xs suits a shape f (r .ofEntry) nothing-left
 
-    left-bare : bare next ≡ record { table = set (bare s .table) i a; files = set (bare s .files) (slotOf (bare s .files) i) f }
+    left-bare : bare next ≡ record { says = bare s .says; table = set (bare s .table) i a; files = set (bare s .files) (slotOf (bare s .files) i) f }
     left-bare = bare-next s i (slotOf (bare s .files) i) a f (left .file)
 
     -- legal as the plain engine's is
@@ -232,10 +232,10 @@ module _ (image : List ℕ) (s : BufferedSession) (ok : Kept image s) (i : ℕ) 
       let r : Ready f [] = ready-met q x (met-meets q (facts q) x d) in
       let e : Entry = entryAt (s .table) i in
       let same : SameShape e e = same-shape e in
-      let n : BufferedSession = record { table = s .table; files = set (s .files) (slotOf (bare s .files) i) (kept f (heldOf s i)) } in
-      let m : next f [] r (record {}) e same ≡ n = ap (λ (t : List Entry). record { table = t; files = n .files }) (set-getD (s .table) i freeEntry) in
-      let b : bare n ≡ record { table = bare s .table; files = set (bare s .files) (slotOf (bare s .files) i) f } =
-      ap bare (sym m) ∙ left-bare f [] r (record {}) e same ∙ ap (λ (t : List Entry). record { table = t; files = set (bare s .files) (slotOf (bare s .files) i) f }) table-same in
+      let n : BufferedSession = record { says = s .says; table = s .table; files = set (s .files) (slotOf (bare s .files) i) (kept f (heldOf s i)) } in
+      let m : next f [] r (record {}) e same ≡ n = ap (λ (t : List Entry). record { says = s .says; table = t; files = n .files }) (set-getD (s .table) i freeEntry) in
+      let b : bare n ≡ record { says = bare s .says; table = bare s .table; files = set (bare s .files) (slotOf (bare s .files) i) f } =
+      ap bare (sym m) ∙ left-bare f [] r (record {}) e same ∙ ap (λ (t : List Entry). record { says = bare s .says; table = t; files = set (bare s .files) (slotOf (bare s .files) i) f }) table-same in
       record {
         answer = refl;
         image = ap (settle image) (sym m) ∙ left-settles f [] r (record {}) e same;

@@ -7,3 +7,6 @@ pub mod Buffer
 pub mod Standing
 pub mod Seen
 pub mod Answered
+pub mod Laid
+pub mod Edited
+pub mod Unheld

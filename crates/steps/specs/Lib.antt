@@ -3,3 +3,4 @@ pub mod Verdict
 pub mod Effects
 pub mod Step
 pub mod Look
+pub mod Edit

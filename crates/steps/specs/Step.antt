@@ -42,13 +42,13 @@ unfoldable pub plainAfter : Answer → List ℕ → Session → Request → Scen
 plainAfter Done image s q c buffer = record {
   answer = Done;
   image = plainAll c (effects q c) image;
-  session = record { table = set (s .table) (c .number) (entryDone q c); files = set (s .files) (slotOf (s .files) (c .number)) (fileDone q c) };
+  session = record { says = s .says; table = set (s .table) (c .number) (entryDone q c); files = set (s .files) (slotOf (s .files) (c .number)) (fileDone q c) };
   buffer = lay buffer 0 (intoBuffer q c);
 }
 plainAfter (Met x) image s q c buffer = record {
   answer = Met x;
   image = image;
-  session = record { table = s .table; files = set (s .files) (slotOf (s .files) (c .number)) (fileMet x (c .file)) };
+  session = record { says = s .says; table = s .table; files = set (s .files) (slotOf (s .files) (c .number)) (fileMet x (c .file)) };
   buffer = buffer;
 }
 plainAfter (Refused x) image s q c buffer = record { answer = Refused x; image = image; session = s; buffer = buffer }
@@ -87,6 +87,7 @@ bufferedAfter Done image s q c b buffer =
       answer = Done;
       image = w .image;
       session = record {
+        says = s .says;
         table = set (s .table) (c .number) (entryDone q c);
         files = set (s .files) (slotOf (bare s .files) (c .number)) (kept (fileDone q c) (w .file));
       };
@@ -95,7 +96,7 @@ bufferedAfter Done image s q c b buffer =
 bufferedAfter (Met x) image s q c b buffer = record {
   answer = Met x;
   image = image;
-  session = record { table = s .table; files = set (s .files) (slotOf (bare s .files) (c .number)) (kept (fileMet x (c .file)) b) };
+  session = record { says = s .says; table = s .table; files = set (s .files) (slotOf (bare s .files) (c .number)) (kept (fileMet x (c .file)) b) };
   buffer = buffer;
 }
 bufferedAfter (Refused x) image s q c b buffer = record { answer = Refused x; image = image; session = s; buffer = buffer }

@@ -1,4 +1,4 @@
--- Open-file states and their bytes: each is read back from the other, field by field.
+-- Open-file states, and what a session says of itself, and their bytes: each is read back from the other, field by field.
 use mathlib.Core.Path.{_≡_, refl, sym, ap, _∙_}
 use mathlib.Core.Bool.{Bool, true, false, _&&_}
 use mathlib.Core.List.{List, [], _∷_, _++_}
@@ -15,9 +15,10 @@ use Rattle.geometry.specs.declared.Place.{Place}
 use Rattle.sessions.specs.Session.{fresh}
 use Rattle.sessions.specs.declared.BufferedFile.{BufferedFile}
 use Rattle.sessions.specs.declared.OpenFile.{OpenFile}
+use Rattle.sessions.specs.declared.Saying.{Saying}
 use Rattle.storing.specs.Fits.{fits, areBytes, fileFits, heldFits}
 use Rattle.storing.specs.Numbers.{bytesOf, flagOf, isFlag}
-use Rattle.storing.specs.Stored.{fileWidth, heldWidth, width, placeStored, placeIn, fileStored, fileIn, fileFlags, holdStored, holdOf, heldStored, heldIn, heldFlags, stateStored, stateIn, stateFlags}
+use Rattle.storing.specs.Stored.{fileWidth, heldWidth, width, saidWidth, placeStored, placeIn, fileStored, fileIn, fileFlags, holdStored, holdOf, heldStored, heldIn, heldFlags, stateStored, stateIn, stateFlags, sayingStored, sayingIn, sayingFlags}
 use Rattle.storing.proofs.Laid.{length-file, length-hold}
 use Rattle.storing.proofs.Numbers.{length-bytes}
 use Rattle.storing.proofs.Parts.{Stands, cut, number-at, flag-at, set-back, flag-good, flag-same, next, after, number-same}
@@ -194,3 +195,22 @@ pub state-same : (u : Bool) (b : List ℕ) → every isByte b ≡ true → (at :
 unfolding stateStored stateIn stateFlags width
 state-same true b bytes at h g = held-same b bytes at h g
 state-same false b bytes at h g = file-same b bytes at h g
+
+-- ---- what a session says of itself
+
+module _ (s : Saying) (b : List ℕ) (at : ℕ) (stands : Stands b at (sayingStored s)) where
+  refused : getD b at 0 ≡ flagOf (s .refused)
+  unfolding sayingStored
+  refused = flag-at b at (s .refused) stands
+
+  pub saying-flagged : sayingFlags b at ≡ true
+  unfolding sayingFlags
+  saying-flagged = rw (refused, flag-good (s .refused))
+
+  pub saying-back : sayingIn b at ≡ s
+  unfolding sayingIn
+  saying-back = rw (refused, set-back (s .refused))
+
+pub saying-same : (b : List ℕ) (at : ℕ) → at + saidWidth ≤ length b → sayingFlags b at ≡ true → sayingStored (sayingIn b at) ≡ part b at saidWidth
+unfolding sayingStored sayingIn sayingFlags part
+saying-same b at h g = rw (flag-same (getD b at 0) g) (after b at (at + 1) 0 refl h refl)

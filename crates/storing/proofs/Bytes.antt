@@ -14,10 +14,11 @@ use Rattle.geometry.proofs.Tests.{and-left, and-right, and-both, all-getD}
 use Rattle.geometry.specs.declared.Place.{Place}
 use Rattle.sessions.specs.declared.BufferedFile.{BufferedFile}
 use Rattle.sessions.specs.declared.OpenFile.{OpenFile}
+use Rattle.sessions.specs.declared.Saying.{Saying}
 use Rattle.storing.specs.Fits.{areBytes, heldFits}
 use Rattle.storing.specs.Numbers.{bytesOf, flagOf}
 use Rattle.tables.specs.Rows.{rowOf}
-use Rattle.storing.specs.Stored.{placeStored, fileStored, holdStored, heldStored, stateStored}
+use Rattle.storing.specs.Stored.{placeStored, fileStored, holdStored, heldStored, stateStored, sayingStored}
 use Rattle.storing.proofs.Back.{stateFits}
 
 pub every-append : {A : Type 0} (p : A → Bool) (xs ys : List A) → every p xs ≡ true → every p ys ≡ true → every p (xs ++ ys) ≡ true
@@ -73,3 +74,7 @@ pub state-bytes : (u : Bool) (f : BufferedFile) → stateFits u f ≡ true → e
 unfolding stateStored stateFits
 state-bytes true f h = held-bytes f h
 state-bytes false f h = file-bytes (f .file)
+
+pub saying-bytes : (s : Saying) → every isByte (sayingStored s) ≡ true
+unfolding sayingStored
+saying-bytes s = flag-bytes (s .refused) [] no-bytes

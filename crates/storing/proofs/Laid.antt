@@ -14,8 +14,9 @@ use Rattle.geometry.proofs.Bytes.{length-lay, lay-append}
 use Rattle.sessions.specs.declared.BufferedFile.{BufferedFile}
 use Rattle.sessions.specs.declared.Holding.{Holding}
 use Rattle.sessions.specs.declared.OpenFile.{OpenFile}
+use Rattle.sessions.specs.declared.Saying.{Saying}
 use Rattle.storing.specs.Numbers.{bytesOf, flagOf}
-use Rattle.storing.specs.Stored.{fileWidth, heldWidth, filesAt, width, sizeOf, hasBuffers, placeStored, fileStored, noHold, holdStored, heldStored, stateStored, frontStored, layPart, layState, layFresh}
+use Rattle.storing.specs.Stored.{fileWidth, heldWidth, filesAt, width, saidWidth, sizeOf, hasBuffers, placeStored, fileStored, noHold, holdStored, heldStored, stateStored, sayingStored, frontStored, layPart, layState, layFresh}
 
 -- ---- bytes written out
 
@@ -70,6 +71,10 @@ length-hold h = refl
 pub length-held : (f : BufferedFile) → length (f .buffer) ≡ 360 → length (heldStored f) ≡ heldWidth
 unfolding heldStored holdStored fileStored placeStored bytesOf
 length-held f n = rw n
+
+pub length-saying : (s : Saying) → length (sayingStored s) ≡ saidWidth
+unfolding sayingStored
+length-saying s = refl
 
 -- ---- a part of that number is there, or not
 
@@ -126,10 +131,15 @@ length-laid n at w b i x = go (decLt i n)
     go (yes k) = ap length (part-there n at w b i x (at + w * i) refl k) ∙ length-lay b (at + w * i) x
     go (no k) = ap length (part-not n at w b i x (omega arith))
 
--- with buffers, all bytes are there
-held-long : (b : List ℕ) → hasBuffers b ≡ true → length b ≡ 1980
+-- bytes with a part laid are as many, so they have buffers as they had
+pub laid-buffers : (n at w : ℕ) (b : List ℕ) (i : ℕ) (x : List ℕ) → hasBuffers (layPart n at w b i x) ≡ hasBuffers b
+unfolding hasBuffers
+laid-buffers n at w b i x = rw (length-laid n at w b i x)
+
+-- with buffers, all bytes of the states are there
+pub held-long : (b : List ℕ) → hasBuffers b ≡ true → filesAt + heldWidth * mostOpen ≤ length b
 unfolding hasBuffers sizeOf width
-held-long b h = eqb-true (length b) 1980 h
+held-long b h = omega (arith, eqb-true (length b) (sizeOf true) h)
 
 -- ---- as the program lays a state of number k
 
@@ -145,21 +155,20 @@ module _ (b : List ℕ) (k : ℕ) (f : OpenFile) where
     pub held-put : u ≡ true → (h : Holding) (y b₂ : List ℕ) → y ≡ holdStored h → b₂ ≡ lay b₁ (at + 30) y → b₂ ≡ layState (hasBuffers b) b k f h
     held-put t h y b₂ ey e₂ =
         let v : at ≡ filesAt + 396 * k = p ∙ ap (λ (v : Bool). filesAt + width v * k) t ∙ (unfold width in refl) in
-        let l : length b ≡ 1980 = held-long b (sym e ∙ t) in
+        let l : filesAt + heldWidth * mostOpen ≤ length b = held-long b (sym e ∙ t) in
         rw (sym e, t)
         (front-laid f h b x y b₁ b₂ at (omega arith) ex ey e₁ e₂
         ∙ sym (part-there mostOpen filesAt (width true) b k (frontStored true f h) at (sym (p ∙ ap (λ (v : Bool). filesAt + width v * k) t)) n))
 
   module _ (b₁ : List ℕ) (e₁ : b₁ ≡ layState (hasBuffers b) b k f noHold) (u : Bool) (e : u ≡ hasBuffers b₁) where
     same-buffers : hasBuffers b₁ ≡ hasBuffers b
-    unfolding hasBuffers
-    same-buffers = rw (ap length e₁ ∙ length-laid mostOpen filesAt (width (hasBuffers b)) b k (frontStored (hasBuffers b) f noHold))
+    same-buffers = ap hasBuffers e₁ ∙ laid-buffers mostOpen filesAt (width (hasBuffers b)) b k (frontStored (hasBuffers b) f noHold)
 
     pub fresh-put : u ≡ true → k < mostOpen → (at : ℕ) → at ≡ filesAt + width true * k → (b₂ : List ℕ) → b₂ ≡ lay b₁ (at + 36) (replicate sector 0) → b₂ ≡ layFresh (hasBuffers b) b k f
     unfolding stateStored
     fresh-put t n at p b₂ e₂ =
         let q : hasBuffers b ≡ true = sym same-buffers ∙ sym e ∙ t in
-        let l : length b ≡ 1980 = held-long b q in
+        let l : filesAt + heldWidth * mostOpen ≤ length b = held-long b q in
         let v : at ≡ filesAt + 396 * k = p ∙ (unfold width in refl) in
         let g : b₁ ≡ lay b at (frontStored true f noHold) = rw q at e₁ ∙ part-there mostOpen filesAt (width true) b k (frontStored true f noHold) at (sym p) n in
         rw q

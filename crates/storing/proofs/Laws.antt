@@ -25,13 +25,13 @@ use Rattle.sessions.specs.declared.BufferedSession.{BufferedSession}
 use Rattle.sessions.specs.declared.OpenFile.{OpenFile}
 use Rattle.sessions.specs.declared.Session.{Session}
 use Rattle.storing.specs.Fits.{areAll, entryFits, fileFits, heldFits, sessionFits, bufferedFits}
-use Rattle.storing.specs.Stored.{filesAt, width, sizeOf, stateStored, stateIn, stateFlags, stored, isSession, tableIn, statesIn, sessionIn, plainIn, plainStored, layPart}
-use Rattle.storing.proofs.Back.{bytes-size, keptIn, stateFits, state-back, state-flagged, state-same}
-use Rattle.storing.proofs.Bytes.{every-append, row-bytes, state-bytes}
+use Rattle.storing.specs.Stored.{filesAt, width, saidAt, saidWidth, sizeOf, stateStored, stateIn, stateFlags, sayingStored, sayingIn, stored, isSession, tableIn, statesIn, sessionIn, plainIn, plainStored, layPart}
+use Rattle.storing.proofs.Back.{bytes-size, keptIn, stateFits, state-back, state-flagged, state-same, saying-flagged, saying-back, saying-same}
+use Rattle.storing.proofs.Bytes.{every-append, row-bytes, state-bytes, saying-bytes}
 use Rattle.storing.proofs.Entries.{entry-size, entry-back, entry-same, entry-bytes}
-use Rattle.storing.proofs.Laid.{length-state, length-file, length-laid}
+use Rattle.storing.proofs.Laid.{length-state, length-file, length-saying, length-laid}
 use Rattle.storing.proofs.Parts.{Stands, cut, next}
-use Rattle.storing.proofs.Read.{session-bytes, session-size, session-flags, session-is, plain-holds-nothing}
+use Rattle.storing.proofs.Read.{session-bytes, session-size, session-flags, session-said, session-is, plain-holds-nothing}
 use Rattle.storing.proofs.Rows.{row-size, row-told, row-same, row-sized, row-laid, part-first, part-second}
 
 -- ---- arrays of things that fit
@@ -70,46 +70,61 @@ module _ (u : Bool) (s : BufferedSession) (ht : areAll entries entryFits (s .tab
   files-size : length f ≡ width u * mostOpen
   files-size = row-size (stateStored u) (stateFits u) (width u) (state-size u) (s .files) (all-fit mostOpen (stateFits u) (s .files) hf) ∙ ap (λ (n : ℕ). width u * n) (all-count mostOpen (stateFits u) (s .files) hf)
 
-  stands : Stands (t ++ f) 0 (t ++ f)
+  abbrev says : List ℕ
+  says = sayingStored (s .says)
+
+  abbrev b : List ℕ
+  b = t ++ (f ++ says)
+
+  stands : Stands b 0 b
   unfolding part
-  stands = take-length (t ++ f)
+  stands = take-length b
 
-  abbrev parts : (part (t ++ f) 0 filesAt ≡ t) × Stands (t ++ f) filesAt f
-  parts = cut (t ++ f) 0 t f filesAt filesAt table-size refl stands
+  abbrev parts : (part b 0 filesAt ≡ t) × Stands b filesAt (f ++ says)
+  parts = cut b 0 t (f ++ says) filesAt filesAt table-size refl stands
 
-  table-stands : Stands (t ++ f) 0 t
-  table-stands = ap (part (t ++ f) 0) table-size ∙ parts .0
+  abbrev behind : (part b filesAt (width u * mostOpen) ≡ f) × Stands b (saidAt u) says
+  behind = cut b filesAt f says (width u * mostOpen) (saidAt u) files-size refl (parts .1)
 
-  table-back : tableIn (t ++ f) ≡ s .table
+  table-stands : Stands b 0 t
+  table-stands = ap (part b 0) table-size ∙ parts .0
+
+  files-stand : Stands b filesAt f
+  files-stand = ap (part b filesAt) files-size ∙ behind .0
+
+  table-back : tableIn b ≡ s .table
   unfolding entriesIn
   table-back =
-      ap (λ (n : ℕ). rowIn (entryIn twoWordsWide) twoWordsWide n (t ++ f) 0) (sym (all-count entries entryFits (s .table) ht))
-      ∙ row-told (entryOf twoWordsWide) entryFits twoWordsWide entry-size (entryIn twoWordsWide) (λ x. x) entry-back (s .table) (all-fit entries entryFits (s .table) ht) (t ++ f) 0 table-stands
+      ap (λ (n : ℕ). rowIn (entryIn twoWordsWide) twoWordsWide n b 0) (sym (all-count entries entryFits (s .table) ht))
+      ∙ row-told (entryOf twoWordsWide) entryFits twoWordsWide entry-size (entryIn twoWordsWide) (λ x. x) entry-back (s .table) (all-fit entries entryFits (s .table) ht) b 0 table-stands
       ∙ map-id (s .table)
 
-  told-files : {B : Type 0} (h : List ℕ → ℕ → B) (v : BufferedFile → B) → ((x : BufferedFile) → stateFits u x ≡ true → (b : List ℕ) (at : ℕ) → Stands b at (stateStored u x) → h b at ≡ v x)
-      → rowIn h (width u) mostOpen (t ++ f) filesAt ≡ map v (s .files)
+  told-files : {B : Type 0} (h : List ℕ → ℕ → B) (v : BufferedFile → B) → ((x : BufferedFile) → stateFits u x ≡ true → (c : List ℕ) (at : ℕ) → Stands c at (stateStored u x) → h c at ≡ v x)
+      → rowIn h (width u) mostOpen b filesAt ≡ map v (s .files)
   told-files h v tells =
-      ap (λ (n : ℕ). rowIn h (width u) n (t ++ f) filesAt) (sym (all-count mostOpen (stateFits u) (s .files) hf))
-      ∙ row-told (stateStored u) (stateFits u) (width u) (state-size u) h v tells (s .files) (all-fit mostOpen (stateFits u) (s .files) hf) (t ++ f) filesAt (parts .1)
+      ap (λ (n : ℕ). rowIn h (width u) n b filesAt) (sym (all-count mostOpen (stateFits u) (s .files) hf))
+      ∙ row-told (stateStored u) (stateFits u) (width u) (state-size u) h v tells (s .files) (all-fit mostOpen (stateFits u) (s .files) hf) b filesAt files-stand
 
   pub stored-told : isSession u (stored u s) ≡ true
   unfolding isSession stored sizeOf
   stored-told =
-      let l : length (t ++ f) ≡ length t + length f = length-append t f in
-      let n : length (t ++ f) ≡ filesAt + width u * mostOpen = omega (arith, table-size, files-size) in
+      let l : length b ≡ length t + length (f ++ says) = length-append t (f ++ says) in
+      let m : length (f ++ says) ≡ length f + length says = length-append f says in
+      let n : length b ≡ saidAt u + saidWidth = omega (arith, table-size, files-size, length-saying (s .says)) in
       rw (
-        every-append isByte t f (row-bytes (entryOf twoWordsWide) entryFits entry-bytes (s .table) (all-fit entries entryFits (s .table) ht)) (row-bytes (stateStored u) (stateFits u) (state-bytes u) (s .files) (all-fit mostOpen (stateFits u) (s .files) hf)),
-        eq-eqb (length (t ++ f)) (filesAt + width u * mostOpen) n,
-      ) (ap all (told-files (stateFlags u) (λ x. true) (λ x q. state-flagged u x)) ∙ all-true (s .files))
+        every-append isByte t (f ++ says) (row-bytes (entryOf twoWordsWide) entryFits entry-bytes (s .table) (all-fit entries entryFits (s .table) ht)) (every-append isByte f says (row-bytes (stateStored u) (stateFits u) (state-bytes u) (s .files) (all-fit mostOpen (stateFits u) (s .files) hf)) (saying-bytes (s .says))),
+        eq-eqb (length b) (saidAt u + saidWidth) n,
+        ap all (told-files (stateFlags u) (λ x. true) (λ x q. state-flagged u x)) ∙ all-true (s .files),
+      ) (saying-flagged (s .says) b (saidAt u) (behind .1))
 
-  pub stored-back : sessionIn u (stored u s) ≡ record { table = s .table; files = map (keptIn u) (s .files) }
-  stored-back = session-is u (stored u s) stored-told ∙ (unfold stored statesIn in rw (table-back, told-files (stateIn u) (keptIn u) (state-back u)))
+  pub stored-back : sessionIn u (stored u s) ≡ record { says = s .says; table = s .table; files = map (keptIn u) (s .files) }
+  stored-back =
+      session-is u (stored u s) stored-told ∙ (unfold stored statesIn in rw (saying-back (s .says) b (saidAt u) (behind .1), table-back, told-files (stateIn u) (keptIn u) (state-back u)))
 
 -- ---- and bytes are stored again as they were
 
 module _ (u : Bool) (b : List ℕ) (ok : isSession u b ≡ true) where
-  long : length b ≡ filesAt + width u * mostOpen
+  long : length b ≡ saidAt u + saidWidth
   unfolding sizeOf
   long = session-size u b ok
 
@@ -127,8 +142,18 @@ module _ (u : Bool) (b : List ℕ) (ok : isSession u b ≡ true) where
   unfolding statesIn
   files-part = row-same (stateStored u) (stateIn u) (stateFlags u) (width u) b (state-same u b (session-bytes u b ok)) mostOpen filesAt (omega (arith, long)) (session-flags u b ok)
 
-  whole : table ++ files ≡ b
-  whole = rw table-part (next b 0 filesAt filesAt (width u * mostOpen) refl files-part ∙ part-all b (filesAt + width u * mostOpen) long)
+  abbrev said : List ℕ
+  said = sayingStored (sayingIn b (saidAt u))
+
+  said-part : said ≡ part b (saidAt u) saidWidth
+  said-part = saying-same b (saidAt u) (omega (arith, long)) (session-said u b ok)
+
+  whole : table ++ (files ++ said) ≡ b
+  whole =
+      let z : filesAt + (width u * mostOpen + saidWidth) ≡ saidAt u + saidWidth = omega arith in
+      rw (table-part, files-part)
+      (next b 0 filesAt filesAt (width u * mostOpen + saidWidth) refl (next b filesAt (width u * mostOpen) (saidAt u) saidWidth refl said-part)
+      ∙ ap (part b 0) z ∙ part-all b (saidAt u + saidWidth) long)
 
   pub stored-kept : stored u (sessionIn u b) ≡ b
   unfolding stored
@@ -146,18 +171,34 @@ module _ (u : Bool) (b : List ℕ) (ok : isSession u b ≡ true) where
   unfolding statesIn
   files-count = length-row (stateIn u) (width u) mostOpen b filesAt
 
-  -- with another entry and another state
-  pub stored-laid : (i k : ℕ) (e : Entry) (x : BufferedFile) → length (entryOf twoWordsWide e) ≡ twoWordsWide → length (stateStored u x) ≡ width u
-      → stored u (record { table = set (sessionIn u b .table) i e; files = set (sessionIn u b .files) k x })
-      ≡ layPart mostOpen filesAt (width u) (layPart entries 0 twoWordsWide b i (entryOf twoWordsWide e)) k (stateStored u x)
-  unfolding stored
-  stored-laid i k e x le lx =
-      let lt : length table ≡ filesAt = ap length table-part ∙ length-part b 0 filesAt (omega (arith, long)) in
-      let lf : length files ≡ width u * mostOpen = ap length files-part ∙ length-part b filesAt (width u * mostOpen) (omega (arith, long)) in
-      rw (session-is u b ok)
-      (rw (row-laid (entryOf twoWordsWide) twoWordsWide entries (tableIn b) i e table-sized (length-entries twoWordsWide entries b) le, row-laid (stateStored u) (width u) mostOpen (statesIn u b) k x files-sized files-count lx)
-      (sym (part-second (width u) mostOpen (layPart entries 0 twoWordsWide table i (entryOf twoWordsWide e)) files (stateStored u x) lx k filesAt (length-laid entries 0 twoWordsWide table i (entryOf twoWordsWide e) ∙ lt) lf)
-      ∙ ap (λ (c : List ℕ). layPart mostOpen filesAt (width u) c k (stateStored u x)) (sym (part-first twoWordsWide entries table files (entryOf twoWordsWide e) le i lt) ∙ ap (λ (c : List ℕ). layPart entries 0 twoWordsWide c i (entryOf twoWordsWide e)) whole)))
+  -- with another entry
+  module _ (i : ℕ) (e : Entry) (le : length (entryOf twoWordsWide e) ≡ twoWordsWide) where
+    table-long : length table ≡ filesAt
+    table-long = ap length table-part ∙ length-part b 0 filesAt (omega (arith, long))
+
+    entered : layPart entries 0 twoWordsWide table i (entryOf twoWordsWide e) ++ (files ++ said) ≡ layPart entries 0 twoWordsWide b i (entryOf twoWordsWide e)
+    entered =
+        sym (part-first twoWordsWide entries table (files ++ said) (entryOf twoWordsWide e) le i table-long) ∙ ap (λ (c : List ℕ). layPart entries 0 twoWordsWide c i (entryOf twoWordsWide e)) whole
+
+    pub stored-entered : stored u (record { says = sessionIn u b .says; table = set (sessionIn u b .table) i e; files = sessionIn u b .files })
+        ≡ layPart entries 0 twoWordsWide b i (entryOf twoWordsWide e)
+    unfolding stored
+    stored-entered =
+        rw (session-is u b ok) (rw (row-laid (entryOf twoWordsWide) twoWordsWide entries (tableIn b) i e table-sized (length-entries twoWordsWide entries b) le) entered)
+
+    -- and another state
+    pub stored-laid : (k : ℕ) (x : BufferedFile) → length (stateStored u x) ≡ width u
+        → stored u (record { says = sessionIn u b .says; table = set (sessionIn u b .table) i e; files = set (sessionIn u b .files) k x })
+        ≡ layPart mostOpen filesAt (width u) (layPart entries 0 twoWordsWide b i (entryOf twoWordsWide e)) k (stateStored u x)
+    unfolding stored
+    stored-laid k x lx =
+        let lf : length files ≡ width u * mostOpen = ap length files-part ∙ length-part b filesAt (width u * mostOpen) (omega (arith, long)) in
+        let lr : length (files ++ said) ≡ length files + length said = length-append files said in
+        rw (session-is u b ok)
+        (rw (row-laid (entryOf twoWordsWide) twoWordsWide entries (tableIn b) i e table-sized (length-entries twoWordsWide entries b) le, row-laid (stateStored u) (width u) mostOpen (statesIn u b) k x files-sized files-count lx)
+        (ap (λ (c : List ℕ). layPart entries 0 twoWordsWide table i (entryOf twoWordsWide e) ++ c) (sym (part-first (width u) mostOpen files said (stateStored u x) lx k lf))
+        ∙ sym (part-second (width u) mostOpen (layPart entries 0 twoWordsWide table i (entryOf twoWordsWide e)) (files ++ said) (stateStored u x) lx k filesAt (length-laid entries 0 twoWordsWide table i (entryOf twoWordsWide e) ∙ table-long) (omega arith))
+        ∙ ap (λ (c : List ℕ). layPart mostOpen filesAt (width u) c k (stateStored u x)) entered))
 
 -- ---- of the engine with buffers, and of the one with none
 
@@ -169,7 +210,7 @@ pub buffered-back : (s : BufferedSession) → bufferedFits s ≡ true → sessio
 unfolding bufferedFits
 buffered-back s h =
     stored-back true s (and-left (areAll entries entryFits (s .table)) _ h) (unfold stateFits in and-right (areAll entries entryFits (s .table)) _ h)
-    ∙ (unfold keptIn in ap (λ (fs : List BufferedFile). record { table = s .table; files = fs }) (map-id (s .files)))
+    ∙ (unfold keptIn in ap (λ (fs : List BufferedFile). record { says = s .says; table = s .table; files = fs }) (map-id (s .files)))
 
 module _ (s : Session) (h : sessionFits s ≡ true) where
   fits-unheld : (fs : List OpenFile) → every fileFits fs ≡ true → every (stateFits false) (map fresh fs) ≡ true
@@ -198,7 +239,7 @@ module _ (s : Session) (h : sessionFits s ≡ true) where
   pub plain-back : plainIn (plainStored s) ≡ s
   plain-back =
       ap bare (stored-back false (unheld s) (unfold unheld in table-fits) files-fit)
-      ∙ (unfold bare unheld in ap (λ (fs : List OpenFile). record { table = s .table; files = fs }) (bare-kept (s .files)))
+      ∙ (unfold bare unheld in ap (λ (fs : List OpenFile). record { says = s .says; table = s .table; files = fs }) (bare-kept (s .files)))
 
 pub plain-kept : (b : List ℕ) → isSession false b ≡ true → plainStored (plainIn b) ≡ b
 plain-kept b h = ap (stored false) (plain-holds-nothing b) ∙ stored-kept false b h

@@ -17,15 +17,15 @@ use Rattle.sessions.specs.Session.{fresh, bare, unheld}
 use Rattle.sessions.specs.declared.BufferedFile.{BufferedFile}
 use Rattle.sessions.specs.declared.BufferedSession.{BufferedSession}
 use Rattle.sessions.specs.declared.OpenFile.{OpenFile}
-use Rattle.storing.specs.Stored.{fileWidth, heldWidth, filesAt, width, sizeOf, hasBuffers, fileIn, heldIn, stateIn, stateFlags, isSession, tableIn, statesIn, unlawful, sessionIn}
+use Rattle.storing.specs.Stored.{fileWidth, heldWidth, filesAt, width, saidAt, sizeOf, hasBuffers, fileIn, heldIn, stateIn, stateFlags, sayingIn, sayingFlags, isSession, tableIn, statesIn, unlawful, sessionIn}
 
 -- ---- sizes
 
-pub size-plain : sizeOf false ≡ 516
+pub size-plain : sizeOf false ≡ 517
 unfolding sizeOf width
 size-plain = refl
 
-pub size-buffered : sizeOf true ≡ 1980
+pub size-buffered : sizeOf true ≡ 1981
 unfolding sizeOf width
 size-buffered = refl
 
@@ -46,9 +46,9 @@ bytes b h = every-from isByte b 0 λ (k : ℕ) (q : k < length b). lt-ltb (getD 
 -- ---- what is asked of bytes
 
 module _ (u : Bool) (b : List ℕ) where
-  -- each truth value of the four states
+  -- each truth value of the four states, and of what it says of itself
   pub asked : every isByte b ≡ true → length b ≡ sizeOf u
-      → isSession u b ≡ (stateFlags u b filesAt && (stateFlags u b (filesAt + width u) && (stateFlags u b (filesAt + width u + width u) && stateFlags u b (filesAt + width u + width u + width u))))
+      → isSession u b ≡ ((stateFlags u b filesAt && (stateFlags u b (filesAt + width u) && (stateFlags u b (filesAt + width u + width u) && stateFlags u b (filesAt + width u + width u + width u)))) && sayingFlags b (saidAt u))
   unfolding isSession all rowIn
   asked h l = rw (h, eq-eqb (length b) (sizeOf u) l, and-true (stateFlags u b (filesAt + width u + width u + width u)))
 
@@ -66,10 +66,14 @@ module _ (u : Bool) (b : List ℕ) where
 
   pub session-flags : isSession u b ≡ true → all (rowIn (stateFlags u) (width u) mostOpen b filesAt) ≡ true
   unfolding isSession
-  session-flags h = and-right (eqb (length b) (sizeOf u)) _ (and-right (every isByte b) _ h)
+  session-flags h = and-left (all (rowIn (stateFlags u) (width u) mostOpen b filesAt)) _ (and-right (eqb (length b) (sizeOf u)) _ (and-right (every isByte b) _ h))
+
+  pub session-said : isSession u b ≡ true → sayingFlags b (saidAt u) ≡ true
+  unfolding isSession
+  session-said h = and-right (all (rowIn (stateFlags u) (width u) mostOpen b filesAt)) _ (and-right (eqb (length b) (sizeOf u)) _ (and-right (every isByte b) _ h))
 
   -- the session that bytes are
-  pub session-is : isSession u b ≡ true → sessionIn u b ≡ record { table = tableIn b; files = statesIn u b }
+  pub session-is : isSession u b ≡ true → sessionIn u b ≡ record { says = sayingIn b (saidAt u); table = tableIn b; files = statesIn u b }
   unfolding sessionIn
   session-is h = rw (h, sessionIn)
 
@@ -113,6 +117,6 @@ pub plain-holds-nothing : (b : List ℕ) → unheld (bare (sessionIn false b)) �
 unfolding sessionIn
 plain-holds-nothing b = go (isSession false b)
   where
-    go : (t : Bool) → (let s : BufferedSession = elim t [ true ↦ record { table = tableIn b; files = statesIn false b } | false ↦ unlawful ] in unheld (bare s) ≡ s)
-    go true = unfold unheld bare statesIn in ap (λ (fs : List BufferedFile). record { table = tableIn b; files = fs }) (unheld-row (width false) mostOpen b filesAt)
+    go : (t : Bool) → (let s : BufferedSession = elim t [ true ↦ record { says = sayingIn b (saidAt false); table = tableIn b; files = statesIn false b } | false ↦ unlawful ] in unheld (bare s) ≡ s)
+    go true = unfold unheld bare statesIn in ap (λ (fs : List BufferedFile). record { says = sayingIn b (saidAt false); table = tableIn b; files = fs }) (unheld-row (width false) mostOpen b filesAt)
     go false = unheld-unlawful

@@ -63,7 +63,7 @@ module _ {A : Type 0} (f : A → List ℕ) (g : List ℕ → ℕ → A) (flags :
 
 -- ---- laying over one of two lists, one behind the other
 
-lay-first : (a r x : List ℕ) (at : ℕ) → at + length x ≤ length a → lay (a ++ r) at x ≡ lay a at x ++ r
+pub lay-first : (a r x : List ℕ) (at : ℕ) → at + length x ≤ length a → lay (a ++ r) at x ≡ lay a at x ++ r
 lay-first a r x at h =
     let l : length (a ++ r) ≡ length a + length r = length-append a r in
     lay-fits (a ++ r) at x (omega arith)
@@ -123,7 +123,7 @@ module _ (w n : ℕ) (a r x : List ℕ) (lx : length x ≡ w) (i : ℕ) where
       go (no k) = part-not n 0 w (a ++ r) i x (omega arith) ∙ ap (λ (t : List ℕ). t ++ r) (sym (part-not n 0 w a i x (omega arith)))
 
   -- and in the second
-  pub part-second : (at : ℕ) → length a ≡ at → length r ≡ w * n → layPart n at w (a ++ r) i x ≡ a ++ layPart n 0 w r i x
+  pub part-second : (at : ℕ) → length a ≡ at → w * n ≤ length r → layPart n at w (a ++ r) i x ≡ a ++ layPart n 0 w r i x
   part-second at la lr = go (decLt i n)
     where
       go : Dec (i < n) → layPart n at w (a ++ r) i x ≡ a ++ layPart n 0 w r i x

@@ -1,5 +1,5 @@
--- A session in bytes that a caller lends: 18 entries of 22 bytes, then four open-file states, with a buffer each or without. Definitions only.
-use mathlib.Core.Bool.{Bool, true, false, _&&_}
+-- A session in bytes that a caller lends: 18 entries of 22 bytes, then four open-file states, with a buffer each or without, then what it says of itself. Definitions only.
+use mathlib.Core.Bool.{Bool, true, false, _&&_, not}
 use mathlib.Core.List.{List, [], _∷_, _++_}
 use Prim.Native.Nat.{ℕ, _+_, _*_}
 use lib.Dec.{eqb, ltb}
@@ -18,6 +18,7 @@ use Rattle.sessions.specs.declared.BufferedFile.{BufferedFile}
 use Rattle.sessions.specs.declared.BufferedSession.{BufferedSession}
 use Rattle.sessions.specs.declared.Holding.{Holding}
 use Rattle.sessions.specs.declared.OpenFile.{OpenFile}
+use Rattle.sessions.specs.declared.Saying.{Saying}
 use Rattle.sessions.specs.declared.Session.{Session}
 use Rattle.storing.specs.Numbers.{bytesOf, flagOf, isSet, isFlag}
 
@@ -40,9 +41,16 @@ unfoldable pub width : Bool → ℕ
 width true = heldWidth
 width false = fileWidth
 
--- the bytes of a session: 1,980 or 516
+-- where what a session says of itself stands, behind four states, and its bytes: 1
+abbrev pub saidAt : Bool → ℕ
+saidAt u = filesAt + width u * mostOpen
+
+abbrev pub saidWidth : ℕ
+saidWidth = 1
+
+-- the bytes of a session: 1,981 or 517
 unfoldable pub sizeOf : Bool → ℕ
-sizeOf u = filesAt + width u * mostOpen
+sizeOf u = saidAt u + saidWidth
 
 -- the number of the bytes lent says which
 unfoldable pub hasBuffers : List ℕ → Bool
@@ -119,15 +127,29 @@ unfoldable pub stateFlags : Bool → List ℕ → ℕ → Bool
 stateFlags true b at = heldFlags b at
 stateFlags false b at = fileFlags b at
 
+-- ---- what a session says of itself
+
+-- whether it is from a refused mounting
+unfoldable pub sayingStored : Saying → List ℕ
+sayingStored s = flagOf (s .refused) ∷ []
+
+unfoldable pub sayingIn : List ℕ → ℕ → Saying
+sayingIn b at = record { refused = isSet (getD b at 0) }
+
+-- each of its truth values is 0 or 1
+unfoldable pub sayingFlags : List ℕ → ℕ → Bool
+sayingFlags b at = isFlag (getD b at 0)
+
 -- ---- a session
 
--- 18 entries, then four open-file states
+-- 18 entries, then four open-file states, then what it says of itself
 unfoldable pub stored : Bool → BufferedSession → List ℕ
-stored u s = rowOf (entryOf twoWordsWide) (s .table) ++ rowOf (stateStored u) (s .files)
+stored u s = rowOf (entryOf twoWordsWide) (s .table) ++ (rowOf (stateStored u) (s .files) ++ sayingStored (s .says))
 
 -- whether bytes are a session: as many as it takes, each truth value 0 or 1
 unfoldable pub isSession : Bool → List ℕ → Bool
-isSession u b = every isByte b && (eqb (length b) (sizeOf u) && all (rowIn (stateFlags u) (width u) mostOpen b filesAt))
+isSession u b =
+    every isByte b && (eqb (length b) (sizeOf u) && (all (rowIn (stateFlags u) (width u) mostOpen b filesAt) && sayingFlags b (saidAt u)))
 
 -- the table that bytes hold
 abbrev pub tableIn : List ℕ → List Entry
@@ -143,11 +165,14 @@ unlawfulEntry = record { name = replicate 8 0; kind = 5; length = 0; first = 0; 
 
 -- "bytes that are no session are a session that is not legal": its entries are of no kind that there is
 unfoldable pub unlawful : BufferedSession
-unlawful = record { table = replicate entries unlawfulEntry; files = replicate mostOpen (fresh idle) }
+unlawful = record { says = record { refused = false }; table = replicate entries unlawfulEntry; files = replicate mostOpen (fresh idle) }
 
 -- the session that bytes are
 unfoldable pub sessionIn : Bool → List ℕ → BufferedSession
-sessionIn u b = elim (isSession u b) [ true ↦ record { table = tableIn b; files = statesIn u b } | false ↦ unlawful ]
+sessionIn u b = elim (isSession u b) [
+  | true ↦ record { says = sayingIn b (saidAt u); table = tableIn b; files = statesIn u b }
+  | false ↦ unlawful
+]
 
 -- with buffers or without, by the number of the bytes
 abbrev pub lentSession : List ℕ → BufferedSession
@@ -183,8 +208,15 @@ layFresh u b k f = layPart mostOpen filesAt (width u) b k (stateStored u (fresh 
 unfoldable pub startTable : Bool → List ℕ → List Entry
 startTable mounted image = elim (mounted && hasRows oneWordWide entries image) [ true ↦ tableOf image | false ↦ replicate entries freeEntry ]
 
--- a session with that table and nothing open, over bytes that are as many as one takes
-unfoldable pub layStart : List ℕ → List Entry → List ℕ
-layStart b table =
+-- "The session from a refused mounting says that it is one"
+unfoldable pub startSaying : Bool → Saying
+startSaying mounted = record { refused = not mounted }
+
+-- a session that says so, with that table and nothing open, over bytes that are as many as one takes
+unfoldable pub layStart : List ℕ → Saying → List Entry → List ℕ
+layStart b says table =
     let u : Bool = hasBuffers b in
-    elim (eqb (length b) (sizeOf u)) [ true ↦ stored u (record { table = table; files = replicate mostOpen (fresh idle) }) | false ↦ b ]
+    elim (eqb (length b) (sizeOf u)) [
+      | true ↦ stored u (record { says = says; table = table; files = replicate mostOpen (fresh idle) })
+      | false ↦ b
+    ]

@@ -1,4 +1,5 @@
-// A session in bytes that a caller lends: 18 entries of 22 bytes, as tables has them, then four open-file states, numbers low byte first.
+// A session in bytes that a caller lends: 18 entries of 22 bytes, as tables has them, then four open-file states, numbers low byte first,
+// then what the session says of itself.
 // With a buffer for each open file, or with none: the number of the bytes says which.
 use geometry::Geometry;
 use geometry::Place;
@@ -7,13 +8,14 @@ use geometry::lay;
 use laying::copy_table;
 use sessions::Holding;
 use sessions::OpenFile;
+use sessions::Saying;
 use sessions::fresh;
 use tables::Width;
 ghost use mathlib.Core.Path.{_≡_};
 ghost use Prim.Native.Nat.{_+_, _*_, _≤_, _<_};
 ghost use Rattle.geometry.specs.Sizes.{mostOpen};
 ghost use Rattle.storing.specs.Numbers.{bytesOf, flagOf};
-ghost use Rattle.storing.specs.Stored.{heldWidth, filesAt, width, hasBuffers, placeStored, fileStored, noHold, holdStored, layState, layFresh, startTable, layStart};
+ghost use Rattle.storing.specs.Stored.{heldWidth, filesAt, width, hasBuffers, placeStored, fileStored, noHold, holdStored, sayingStored, layState, layFresh, startSaying, startTable, layStart};
 
 // The places and sizes of a session's parts.
 pub struct Form {}
@@ -27,10 +29,12 @@ impl Form {
     pub const BUFFER: usize = 36;
     // Where the open-file states begin, behind 18 entries.
     pub const FILES: usize = 396;
+    // The bytes of what a session says of itself, which are its last.
+    pub const SAYING: usize = 1;
     // The bytes of a session.
-    pub const SESSION: usize = 516;
+    pub const SESSION: usize = 517;
     // The bytes of a session with buffers.
-    pub const BUFFERED: usize = 1980;
+    pub const BUFFERED: usize = 1981;
 }
 
 // Whether so many bytes are to be a session with buffers.
@@ -155,6 +159,12 @@ fn hold_bytes(h: Holding) -> [u8; 6]
     [a, n[0], n[1], n[2], n[3], c]
 }
 
+fn saying_bytes(s: Saying) -> [u8; 1]
+    ensures { λ r. ⌜ r ≡ sayingStored s ⌝ }
+{
+    [flag(s.refused)]
+}
+
 // A buffer that holds nothing.
 pub fn no_hold() -> Holding
     ensures { λ r. ⌜ r ≡ noHold ⌝ }
@@ -210,13 +220,23 @@ pub fn put_fresh(b: &mut [u8], k: usize, f: OpenFile)
 
 // ---- a session with nothing open
 
-// Lays a session with nothing open over bytes that are as many as one takes: with the directory of the image, if that is mounted, or with no used entry.
+// What a session with nothing open says of itself.
+fn start_saying(mounted: bool) -> Saying
+    ensures { λ r. ⌜ r ≡ startSaying mounted ⌝ }
+{
+    Saying { refused: !mounted }
+}
+
+// Lays a session with nothing open over bytes that are as many as one takes: with the directory of the image, if that is mounted, or with no used
+// entry and saying that the mounting was refused.
 pub fn put_start(b: &mut [u8], image: &[u8], mounted: bool)
-    ensures { λ _. ⌜ now (b .exit) ≡ layStart (now (b .entry)) (startTable mounted (now (image .entry))) ⌝ }
+    ensures { λ _. ⌜ now (b .exit) ≡ layStart (now (b .entry)) (startSaying mounted) (startTable mounted (now (image .entry))) ⌝ }
 {
     let n = b.len();
     if (n == Form::SESSION) | (n == Form::BUFFERED) {
         fill(b, 0, n, 0);
+        let says = saying_bytes(start_saying(mounted));
+        lay(b, n - Form::SAYING, &says);
         if mounted {
             copy_table(b, Width::TWO, image, Width::ONE, Geometry::ENTRIES);
         }

@@ -1,21 +1,27 @@
--- Only an opening answered 0 makes a file open that was not.
+-- Only an opening answered 0 makes a file open that was not: no other request does, and no edit.
 use mathlib.Core.Path.{_≡_, refl, ap}
 use mathlib.Core.Logic.{_⊎_, inl, inr}
-use mathlib.Core.Bool.{true}
+use mathlib.Core.Bool.{true, false}
 use mathlib.Core.List.{List}
 use Prim.Native.Nat.{ℕ, _<_}
 use native.Mathlib.Omega.{arith}
 use native.Mathlib.Decide.{decLt, ℕ-discrete}
 use lib.Dec.{eqb}
-use lib.ListN.{length}
+use lib.ListN.{length, set}
 use lib.Seq.{getD-set-same, getD-set-other, set-out}
-use Rattle.geometry.proofs.Tests.{and-both}
+use Rattle.geometry.specs.Sizes.{random}
+use Rattle.geometry.proofs.Tests.{and-both, either, both-ways}
+use Rattle.directory.specs.Entries.{isFree, isKind}
 use Rattle.requests.specs.Numbers.{numberOf}
 use Rattle.requests.proofs.Done.{Live, done-allows, met-meets}
 use Rattle.requests.proofs.Live.{Alive, done-live, met-live}
-use Rattle.tapes.specs.Tape.{tapeFacts, tapeNext}
-use Rattle.tapes.specs.Row.{rowFacts, rowNext}
-use Rattle.tapes.specs.Model.{Model, nothing, tape, row, Asked, modelAt, modelFacts, modelNext, isOpenModel, openModels, modelAnswer, modelStep, isOpening, opensNow}
+use Rattle.tapes.specs.Tape.{tapeOf, tapeFacts, tapeNext}
+use Rattle.tapes.specs.Row.{rowOf, rowFacts, rowNext}
+use Rattle.tapes.specs.Model.{Model, nothing, tape, row, modelOf, Asked, modelAt, modelFacts, modelNext, isOpenModel, openModels, modelAnswer, modelStep, isOpening, opensNow}
+use Rattle.tapes.specs.Edits.{Editing, modelMade, modelsEdited, editAnswer, modelNumber, editStep}
+use Rattle.directory.specs.declared.Entry.{Entry}
+use Rattle.requests.specs.declared.Edit.{Edit}
+use Rattle.requests.specs.declared.Edit.the-variants.{Add, Delete}
 use Rattle.requests.specs.declared.Answer.{Answer}
 use Rattle.requests.specs.declared.Answer.the-variants.{Done, Met, Refused}
 use Rattle.requests.specs.declared.Facts.{Facts}
@@ -82,3 +88,37 @@ module _ (ms : List Model) (a : Asked) where
           out (inr o) = inr (z, o)
       go (yes z) (no l) = inl (rw (set-out ms (a .entry) (modelNext (a .request) (modelAnswer ms a) (a .given) m) (omega arith)) at h)
       go (no d) l = inl (rw (getD-set-other ms (a .entry) k (modelNext (a .request) (modelAnswer ms a) (a .given) m) nothing d) at h)
+
+-- ---- an edit opens no file
+
+shut-of : (image : List ℕ) (e : Entry) → isOpenModel (modelOf image e) ≡ false
+unfolding modelOf isOpenModel tapeOf rowOf
+shut-of image e =
+    either (isFree e) (λ (u : isFree e ≡ true). rw (u, modelOf))
+    λ (u : isFree e ≡ false). either (isKind random e) (λ (r : isKind random e ≡ true). rw (u, r, modelOf)) (λ (r : isKind random e ≡ false). rw (u, r, modelOf))
+
+shut-made : (x : Edit) (ms : List Model) (name lies : List ℕ) → isOpenModel (modelMade x ms name lies) ≡ false
+unfolding modelMade
+shut-made (Add kind length sectors) ms name lies = shut-of lies _
+shut-made Delete ms name lies = unfold isOpenModel in refl
+
+-- and one that is open behind it is as it was
+pub open-edited : (ms : List Model) (x : Editing) (lies : List ℕ) (k : ℕ) → isOpenModel (modelAt (editStep ms x lies) k) ≡ true → modelAt (editStep ms x lies) k ≡ modelAt ms k
+unfolding editStep
+open-edited ms x lies k = go (editAnswer ms x lies)
+  where
+    n : ℕ
+    n = modelNumber (x .edit) ms (x .entry)
+
+    made : Model
+    made = modelMade (x .edit) ms (x .name) lies
+
+    at : Dec (k ≡ n) → Dec (n < length ms) → isOpenModel (modelAt (set ms n made) k) ≡ true → modelAt (set ms n made) k ≡ modelAt ms k
+    at (yes z) (yes l) h = both-ways (isOpenModel made) (rw (z, getD-set-same ms n made nothing l) at h) (shut-made (x .edit) ms (x .name) lies)
+    at (yes z) (no l) h = rw (set-out ms n made (omega arith))
+    at (no d) l h = getD-set-other ms n k made nothing d
+
+    go : (a : Answer) → isOpenModel (modelAt (modelsEdited a ms n made) k) ≡ true → modelAt (modelsEdited a ms n made) k ≡ modelAt ms k
+    go Done = unfold modelsEdited in at (ℕ-discrete k n) (decLt n (length ms))
+    go (Met y) = unfold modelsEdited in λ h. refl
+    go (Refused y) = unfold modelsEdited in λ h. refl

@@ -1,6 +1,6 @@
--- The tapes and rows that an image shows, and how they run by themselves. Definitions only.
+-- The tapes and rows that an image shows, and what a request on one of them makes of it and tells. Definitions only.
 use mathlib.Core.Bool.{Bool, true, false, _&&_, not}
-use mathlib.Core.List.{List, [], _∷_, map}
+use mathlib.Core.List.{List, [], map}
 use Prim.Native.Nat.{ℕ}
 use lib.ListN.{length, getD, set}
 use lib.Dec.{eqb}
@@ -30,7 +30,7 @@ pub data Model : Type 0 where
   row : Row → Model
 
 unfoldable pub shapeOf : Entry → Shape
-shapeOf e = record { kind = e .kind; recordLength = e .length; sectors = e .sectors; protected = isProtected e }
+shapeOf e = record { name = e .name; kind = e .kind; recordLength = e .length; first = e .first; sectors = e .sectors; protected = isProtected e }
 
 unfoldable pub modelOf : List ℕ → Entry → Model
 modelOf image e = elim (isFree e) [
@@ -117,7 +117,7 @@ modelShown (GranuleWrite g) m = []
 modelShown (GranuleLook g) m = modelGranule g m
 modelShown (Position o) m = []
 
--- ---- a run of requests
+-- ---- a request on a file
 
 -- a request, with the entry's number, the bytes given, and the buffer lent
 pub record Asked : Type 0 where
@@ -126,9 +126,11 @@ pub record Asked : Type 0 where
   pub given : List ℕ
   pub buffer : List ℕ
 
--- what a caller sees of it: the answer's number, the buffer behind it, what is shown in place, and where every file then stands
+-- what a caller sees of a request or an edit: the answer's number, the number of an entry that it is told, the buffer behind it, what is shown in place, and
+-- where every file then stands
 pub record Report : Type 0 where
   pub number : ℕ
+  pub told : List ℕ
   pub buffer : List ℕ
   pub shown : List ℕ
   pub spots : List Spot
@@ -155,24 +157,16 @@ ifDone (Refused x) xs = []
 unfoldable pub modelReport : List Model → Asked → Report
 modelReport ms a = record {
   number = numberOf (modelAnswer ms a);
+  told = [];
   buffer = lay (a .buffer) 0 (ifDone (modelAnswer ms a) (modelInto (a .request) (modelAt ms (a .entry))));
   shown = ifDone (modelAnswer ms a) (modelShown (a .request) (modelAt ms (a .entry)));
   spots = map modelSpot (modelStep ms a);
 }
 
-unfoldable pub modelReports : List Model → List Asked → List Report
-modelReports ms [] = []
-modelReports ms (a ∷ rest) = modelReport ms a ∷ modelReports (modelStep ms a) rest
-
-unfoldable pub modelRun : List Model → List Asked → List Model
-modelRun ms [] = ms
-modelRun ms (a ∷ rest) = modelRun (modelStep ms a) rest
-
 unfoldable pub nothingOpen : List Model → Bool
 nothingOpen ms = every (λ m. not (isOpenModel m)) ms
 
--- ---- the files opened since mounting
-
+-- whether a request opens its file
 unfoldable pub isOpening : Request → Bool
 isOpening Open = true
 isOpening Read = false
@@ -184,7 +178,3 @@ isOpening (Position o) = false
 
 unfoldable pub opensNow : List Model → Asked → Bool
 opensNow ms a = isOpening (a .request) && eqb (numberOf (modelAnswer ms a)) 0
-
-unfoldable pub opened : List Model → List Asked → List ℕ
-opened ms [] = []
-opened ms (a ∷ rest) = elim (opensNow ms a) [ true ↦ a .entry ∷ opened (modelStep ms a) rest | false ↦ opened (modelStep ms a) rest ]

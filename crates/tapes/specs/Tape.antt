@@ -23,9 +23,12 @@ use Rattle.requests.specs.declared.Request.the-variants.{Open, Read, Write, Gra
 
 -- what no request changes of a file
 pub record Shape : Type 0 where
+  pub name : List ℕ
   pub kind : ℕ
   -- R
   pub recordLength : ℕ
+  -- where its extent begins, and how many sectors that has
+  pub first : ℕ
   pub sectors : ℕ
   pub protected : Bool
 

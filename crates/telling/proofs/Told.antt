@@ -93,13 +93,10 @@ words-put {old} {new} {b} xs ys e = subst (λ (zs : List ℕ). Wrote old 0 zs ne
 -- room for 50 bytes leaves nothing out
 pub words-short : (n : ℕ) → length (wordsOf n) ≤ 50
 unfolding wordsOf words spelled every
-words-short n = either (leb 13 n)
-    (λ (t : leb 13 n ≡ true). rw (List·getD-eq-default words (spelled "no such number") {n = n} (leb-true 13 n t)) (omega arith))
-    (λ (t : leb 13 n ≡ false). leb-true _ 50 (every-getD (λ (xs : List ℕ). leb (length xs) 50) words n (spelled "no such number") refl (leb-false 13 n t)))
+words-short n = either (leb 18 n)
+    (λ (t : leb 18 n ≡ true). rw (List·getD-eq-default words (spelled "no such number") {n = n} (leb-true 18 n t)) (omega arith))
+    (λ (t : leb 18 n ≡ false). leb-true _ 50 (every-getD (λ (xs : List ℕ). leb (length xs) 50) words n (spelled "no such number") refl (leb-false 18 n t)))
 
 -- a number that is none of those below has them behind it
-pub one-past : (k n : ℕ) → k ≤ n → n ≢ k → suc k ≤ n
-one-past k n h a = omega arith
-
 pub six-past : (k n : ℕ) → k ≤ n → n ≢ k → n ≢ k + 1 → n ≢ k + 2 → n ≢ k + 3 → n ≢ k + 4 → n ≢ k + 5 → k + 6 ≤ n
 six-past k n h a b c d e f = omega arith

@@ -22,7 +22,7 @@ fieldOf e k = elim (isFree e) [ true ↦ 0 | false ↦ getD (0 ∷ e .kind ∷ e
 unfoldable pub fieldIn : List ℕ → ℕ → ℕ → ℕ
 fieldIn b i k = elim (isSession (hasBuffers b) b) [ true ↦ fieldOf (entryAt (lentSession b .table) i) k | false ↦ 0 ]
 
--- "Answer numbers": what each is given for
+-- "Answer numbers": what each is given for; 13 to 17 are document 02's, and its DELETE gives 9 too
 unfoldable pub words : List (List ℕ)
 words =
     spelled "done"
@@ -34,10 +34,15 @@ words =
     ∷ spelled "write of 0 or over R bytes, or read buffer under R"
     ∷ spelled "wrong kind for the request, or out of sequence"
     ∷ spelled "no such entry, or not open"
-    ∷ spelled "opening an open file"
+    ∷ spelled "opening or deleting an open file"
     ∷ spelled "a fifth open file"
     ∷ spelled "bad image, or bad code met"
     ∷ spelled "session not legal for this image"
+    ∷ spelled "bad name"
+    ∷ spelled "name in use"
+    ∷ spelled "no free entry"
+    ∷ spelled "no gap of that many sectors"
+    ∷ spelled "bad kind, length or sector count 0"
     ∷ []
 
 unfoldable pub wordsOf : ℕ → List ℕ

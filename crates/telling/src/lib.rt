@@ -84,11 +84,16 @@ fn words_at(number: u16) -> Words
         6 => Words { at: 105, size: 50 },
         7 => Words { at: 155, size: 46 },
         8 => Words { at: 201, size: 26 },
-        9 => Words { at: 227, size: 20 },
-        10 => Words { at: 247, size: 17 },
-        11 => Words { at: 264, size: 26 },
-        12 => Words { at: 290, size: 32 },
-        _ => Words { at: 322, size: 14 },
+        9 => Words { at: 227, size: 32 },
+        10 => Words { at: 259, size: 17 },
+        11 => Words { at: 276, size: 26 },
+        12 => Words { at: 302, size: 32 },
+        13 => Words { at: 334, size: 8 },
+        14 => Words { at: 342, size: 11 },
+        15 => Words { at: 353, size: 13 },
+        16 => Words { at: 366, size: 27 },
+        17 => Words { at: 393, size: 34 },
+        _ => Words { at: 427, size: 14 },
     }
 }
 
@@ -98,7 +103,7 @@ pub fn put_words(number: u16, out: &mut [u8]) -> usize
     ensures { λ r. ⌜ Wrote (now (out .entry)) 0 (wordsOf number) (now (out .exit)) r ⌝ }
 {
     let all =
-        b"doneend of file metbeginning of tape metno roomwrite or mark on a protected fileodd byte count in a writewrite of 0 or over R bytes, or read buffer under Rwrong kind for the request, or out of sequenceno such entry, or not openopening an open filea fifth open filebad image, or bad code metsession not legal for this imageno such number";
+        b"doneend of file metbeginning of tape metno roomwrite or mark on a protected fileodd byte count in a writewrite of 0 or over R bytes, or read buffer under Rwrong kind for the request, or out of sequenceno such entry, or not openopening or deleting an open filea fifth open filebad image, or bad code metsession not legal for this imagebad namename in useno free entryno gap of that many sectorsbad kind, length or sector count 0no such number";
     let w = words_at(number);
     put_all(out, 0, part(all, w.at, w.size))
 }

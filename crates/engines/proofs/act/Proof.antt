@@ -1,6 +1,6 @@
 -- One way for each engine.
 use mathlib.Core.Path.{refl, sym, _∙_}
-use Rattle.engines.proofs.Parts.{long, moved-held, moved-plain}
+use Rattle.engines.proofs.Parts.{moved-held, moved-plain}
 use borrow.Author.Needs.{needs}
 use Rattle.engines.proofs.act.Statement.{statement}
 use Rattle.engines.proofs.act.Tie as tie
@@ -10,8 +10,7 @@ has-buffers-requires c κs = search needs
 
 act-held-requires : tie.Need-act-held-requires
 act-held-requires c κs =
-    let a = c .before .before .before .before .before .before .before .before .before .args in
-    (c .before .before .before .before .before .before .before .before .before .pre, long (a .session .now) (sym (c .before .before .before .has-buffers .ensures) ∙ c .before .before .if1 .taken))
+    (c .before .before .before .before .before .before .before .before .before .pre, sym (c .before .before .before .has-buffers .ensures) ∙ c .before .before .if1 .taken)
 
 same-length : tie.Need-same-length
 same-length c = search needs

@@ -1,4 +1,6 @@
 -- The buffer of the file's state is lent, and what it then has is laid in its place.
+use native.Mathlib.Omega.{arith}
+use Rattle.storing.proofs.Laid.{held-long}
 use Rattle.engines.proofs.Parts.{acted}
 use borrow.Author.Needs.{needs}
 use Rattle.engines.proofs.act_held.Statement.{statement}
@@ -26,7 +28,7 @@ part-act-start : tie.Need-part-act-start
 part-act-start c = search needs
 
 part-act-end : tie.Need-part-act-end
-part-act-end c = search needs
+part-act-end c = omega (arith, held-long (c .before .before .before .before .before .before .before .before .before .before .before .before .args .session .now) (c .before .before .before .before .before .before .before .before .before .before .before .before .pre .1))
 
 act-requires : tie.Need-act-requires
 act-requires c κs = search needs

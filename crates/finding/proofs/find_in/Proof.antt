@@ -26,7 +26,11 @@ state-width-requires : tie.Need-state-width-requires
 state-width-requires c κs = search needs
 
 is-lawful-requires : tie.Need-is-lawful-requires
-is-lawful-requires c κs = spaced (c .before .before .before .has-buffers .result) (c .before .before .before .before .before .before .args .b .now) _ (c .state-width .ensures .0) (sym (c .before .before .is-session .ensures) ∙ not-false _ (c .before .if1 .left))
+is-lawful-requires c κs =
+    let u = c .before .before .before .has-buffers .result in
+    let b = c .before .before .before .before .before .before .args .b .now in
+    let told = sym (c .before .before .is-session .ensures) ∙ not-false _ (c .before .if1 .left) in
+    (spaced u b _ (c .state-width .ensures .0) told, flagged u b _ (c .state-width .ensures .0) told)
 
 holds-good-requires : tie.Need-holds-good-requires
 holds-good-requires c κs = spaced (c .before .before .before .before .has-buffers .result) (c .before .before .before .before .before .before .before .args .b .now) (width (c .before .before .before .before .has-buffers .result)) refl (sym (c .before .before .before .is-session .ensures) ∙ not-false _ (c .before .before .if1 .left))

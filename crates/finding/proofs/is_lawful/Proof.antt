@@ -1,10 +1,10 @@
--- The rules of the image and the table, then those of the files.
+-- The rules of the image and the table, then those of the files and of what it says of itself.
 use mathlib.Core.Path.{sym, _∙_}
 use native.Mathlib.Omega.{arith}
 use Rattle.geometry.proofs.Places.{lawful-most}
 use Rattle.sessions.proofs.Grouped.{grouped}
+use Rattle.storing.proofs.Counts.{has-table}
 use Rattle.finding.specs.Lent.{bareIn}
-use Rattle.finding.proofs.Lent.{has-table}
 use borrow.Author.Needs.{needs}
 use Rattle.finding.proofs.is_lawful.Statement.{statement}
 use Rattle.finding.proofs.is_lawful.Tie as tie
@@ -24,12 +24,15 @@ table-good-requires c κs = search needs
 files-good-requires : tie.Need-files-good-requires
 files-good-requires c κs = search needs
 
+saying-good-requires : tie.Need-saying-good-requires
+saying-good-requires c κs = search needs
+
 returns : tie.Need-returns
 returns c =
-    let b = c .before .before in
+    let b = c .before .before .before in
     let a = b .before .before .before .before .before .args in
     let l = sym (b .before .before .lawful-length .ensures) ∙ b .before .if1 .taken in
-    sym (grouped (a .image .now) (bareIn (a .w) (a .b .now)) ∙ rw (l, c .before .table-good .ensures, has-table (a .b .now) (omega (arith, b .before .before .before .before .before .pre .2)), b .sectors-of .ensures, c .files-good .ensures))
+    sym (grouped (a .image .now) (bareIn (a .w) (a .b .now)) ∙ rw (l, c .before .before .table-good .ensures, has-table (a .b .now) (omega (arith, b .before .before .before .before .before .pre .0 .2)), b .sectors-of .ensures, c .before .files-good .ensures, c .saying-good .ensures))
 
 returns-2 : tie.Need-returns-2
 returns-2 c =
@@ -45,5 +48,6 @@ is-lawful-spec =
     cast-n
     table-good-requires
     files-good-requires
+    saying-good-requires
     returns
     returns-2)

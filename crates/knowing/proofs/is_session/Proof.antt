@@ -1,4 +1,4 @@
--- As many bytes as it takes, and each truth value of its four states.
+-- As many bytes as it takes, and each truth value of its four states and of what it says of itself.
 use Rattle.knowing.proofs.Known.{session-told, session-not}
 use borrow.Author.Needs.{needs}
 use Rattle.knowing.proofs.is_session.Statement.{statement}
@@ -7,8 +7,11 @@ use Rattle.knowing.proofs.is_session.Tie as tie
 state-width-requires : tie.Need-state-width-requires
 state-width-requires c κs = search needs
 
-mul-if1 : tie.Need-mul-if1
-mul-if1 c = search needs
+mul-says : tie.Need-mul-says
+mul-says c = search needs
+
+add-says : tie.Need-add-says
+add-says c = search needs
 
 add-if1 : tie.Need-add-if1
 add-if1 c = search needs
@@ -40,10 +43,13 @@ add-state-flags-3 c = search needs
 state-flags-requires-4 : tie.Need-state-flags-requires-4
 state-flags-requires-4 c κs = search needs
 
+saying-flags-requires : tie.Need-saying-flags-requires
+saying-flags-requires c κs = search needs
+
 returns : tie.Need-returns
 returns c =
-    let a = c .before .before .before .before .before .before .before .args in
-    session-told (a .buffers) (a .b .now) (c .before .before .before .before .before .state-width .result) (c .before .before .before .before .before .state-width .ensures .0) (c .before .before .before .before .if1 .taken) (c .state-flags4 .ensures .1) _ _ _ _ (c .before .before .before .state-flags .ensures .0) (c .before .before .state-flags2 .ensures .0) (c .before .state-flags3 .ensures .0) (c .state-flags4 .ensures .0)
+    let a = c .before .before .before .before .before .before .before .before .args in
+    session-told (a .buffers) (a .b .now) (c .before .before .before .before .before .before .state-width .result) (c .before .before .before .before .before .before .state-width .ensures .0) (c .before .before .before .before .before .if1 .taken) (c .before .state-flags4 .ensures .1) _ _ _ _ _ (c .before .before .before .before .state-flags .ensures .0) (c .before .before .before .state-flags2 .ensures .0) (c .before .before .state-flags3 .ensures .0) (c .before .state-flags4 .ensures .0) (c .saying-flags .ensures)
 
 returns-2 : tie.Need-returns-2
 returns-2 c =
@@ -55,7 +61,8 @@ is-session-spec =
     tie.close
     (tie.spec
     state-width-requires
-    mul-if1
+    mul-says
+    add-says
     add-if1
     state-flags-requires
     add-state-flags
@@ -66,5 +73,6 @@ is-session-spec =
     mul-state-flags-2
     add-state-flags-3
     state-flags-requires-4
+    saying-flags-requires
     returns
     returns-2)

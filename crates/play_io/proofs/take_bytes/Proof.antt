@@ -26,6 +26,9 @@ returns c = search needs
 fails-requires : tie.Need-fails-requires
 fails-requires c κs = search needs
 
+missing-for-requires : tie.Need-missing-for-requires
+missing-for-requires c κs = search needs
+
 same-length-2 : tie.Need-same-length-2
 same-length-2 c = search needs
 
@@ -49,6 +52,7 @@ take-bytes-spec =
     same-length
     returns
     fails-requires
+    missing-for-requires
     same-length-2
     returns-2
     same-length-3

@@ -63,14 +63,29 @@ cast-put-number-2 c = search needs
 put-number-requires-3 : tie.Need-put-number-requires-3
 put-number-requires-3 c κs = search needs
 
-enum-told-2 : tie.Need-enum-told-2
-enum-told-2 c = search needs
+enum-known-f-4 : tie.Need-enum-known-f-4
+enum-known-f-4 c = search needs
 
 slice-aggregate-put-all-6 : tie.Need-slice-aggregate-put-all-6
 slice-aggregate-put-all-6 c = search needs
 
 put-all-requires-6 : tie.Need-put-all-requires-6
 put-all-requires-6 c κs = search needs
+
+cast-put-number-3 : tie.Need-cast-put-number-3
+cast-put-number-3 c = search needs
+
+put-number-requires-4 : tie.Need-put-number-requires-4
+put-number-requires-4 c κs = search needs
+
+enum-told-2 : tie.Need-enum-told-2
+enum-told-2 c = search needs
+
+slice-aggregate-put-all-7 : tie.Need-slice-aggregate-put-all-7
+slice-aggregate-put-all-7 c = search needs
+
+put-all-requires-7 : tie.Need-put-all-requires-7
+put-all-requires-7 c κs = search needs
 
 same-length : tie.Need-same-length
 same-length c = search needs
@@ -105,7 +120,14 @@ same-length-5 c = search needs
 
 returns-5 : tie.Need-returns-5
 unfolding spelled faultWords
-returns-5 c = rw (c .before .before .before .before .before .enum-told2 .given .1) (c .before .before .put-all6 .ensures)
+returns-5 c = rw (c .before .before .before .before .before .before .before .before .before .before .f4 .given .1) (then (c .before .before .before .before .before .before .put-all6 .ensures) (c .before .before .put-number4 .ensures))
+
+same-length-6 : tie.Need-same-length-6
+same-length-6 c = search needs
+
+returns-6 : tie.Need-returns-6
+unfolding spelled faultWords
+returns-6 c = rw (c .before .before .before .before .before .enum-told2 .given .1) (c .before .before .put-all7 .ensures)
 
 pub put-fault-spec : {M : Type 1} → statement M
 put-fault-spec =
@@ -130,9 +152,14 @@ put-fault-spec =
     put-all-requires-5
     cast-put-number-2
     put-number-requires-3
-    enum-told-2
+    enum-known-f-4
     slice-aggregate-put-all-6
     put-all-requires-6
+    cast-put-number-3
+    put-number-requires-4
+    enum-told-2
+    slice-aggregate-put-all-7
+    put-all-requires-7
     same-length
     returns
     same-length-2
@@ -142,4 +169,6 @@ put-fault-spec =
     same-length-4
     returns-4
     same-length-5
-    returns-5)
+    returns-5
+    same-length-6
+    returns-6)

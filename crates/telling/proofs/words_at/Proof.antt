@@ -5,7 +5,7 @@ use Rattle.geometry.specs.Bytes.{part}
 use Rattle.tables.specs.Rows.{rowOf}
 use Rattle.texts.specs.Texts.{spelled}
 use Rattle.telling.specs.Told.{words, wordsOf, allWords}
-use Rattle.telling.proofs.Told.{words-there, no-words, six-past, one-past}
+use Rattle.telling.proofs.Told.{words-there, no-words, six-past}
 use Rattle.telling.proofs.words_at.Statement.{statement}
 use Rattle.telling.proofs.words_at.Tie as tie
 
@@ -63,9 +63,29 @@ returns-13 c = words-there _ _ 12 (c .match .keys13) refl
 
 returns-14 : tie.Need-returns-14
 unfolding part rowOf spelled words wordsOf allWords
-returns-14 c =
+returns-14 c = words-there _ _ 13 (c .match .keys14) refl
+
+returns-15 : tie.Need-returns-15
+unfolding part rowOf spelled words wordsOf allWords
+returns-15 c = words-there _ _ 14 (c .match .keys15) refl
+
+returns-16 : tie.Need-returns-16
+unfolding part rowOf spelled words wordsOf allWords
+returns-16 c = words-there _ _ 15 (c .match .keys16) refl
+
+returns-17 : tie.Need-returns-17
+unfolding part rowOf spelled words wordsOf allWords
+returns-17 c = words-there _ _ 16 (c .match .keys17) refl
+
+returns-18 : tie.Need-returns-18
+unfolding part rowOf spelled words wordsOf allWords
+returns-18 c = words-there _ _ 17 (c .match .keys18) refl
+
+returns-19 : tie.Need-returns-19
+unfolding part rowOf spelled words wordsOf allWords
+returns-19 c =
     let r = c .match .rest in
-    no-words _ _ (one-past 12 _ (six-past 6 _ (six-past 0 _ (omega arith) (r .0 .0 .0 .0 .0 .0 .0 .0 .0 .0 .0 .0 .1) (r .0 .0 .0 .0 .0 .0 .0 .0 .0 .0 .0 .1) (r .0 .0 .0 .0 .0 .0 .0 .0 .0 .0 .1) (r .0 .0 .0 .0 .0 .0 .0 .0 .0 .1) (r .0 .0 .0 .0 .0 .0 .0 .0 .1) (r .0 .0 .0 .0 .0 .0 .0 .1)) (r .0 .0 .0 .0 .0 .0 .1) (r .0 .0 .0 .0 .0 .1) (r .0 .0 .0 .0 .1) (r .0 .0 .0 .1) (r .0 .0 .1) (r .0 .1)) (r .1)) refl
+    no-words _ _ (six-past 12 _ (six-past 6 _ (six-past 0 _ (omega arith) (r .0 .0 .0 .0 .0 .0 .0 .0 .0 .0 .0 .0 .0 .0 .0 .0 .0 .1) (r .0 .0 .0 .0 .0 .0 .0 .0 .0 .0 .0 .0 .0 .0 .0 .0 .1) (r .0 .0 .0 .0 .0 .0 .0 .0 .0 .0 .0 .0 .0 .0 .0 .1) (r .0 .0 .0 .0 .0 .0 .0 .0 .0 .0 .0 .0 .0 .0 .1) (r .0 .0 .0 .0 .0 .0 .0 .0 .0 .0 .0 .0 .0 .1) (r .0 .0 .0 .0 .0 .0 .0 .0 .0 .0 .0 .0 .1)) (r .0 .0 .0 .0 .0 .0 .0 .0 .0 .0 .0 .1) (r .0 .0 .0 .0 .0 .0 .0 .0 .0 .0 .1) (r .0 .0 .0 .0 .0 .0 .0 .0 .0 .1) (r .0 .0 .0 .0 .0 .0 .0 .0 .1) (r .0 .0 .0 .0 .0 .0 .0 .1) (r .0 .0 .0 .0 .0 .0 .1)) (r .0 .0 .0 .0 .0 .1) (r .0 .0 .0 .0 .1) (r .0 .0 .0 .1) (r .0 .0 .1) (r .0 .1) (r .1)) refl
 
 pub words-at-spec : {M : Type 1} → statement M
 words-at-spec =
@@ -84,4 +104,9 @@ words-at-spec =
     returns-11
     returns-12
     returns-13
-    returns-14)
+    returns-14
+    returns-15
+    returns-16
+    returns-17
+    returns-18
+    returns-19)

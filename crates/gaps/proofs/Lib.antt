@@ -1,0 +1,4 @@
+pub mod Gaps
+pub mod Taken
+pub mod Sweep
+pub mod Rows
