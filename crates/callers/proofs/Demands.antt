@@ -3,14 +3,12 @@ use mathlib.Core.Path.{_≡_, refl, sym, ap, subst, _∙_}
 use mathlib.Core.Bool.{Bool, true, false}
 use mathlib.Core.List.{List}
 use Prim.Native.Nat.{ℕ}
-use lib.Dec.{eqb}
-use Rattle.geometry.specs.Lists.{every}
 use Rattle.geometry.proofs.Tests.{either, chosen, not-chosen}
 use Rattle.directory.specs.Entries.{entryAt, tableOf}
 use Rattle.directory.specs.declared.Entry.{Entry}
 use Rattle.sessions.specs.Session.{bufferedLegal}
 use Rattle.steps.specs.Step.{After}
-use Rattle.tapes.specs.Model.{Model, modelsOf, modelAt, Asked, Report}
+use Rattle.tapes.specs.Model.{Model, modelsOf, modelAt, Asked}
 use Rattle.tapes.specs.Runs.{modelReports}
 use Rattle.editing.specs.Editing.{lentEdited}
 use Rattle.judging.specs.Lent.{lentAfter}

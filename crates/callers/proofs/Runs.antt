@@ -9,7 +9,7 @@ use Rattle.geometry.specs.Sizes.{entries}
 use Rattle.geometry.proofs.Tests.{either, and-left, and-right, chosen, not-chosen}
 use Rattle.requests.specs.Numbers.{numberOf}
 use Rattle.sessions.specs.Session.{bufferedLegal}
-use Rattle.tapes.specs.Model.{Model, modelsOf, Asked, Report}
+use Rattle.tapes.specs.Model.{modelsOf, Asked, Report}
 use Rattle.tapes.specs.Edits.{Editing}
 use Rattle.tapes.specs.Runs.{Asking, ofFile, ofDirectory, Heard, modelRun}
 use Rattle.editing.specs.Editing.{lentEdited}

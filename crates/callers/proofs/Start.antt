@@ -1,21 +1,21 @@
 -- A session that is mounted fits its bytes: the directory's rules bound every number of an entry, and a name is of capitals, digits and blanks.
 use mathlib.Core.Path.{_≡_, refl, sym, _∙_}
-use mathlib.Core.Bool.{Bool, true, false, _&&_, _||_}
+use mathlib.Core.Bool.{Bool, true, false, _&&_}
 use mathlib.Core.List.{List, [], _∷_, map}
-use Prim.Native.Nat.{ℕ, _≤_, _<_}
+use Prim.Native.Nat.{ℕ, _≤_}
 use native.Mathlib.Omega.{arith}
-use lib.Dec.{eqb, leb}
+use lib.Dec.{eqb}
 use lib.ListN.{length, replicate, length-map}
-use borrow.Author.Tests.{lt-ltb, leb-true, eqb-true, eqb-false, eq-eqb}
+use borrow.Author.Tests.{eqb-true, eqb-false, eq-eqb}
 use Rattle.geometry.specs.Bytes.{word, isByte}
 use Rattle.geometry.specs.Lists.{all, every}
-use Rattle.geometry.specs.Sizes.{entries, mostOpen, mostSectors, blocked, compressed, blank, sectorsOf}
+use Rattle.geometry.specs.Sizes.{entries, mostOpen, mostSectors, sectorsOf}
 use Rattle.geometry.proofs.Places.{lawful-most}
-use Rattle.geometry.proofs.Tests.{and-left, and-right, and-both, or-either, either, all-getD, every-any, every-from}
+use Rattle.geometry.proofs.Tests.{and-left, and-right, and-both, either, all-getD, every-any, every-from}
 use Rattle.directory.specs.Entries.{freeEntry, entryAt, isFree, entryBytes, tableOf}
 use Rattle.directory.specs.Rules.{freeIsZero, tableRules, tableGood}
 use Rattle.directory.proofs.Free.{zero-entry}
-use Rattle.directory.proofs.Good.{Lies, lies}
+use Rattle.directory.proofs.Good.{lies}
 use Rattle.directory.proofs.Table.{length-table, table-name}
 use Rattle.directory.specs.declared.Entry.{Entry}
 use Rattle.sessions.specs.Session.{idle, fresh, unheld}

@@ -2,7 +2,7 @@
 -- extents of open files, and where none is open nothing is held.
 use mathlib.Core.Path.{_≡_, refl, sym, ap, subst, _∙_}
 use mathlib.Core.Bool.{true, not}
-use mathlib.Core.List.{List, []}
+use mathlib.Core.List.{List}
 use Prim.Native.Nat.{ℕ, _*_, _<_}
 use native.Mathlib.Omega.{arith}
 use lib.ListN.{length, getD}
@@ -18,7 +18,7 @@ use Rattle.sessions.proofs.Files.{is-of, Finds, opened, closed, finds}
 use Rattle.mounting.specs.Mounting.{mounts, bufferedMount}
 use Rattle.mounting.proofs.Mounted.{mounts-length}
 use Rattle.tapes.specs.Model.{Model, modelsOf, Asked, modelAt}
-use Rattle.tapes.specs.Runs.{Asking, modelReports, touched}
+use Rattle.tapes.specs.Runs.{Asking}
 use Rattle.serving.proofs.Mounted.{none-open}
 use Rattle.serving.proofs.Lifting.{Stands}
 use Rattle.serving.proofs.View.{view}

@@ -29,7 +29,7 @@ use Rattle.gaps.specs.Gaps.{lowestFree, isTaken, standsFree, lowestGap}
 use Rattle.gaps.specs.Made.{isNamed, shapeGood, fileMade}
 use Rattle.gaps.proofs.Gaps.{free-lowest, free-below, gap-stands, gap-lowest, gap-given}
 use Rattle.gaps.proofs.Taken.{gap-freed, gap-again}
-use Rattle.requests.specs.Judge.{noGap, whether, orElse, firstOf, editTests, judgeEdit}
+use Rattle.requests.specs.Judge.{noGap, whether, orElse, firstOf, editTests, judgeEdit, EditFacts}
 use Rattle.requests.proofs.Edits.{Adds, done-edits}
 use Rattle.requests.proofs.First.{not-there}
 use Rattle.sessions.specs.Session.{bare, fileOf, bufferedLegal, typed}
@@ -51,7 +51,6 @@ use Rattle.directory.specs.declared.Entry.{Entry}
 use Rattle.requests.specs.declared.Answer.the-variants.{Done, Refused}
 use Rattle.requests.specs.declared.Edit.{Edit}
 use Rattle.requests.specs.declared.Edit.the-variants.{Add, Delete}
-use Rattle.requests.specs.Judge.{EditFacts}
 use Rattle.requests.specs.declared.Refusal.the-variants.{NotThere, BadImage, NoGap}
 use Rattle.requests.specs.declared.Request.{Request}
 use Rattle.sessions.specs.declared.BufferedSession.{BufferedSession}

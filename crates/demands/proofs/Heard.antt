@@ -1,14 +1,13 @@
 -- What the tapes and rows hear of the buffered engine's run is what they hear of the plain one's: a buffer that is not put back yet lies in the extent of an open
 -- file, and a file is added in sectors that are no file's.
 use mathlib.Core.Path.{_≡_, refl, sym, ap, ap₂, subst, _∙_}
-use mathlib.Core.Bool.{Bool, true, false}
+use mathlib.Core.Bool.{true, false}
 use mathlib.Core.List.{List, [], _∷_, _++_, map}
 use Prim.Native.Nat.{ℕ, _+_, _*_, _≤_, _<_, _/_}
 use native.Mathlib.Omega.{arith}
-use lib.ListN.{length, set}
+use lib.ListN.{set}
 use lib.Dec.{eqb, leb}
 use borrow.Author.Tests.{eqb-true, leb-true, ltb-true}
-use Rattle.geometry.specs.Bytes.{part}
 use Rattle.geometry.specs.Sizes.{sector, random, sectorsOf}
 use Rattle.geometry.proofs.Bytes.{Apart}
 use Rattle.geometry.proofs.Tests.{either, or-either}
@@ -31,9 +30,8 @@ use Rattle.steps.proofs.Edited.{shape-some}
 use Rattle.serving.proofs.Sought.{taken-view}
 use Rattle.serving.proofs.Lifting.{Stands}
 use Rattle.serving.proofs.View.{view}
-use Rattle.settling.proofs.Settle.{settle}
 use Rattle.settling.proofs.Scene.{length-settle}
-use Rattle.settling.proofs.Kept.{Kept, used-entry, entry-lies, settle-part}
+use Rattle.settling.proofs.Kept.{used-entry, entry-lies, settle-part}
 use Rattle.steps.proofs.Standing.{heldAt}
 use Rattle.demands.specs.Engine.{plainEngine, bufferedEngine, Standing, next, heard}
 use Rattle.demands.proofs.Plain.{stands-next, view-next}

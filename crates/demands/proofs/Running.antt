@@ -8,7 +8,7 @@ use lib.Dec.{eqb, leb}
 use Rattle.geometry.specs.Lists.{every}
 use Rattle.geometry.specs.Sizes.{sectorsOf}
 use Rattle.geometry.proofs.Tests.{both-ways, and-left, and-right, and-both, or-either}
-use Rattle.requests.specs.Judge.{Test, tests, editTests, whether, orElse, firstOf, judge, judgeEdit}
+use Rattle.requests.specs.Judge.{Test, tests, editTests, whether, orElse, firstOf, judge, judgeEdit, EditFacts}
 use Rattle.requests.specs.Numbers.{numberOf}
 use Rattle.sessions.specs.Session.{bare, bufferedLegal}
 use Rattle.steps.specs.Next.{factsOf}
@@ -26,7 +26,6 @@ use Rattle.requests.specs.declared.Answer.the-variants.{Done, Met, Refused}
 use Rattle.requests.specs.declared.Edge.the-variants.{EndOfFile, BeginningOfTape}
 use Rattle.requests.specs.declared.Edit.{Edit}
 use Rattle.requests.specs.declared.Edit.the-variants.{Add, Delete}
-use Rattle.requests.specs.Judge.{EditFacts}
 use Rattle.requests.specs.declared.Facts.{Facts}
 use Rattle.requests.specs.declared.Order.the-variants.{WriteMark, RewindOnline, RewindOffline, RecordForward, RecordBack, FileForward, FileBack}
 use Rattle.requests.specs.declared.Refusal.{Refusal}

@@ -4,11 +4,10 @@ use mathlib.Core.Path.{_≡_, refl, sym, ap, subst, _∙_}
 use mathlib.Core.Logic.{_⊎_, inl, inr}
 use mathlib.Core.Bool.{Bool, true, false, _&&_, _||_, not, false≢true}
 use mathlib.Core.List.{List, [], _∷_}
-use Prim.Native.Nat.{ℕ, _+_, _*_, _≤_, _<_}
+use Prim.Native.Nat.{ℕ, _+_, _*_}
 use native.Mathlib.Omega.{arith}
-use lib.Dec.{leb, ltb}
 use lib.ListN.{length, getD}
-use borrow.Author.Tests.{leb-false, ltb-false, not-true}
+use borrow.Author.Tests.{not-true}
 use Rattle.geometry.specs.Lists.{every}
 use Rattle.geometry.specs.Sizes.{sector, entrySize, random, sectorsOf}
 use Rattle.geometry.proofs.Bytes.{Apart}
@@ -22,7 +21,7 @@ use Rattle.mounting.specs.Mounting.{mounts, startWith}
 use Rattle.steps.specs.Edit.{editedNumber, editedEntry, imageEdited, plainEditAnswer, plainEdit}
 use Rattle.steps.specs.Effects.{effects}
 use Rattle.steps.specs.Step.{plainScene, plainAnswer, plainAfter, plainStep}
-use Rattle.steps.proofs.Frame.{Elsewhere, length-plain}
+use Rattle.steps.proofs.Frame.{length-plain}
 use Rattle.tapes.specs.Model.{Model, nothing, tape, row, shapeOf, Asked, modelAt, isOpenModel, opensNow}
 use Rattle.tapes.specs.Edits.{Editing, ofShape, editAnswer, modelNumber}
 use Rattle.tapes.specs.Runs.{Asking, ofFile, ofDirectory, stepIn, Site, siteOf, touchedFile, touchedNow, touched}

@@ -39,7 +39,7 @@ use Rattle.serving.proofs.Keeping.{done}
 use Rattle.settling.proofs.Bench.{takes-held}
 use Rattle.settling.proofs.Next.{entry-shape, shape-at}
 use Rattle.tapes.specs.Model.{Asked}
-use Rattle.demands.specs.Engine.{Engine, plainEngine, bufferedEngine, Standing, answered, stepOf, reportOf, reports, run, areBytes, giveBytes, sound}
+use Rattle.demands.specs.Engine.{Engine, plainEngine, bufferedEngine, Standing, answered, stepOf, run, areBytes, sound}
 use Rattle.demands.specs.Demand2.{writing, closing}
 use Rattle.demands.specs.Writes.{plainWrites, backWrites, takeWrites, bufferedWrites, effectsOf, plainSum, bufferedSum, sceneAt, benchAt, plainCount, bufferedCount, inRun, allDone, records, Counted, BlockedAt, Writing, Saving}
 use Rattle.demands.proofs.Orderly.{same-scene}

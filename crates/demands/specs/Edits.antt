@@ -10,7 +10,7 @@ use Rattle.geometry.specs.Sizes.{entries, entrySize, random, sectorsOf}
 use Rattle.directory.specs.Entries.{freeEntry, entryAt, isFree, tableOf}
 use Rattle.gaps.specs.Gaps.{isTaken, standsFree}
 use Rattle.gaps.specs.Made.{fileMade}
-use Rattle.requests.specs.Judge.{Test, unlawfulSession, refusedMounting, badName, badShape, nameInUse, noFreeEntry, firstOf}
+use Rattle.requests.specs.Judge.{Test, unlawfulSession, refusedMounting, badName, badShape, nameInUse, noFreeEntry, firstOf, EditFacts}
 use Rattle.sessions.specs.Session.{bare, fileOf, extent}
 use Rattle.mounting.specs.Mounting.{mounts}
 use Rattle.steps.specs.Edit.{editFacts}
@@ -23,7 +23,6 @@ use Rattle.demands.specs.Demand1.{Passes}
 use Rattle.directory.specs.declared.Entry.{Entry}
 use Rattle.requests.specs.declared.Answer.the-variants.{Done, Refused}
 use Rattle.requests.specs.declared.Edit.the-variants.{Add, Delete}
-use Rattle.requests.specs.Judge.{EditFacts}
 use Rattle.requests.specs.declared.Refusal.the-variants.{NotThere, BadImage, NoGap}
 
 -- "ADD takes name, kind, length and sector count"; DELETE takes the entry's number

@@ -19,7 +19,7 @@ use Rattle.tables.specs.Tables.{oneWordWide, twoWordsWide, tableIn, layEntry}
 use Rattle.tables.proofs.Tables.{length-entries}
 use Rattle.gaps.specs.Gaps.{lowestFree, isTaken, lowestGap}
 use Rattle.gaps.specs.Made.{isNamed, shapeGood, fileMade}
-use Rattle.requests.specs.Judge.{judgeEdit}
+use Rattle.requests.specs.Judge.{judgeEdit, EditFacts}
 use Rattle.requests.proofs.Edits.{bad-name}
 use Rattle.sessions.specs.Session.{bare, bufferedLegal}
 use Rattle.sessions.proofs.Legal.{lawful-length, bare-legal}
@@ -37,7 +37,6 @@ use Rattle.directory.specs.declared.Entry.{Entry}
 use Rattle.directory.specs.declared.Found.the-variants.{Number, Nothing}
 use Rattle.requests.specs.declared.Answer.the-variants.{Done, Refused}
 use Rattle.requests.specs.declared.Edit.the-variants.{Add}
-use Rattle.requests.specs.Judge.{EditFacts}
 use Rattle.requests.specs.declared.Refusal.{Refusal}
 use Rattle.requests.specs.declared.Refusal.the-variants.{BadImage, BadName, NameInUse, NoEntry, NoGap, BadShape}
 use Rattle.sessions.specs.declared.BufferedSession.{BufferedSession}

@@ -1,17 +1,15 @@
 -- The entry that an edit makes fits its bytes, so an edited session is read back from those that it is stored in.
 use mathlib.Core.Path.{_≡_, refl, _∙_}
-use mathlib.Core.Bool.{Bool, true, false, _&&_, _||_}
-use mathlib.Core.List.{List, [], _∷_}
-use Prim.Native.Nat.{ℕ, _≤_, _<_, _^_}
-use native.Mathlib.Omega.{arith}
-use lib.Dec.{eqb, leb}
+use mathlib.Core.Bool.{Bool, true}
+use mathlib.Core.List.{List}
+use Prim.Native.Nat.{ℕ}
+use lib.Dec.{eqb}
 use lib.ListN.{length, set, length-set}
-use borrow.Author.Tests.{lt-ltb, leb-true, eqb-true, eq-eqb}
-use Rattle.geometry.specs.Bytes.{isByte}
+use borrow.Author.Tests.{eqb-true, eq-eqb}
 use Rattle.geometry.specs.Lists.{all, every}
-use Rattle.geometry.specs.Sizes.{entries, blank, mostOpen, sectorsOf}
+use Rattle.geometry.specs.Sizes.{entries, mostOpen, sectorsOf}
 use Rattle.geometry.proofs.Places.{lawful-most}
-use Rattle.geometry.proofs.Tests.{and-left, and-right, and-both, or-either, every-set}
+use Rattle.geometry.proofs.Tests.{and-left, and-right, and-both, every-set}
 use Rattle.directory.specs.Entries.{freeEntry}
 use Rattle.gaps.specs.Made.{fileMade}
 use Rattle.requests.specs.Judge.{judgeEdit}

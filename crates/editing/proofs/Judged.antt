@@ -2,11 +2,10 @@
 use mathlib.Core.Path.{_≡_}
 use mathlib.Core.Bool.{true, false}
 use Prim.Native.Nat.{ℕ}
-use Rattle.requests.specs.Judge.{whether, orElse, firstOf, editTests, judgeEdit}
+use Rattle.requests.specs.Judge.{whether, orElse, firstOf, editTests, judgeEdit, EditFacts}
 use Rattle.requests.specs.declared.Answer.the-variants.{Done, Refused}
 use Rattle.requests.specs.declared.Edit.{Edit}
 use Rattle.requests.specs.declared.Edit.the-variants.{Add, Delete}
-use Rattle.requests.specs.Judge.{EditFacts}
 use Rattle.requests.specs.declared.Refusal.the-variants.{NotThere, AlreadyOpen, BadImage, NotLegal, NameInUse, NoEntry, NoGap, BadShape}
 
 pub not-legal : (x : Edit) (f : EditFacts) → f .legal ≡ false → judgeEdit x f ≡ Refused NotLegal

@@ -8,7 +8,7 @@ use Rattle.geometry.specs.Sizes.{entries, sectorsOf}
 use Rattle.geometry.proofs.Tests.{either, both-ways, chosen, not-chosen}
 use Rattle.directory.specs.Entries.{entryAt, isFree}
 use Rattle.tables.specs.Tables.{oneWordWide, twoWordsWide, layEntry}
-use Rattle.requests.specs.Judge.{judgeEdit}
+use Rattle.requests.specs.Judge.{judgeEdit, EditFacts}
 use Rattle.sessions.specs.Session.{bare, fileOf, bufferedLegal}
 use Rattle.steps.specs.Edit.{Edited, editFacts, editedNumber, editedEntry, toldOf, toldBy, imageEdited, tableEdited, plainEdit, bufferedEditAnswer, bufferedEdit}
 use Rattle.steps.proofs.Unheld.{plain-as-held}
@@ -27,7 +27,6 @@ use Rattle.requests.specs.declared.Answer.{Answer}
 use Rattle.requests.specs.declared.Answer.the-variants.{Done, Refused}
 use Rattle.requests.specs.declared.Edit.{Edit}
 use Rattle.requests.specs.declared.Edit.the-variants.{Add, Delete}
-use Rattle.requests.specs.Judge.{EditFacts}
 use Rattle.requests.specs.declared.Refusal.{Refusal}
 use Rattle.requests.specs.declared.Refusal.the-variants.{NotLegal}
 use Rattle.sessions.specs.declared.BufferedSession.{BufferedSession}

@@ -1,7 +1,7 @@
 -- What an edit tells: an adding at most the table's length, since the lowest free entry is there or behind it; a deleting nothing.
 use mathlib.Core.Path.{_≡_, refl, ap, _∙_}
 use mathlib.Core.Bool.{Bool, true, false}
-use mathlib.Core.List.{List, []}
+use mathlib.Core.List.{List}
 use Prim.Native.Nat.{ℕ, _≤_}
 use native.Mathlib.Omega.{arith}
 use lib.ListN.{length, getD, length-replicate}
@@ -14,11 +14,10 @@ use Rattle.tables.proofs.Tables.{length-entries}
 use Rattle.gaps.specs.Gaps.{lowestFree}
 use Rattle.requests.specs.declared.Answer.{Answer}
 use Rattle.requests.specs.declared.Answer.the-variants.{Done, Met, Refused}
-use Rattle.requests.specs.declared.Edit.{Edit}
 use Rattle.requests.specs.declared.Edit.the-variants.{Add, Delete}
 use Rattle.sessions.specs.declared.BufferedSession.{BufferedSession}
 use Rattle.sessions.specs.Session.{bare}
-use Rattle.steps.specs.Edit.{Edited, toldOf, toldBy, editedNumber, plainEdit, bufferedEdit}
+use Rattle.steps.specs.Edit.{toldOf, toldBy, editedNumber, plainEdit, bufferedEdit}
 use Rattle.storing.specs.Stored.{hasBuffers, isSession, unlawfulEntry, unlawful, sessionIn}
 use Rattle.editing.specs.Editing.{lentEdited, editedIn}
 

@@ -1,6 +1,6 @@
 -- Document 02, item 1: the RAD Editor's ADD and DELETE in either engine: the answer, and image and session behind it. "Both change that one directory entry and no
 -- other byte." Definitions only.
-use mathlib.Core.Bool.{Bool, true, false, not}
+use mathlib.Core.Bool.{Bool, false, not}
 use mathlib.Core.List.{List, [], _∷_}
 use Prim.Native.Nat.{ℕ}
 use lib.Dec.{ltb}
@@ -12,14 +12,13 @@ use Rattle.directory.specs.Search.{matches}
 use Rattle.tables.specs.Tables.{oneWordWide, layEntry}
 use Rattle.gaps.specs.Gaps.{lowestFree, isTaken, lowestGap}
 use Rattle.gaps.specs.Made.{isNamed, shapeGood, fileMade}
-use Rattle.requests.specs.Judge.{judgeEdit}
+use Rattle.requests.specs.Judge.{judgeEdit, EditFacts}
 use Rattle.sessions.specs.Session.{bare, fileOf, legal, bufferedLegal}
 use Rattle.directory.specs.declared.Entry.{Entry}
 use Rattle.requests.specs.declared.Answer.{Answer}
 use Rattle.requests.specs.declared.Answer.the-variants.{Done, Met, Refused}
 use Rattle.requests.specs.declared.Edit.{Edit}
 use Rattle.requests.specs.declared.Edit.the-variants.{Add, Delete}
-use Rattle.requests.specs.Judge.{EditFacts}
 use Rattle.sessions.specs.declared.BufferedSession.{BufferedSession}
 use Rattle.sessions.specs.declared.Session.{Session}
 

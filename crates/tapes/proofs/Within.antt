@@ -6,16 +6,16 @@ use mathlib.Core.List.{List, [], _∷_}
 use Prim.Native.Nat.{ℕ, zero, suc, _+_, _≤_, _<_}
 use native.Mathlib.Omega.{arith}
 use native.Mathlib.Decide.{decLt, ℕ-discrete}
-use lib.ListN.{length, take, getD, set, length-append, length-set, List·getD-map, List·getD-eq-default}
+use lib.ListN.{length, take, getD, set, length-append, length-set, List·getD-map}
 use lib.Seq.{length-take-le, getD-set-same, getD-set-other, set-out}
 use Rattle.geometry.specs.Places.{capacity}
-use Rattle.geometry.specs.Sizes.{random, sectorsOf}
+use Rattle.geometry.specs.Sizes.{random}
 use Rattle.geometry.proofs.Tests.{either}
-use Rattle.directory.specs.Entries.{tableOf, freeEntry, isFree, isKind, isMarked}
+use Rattle.directory.specs.Entries.{tableOf, freeEntry, isFree, isKind}
 use Rattle.requests.proofs.Done.{done-allows}
 use Rattle.sessions.specs.Session.{extent}
 use Rattle.tapes.specs.Tape.{Shape, Tape, tapeOf, tapeFacts, tapeMet, tapeDone, tapeNext, newRecord}
-use Rattle.tapes.specs.Row.{Row, granulesIn, rowOf, rowFacts, rowDone, rowNext}
+use Rattle.tapes.specs.Row.{Row, granulesIn, rowOf, rowDone, rowNext}
 use Rattle.tapes.specs.Model.{Model, nothing, tape, row, shapeOf, modelOf, modelsOf, Asked, modelAt, modelFacts, modelNext, openModels, modelAnswer, modelStep}
 use Rattle.tapes.specs.Edits.{Editing, modelMade, modelsEdited, editAnswer, modelNumber, editStep}
 use Rattle.tapes.specs.Runs.{Asking, ofFile, ofDirectory, Heard, stepIn, modelRun}

@@ -9,7 +9,7 @@ use Rattle.geometry.specs.Lists.{every, firstWith, same}
 use Rattle.geometry.specs.Sizes.{entries, sectorsOf}
 use Rattle.gaps.specs.Gaps.{lowestGap}
 use Rattle.gaps.specs.Made.{isNamed, shapeGood, fileMade}
-use Rattle.requests.specs.Judge.{judgeEdit}
+use Rattle.requests.specs.Judge.{judgeEdit, EditFacts}
 use Rattle.requests.specs.Numbers.{numberOf}
 use Rattle.tapes.specs.Tape.{Shape}
 use Rattle.tapes.specs.Model.{Model, nothing, tape, row, modelOf, modelAt, isOpenModel, modelSpot, Report, ifDone}
@@ -17,7 +17,6 @@ use Rattle.requests.specs.declared.Answer.{Answer}
 use Rattle.requests.specs.declared.Answer.the-variants.{Done, Met, Refused}
 use Rattle.requests.specs.declared.Edit.{Edit}
 use Rattle.requests.specs.declared.Edit.the-variants.{Add, Delete}
-use Rattle.requests.specs.Judge.{EditFacts}
 
 -- an edit, with the entry's number, which DELETE takes, and the bytes given, which ADD takes for the name
 pub record Editing : Type 0 where
