@@ -30,7 +30,7 @@ int main(int argc, char **argv)
     if (w == NULL)
         return 2;
     make_records();
-    size_t steps = w->prepare();
+    size_t steps = prepare(w);
     uint32_t sum = 0;
     for (long left = atol(argv[2]); left > 0; left--)
         sum = w->run();

@@ -12,13 +12,16 @@ static _Alignas(64) uint8_t before[(size_t)MOST_SECTORS * SECTOR];
 static struct side_session session;
 static _Alignas(64) uint8_t buffer[3600];
 static size_t size; /* of the image */
+
+/* Of the workload. */
 static const struct side_engine *engine;
+static size_t entry; /* the file that it is about */
 
 /* One request without a granule. */
-static unsigned ask(size_t entry, enum request code, const uint8_t *given, size_t given_size,
+static unsigned ask(size_t file, enum request code, const uint8_t *given, size_t given_size,
                     size_t buffer_size)
 {
-    return engine->request(image, size, &session, entry, code, 0, given, given_size, buffer,
+    return engine->request(image, size, &session, file, code, 0, given, given_size, buffer,
                            buffer_size);
 }
 
@@ -59,26 +62,15 @@ static size_t prepare_mount(void)
     return 1;
 }
 
-static uint32_t run_mount(const struct side_engine *e)
+static uint32_t mount(void)
 {
-    return e->mount(image, size, &session);
-}
-
-static uint32_t mount_plain(void)
-{
-    return run_mount(&side_plain);
-}
-
-static uint32_t mount_buffered(void)
-{
-    return run_mount(&side_buffered);
+    return engine->mount(image, size, &session);
 }
 
 /* ---- streams ---- */
 
-static size_t prepare_stream(const struct side_engine *e, size_t entry)
+static size_t prepare_stream(void)
 {
-    engine = e;
     size = (size_t)STATION_SECTORS * SECTOR;
     make_station(image);
     must(engine->mount(image, size, &session));
@@ -86,28 +78,8 @@ static size_t prepare_stream(const struct side_engine *e, size_t entry)
     return STREAM;
 }
 
-static size_t prepare_blocked_plain(void)
-{
-    return prepare_stream(&side_plain, BUSLOG);
-}
-
-static size_t prepare_blocked_buffered(void)
-{
-    return prepare_stream(&side_buffered, BUSLOG);
-}
-
-static size_t prepare_packed_plain(void)
-{
-    return prepare_stream(&side_plain, PASSA);
-}
-
-static size_t prepare_packed_buffered(void)
-{
-    return prepare_stream(&side_buffered, PASSA);
-}
-
 /* Rewinds and writes STREAM records. */
-static uint32_t write_stream(size_t entry, const uint8_t *records, size_t length)
+static uint32_t write_stream(const uint8_t *records, size_t length)
 {
     uint32_t sum = ask(entry, REWIND_ONLINE, NULL, 0, 0);
     for (size_t i = 0; i < STREAM; i++)
@@ -116,7 +88,7 @@ static uint32_t write_stream(size_t entry, const uint8_t *records, size_t length
 }
 
 /* Rewinds and reads STREAM records. */
-static uint32_t read_stream(size_t entry, size_t length)
+static uint32_t read_stream(size_t length)
 {
     uint32_t sum = ask(entry, REWIND_ONLINE, NULL, 0, 0);
     for (size_t i = 0; i < STREAM; i++)
@@ -126,42 +98,32 @@ static uint32_t read_stream(size_t entry, size_t length)
 
 static uint32_t write_blocked(void)
 {
-    return write_stream(BUSLOG, frames[0], 60);
+    return write_stream(frames[0], 60);
 }
 
 static uint32_t read_blocked(void)
 {
-    return read_stream(BUSLOG, 60);
+    return read_stream(60);
 }
 
 static uint32_t write_packed(void)
 {
-    return write_stream(PASSA, lines[0], 80);
+    return write_stream(lines[0], 80);
 }
 
 static uint32_t read_packed(void)
 {
-    return read_stream(PASSA, 80);
+    return read_stream(80);
 }
 
 /* ---- granules ---- */
 
 enum { GRANULE_STEPS = 1000 };
 
-static size_t prepare_granules(const struct side_engine *e)
+static size_t prepare_granules(void)
 {
-    prepare_stream(e, TABLES);
+    prepare_stream();
     return GRANULE_STEPS;
-}
-
-static size_t prepare_granules_plain(void)
-{
-    return prepare_granules(&side_plain);
-}
-
-static size_t prepare_granules_buffered(void)
-{
-    return prepare_granules(&side_buffered);
 }
 
 static uint32_t granule_of(size_t i)
@@ -174,7 +136,7 @@ static uint32_t read_granules(void)
     uint32_t sum = 0;
     for (size_t i = 0; i < GRANULE_STEPS; i++)
         sum = mix_read(sum,
-                       engine->request(image, size, &session, TABLES, GRANULE_READ, granule_of(i),
+                       engine->request(image, size, &session, entry, GRANULE_READ, granule_of(i),
                                        NULL, 0, buffer, 360),
                        360);
     return sum;
@@ -184,7 +146,7 @@ static uint32_t write_granules(void)
 {
     uint32_t sum = 0;
     for (size_t i = 0; i < GRANULE_STEPS; i++)
-        sum = mix(sum, engine->request(image, size, &session, TABLES, GRANULE_WRITE, granule_of(i),
+        sum = mix(sum, engine->request(image, size, &session, entry, GRANULE_WRITE, granule_of(i),
                                        frames[0] + 60 * (i % (LINES - 6)), 360, NULL, 0));
     return mix_image(sum);
 }
@@ -193,7 +155,7 @@ static uint32_t look_granules(void)
 {
     uint32_t sum = 0;
     for (size_t i = 0; i < GRANULE_STEPS; i++)
-        sum = mix(sum, (uint32_t)engine->look(image, size, &session, TABLES, granule_of(i)));
+        sum = mix(sum, (uint32_t)engine->look(image, size, &session, entry, granule_of(i)));
     return sum;
 }
 
@@ -249,15 +211,24 @@ static uint32_t list_image(void)
 enum { REFUSALS = 1000, REFUSED_OPENINGS = 20 };
 
 /* A read of an open random file, with four files in the directory. */
-static size_t prepare_refused_plain(void)
+static size_t prepare_refused(void)
 {
-    prepare_stream(&side_plain, TABLES);
+    prepare_stream();
     return REFUSALS;
 }
 
-static size_t prepare_refused_buffered(void)
+/* The same with eighteen files in the directory, four of them open. */
+enum { FULL_TABLES = 17 };
+
+static size_t prepare_full(void)
 {
-    prepare_stream(&side_buffered, TABLES);
+    size = (size_t)FULL_SECTORS * SECTOR;
+    make_full(image);
+    must(engine->mount(image, size, &session));
+    must(ask(0, OPEN, NULL, 0, 0));
+    must(ask(2, OPEN, NULL, 0, 0));
+    must(ask(4, OPEN, NULL, 0, 0));
+    must(ask(entry, OPEN, NULL, 0, 0));
     return REFUSALS;
 }
 
@@ -265,70 +236,25 @@ static uint32_t refuse_reads(void)
 {
     uint32_t sum = 0;
     for (size_t i = 0; i < REFUSALS; i++)
-        sum = mix(sum, ask(TABLES, READ, NULL, 0, 360));
-    return sum;
-}
-
-/* The same with eighteen files in the directory, four of them open. */
-enum { FULL_TABLES = 17 };
-
-static size_t prepare_full(const struct side_engine *e)
-{
-    engine = e;
-    size = (size_t)FULL_SECTORS * SECTOR;
-    make_full(image);
-    must(engine->mount(image, size, &session));
-    must(ask(0, OPEN, NULL, 0, 0));
-    must(ask(2, OPEN, NULL, 0, 0));
-    must(ask(4, OPEN, NULL, 0, 0));
-    must(ask(FULL_TABLES, OPEN, NULL, 0, 0));
-    return REFUSALS;
-}
-
-static size_t prepare_full_plain(void)
-{
-    return prepare_full(&side_plain);
-}
-
-static size_t prepare_full_buffered(void)
-{
-    return prepare_full(&side_buffered);
-}
-
-static uint32_t refuse_full_reads(void)
-{
-    uint32_t sum = 0;
-    for (size_t i = 0; i < REFUSALS; i++)
-        sum = mix(sum, ask(FULL_TABLES, READ, NULL, 0, 360));
+        sum = mix(sum, ask(entry, READ, NULL, 0, 360));
     return sum;
 }
 
 /* Opening the compressed file, as full as it can be, once more. */
-static size_t prepare_reopen(const struct side_engine *e)
+static size_t prepare_reopen(void)
 {
-    engine = e;
     size = (size_t)STATION_SECTORS * SECTOR;
     make_full_station(image);
     must(engine->mount(image, size, &session));
-    must(ask(PASSA, OPEN, NULL, 0, 0));
+    must(ask(entry, OPEN, NULL, 0, 0));
     return REFUSED_OPENINGS;
-}
-
-static size_t prepare_reopen_plain(void)
-{
-    return prepare_reopen(&side_plain);
-}
-
-static size_t prepare_reopen_buffered(void)
-{
-    return prepare_reopen(&side_buffered);
 }
 
 static uint32_t refuse_openings(void)
 {
     uint32_t sum = 0;
     for (size_t i = 0; i < REFUSED_OPENINGS; i++)
-        sum = mix(sum, ask(PASSA, OPEN, NULL, 0, 0));
+        sum = mix(sum, ask(entry, OPEN, NULL, 0, 0));
     return sum;
 }
 
@@ -340,9 +266,8 @@ enum { EDITS = 500, DELETED = 8 };
 static struct side_session edited[2 * EDITS];
 static size_t edits; /* how many are done */
 
-static size_t prepare_edits(const struct side_engine *e)
+static size_t prepare_edits(void)
 {
-    engine = e;
     size = (size_t)FRAGMENTED_SECTORS * SECTOR;
     make_fragmented(image);
     must(engine->mount(image, size, &session));
@@ -351,25 +276,15 @@ static size_t prepare_edits(const struct side_engine *e)
     return EDITS;
 }
 
-static size_t prepare_edits_plain(void)
-{
-    return prepare_edits(&side_plain);
-}
-
-static size_t prepare_edits_buffered(void)
-{
-    return prepare_edits(&side_buffered);
-}
-
 /* A file of four sectors, which the lowest gap behind all the others holds. */
 static uint32_t add_files(void)
 {
     static const uint8_t name[8] = {0xE9, 0xE9, 0xF0, 0xF1, 0x40, 0x40, 0x40, 0x40};
     uint32_t sum = 0;
     for (size_t i = 0; i < EDITS; i++) {
-        size_t entry = 0;
-        sum = mix(sum, engine->add(image, size, &edited[edits++], name, 8, BLOCKED, 80, 4, &entry));
-        sum = mix(sum, (uint32_t)entry << 16 | (uint32_t)image[ENTRY_BYTES * entry + 13]);
+        size_t added = 0;
+        sum = mix(sum, engine->add(image, size, &edited[edits++], name, 8, BLOCKED, 80, 4, &added));
+        sum = mix(sum, (uint32_t)added << 16 | (uint32_t)image[ENTRY_BYTES * added + 13]);
     }
     return sum;
 }
@@ -378,8 +293,8 @@ static uint32_t delete_files(void)
 {
     uint32_t sum = 0;
     for (size_t i = 0; i < EDITS; i++) {
-        sum = mix(sum, engine->remove(image, size, &edited[edits++], DELETED));
-        sum = mix(sum, image[ENTRY_BYTES * DELETED]);
+        sum = mix(sum, engine->remove(image, size, &edited[edits++], entry));
+        sum = mix(sum, image[ENTRY_BYTES * entry]);
     }
     return sum;
 }
@@ -401,7 +316,7 @@ static uint32_t changed_sectors(void)
 }
 
 /* A rewind, SECTOR_STREAM writes of records that differ from what stands there, and a close. */
-static uint32_t count_sectors(size_t entry, const uint8_t *records, size_t length)
+static uint32_t count_sectors(const uint8_t *records, size_t length)
 {
     uint32_t n = 0;
     memcpy(before, image, size);
@@ -420,61 +335,61 @@ static uint32_t count_sectors(size_t entry, const uint8_t *records, size_t lengt
 static uint32_t count_blocked(void)
 {
     make_station(image);
-    return count_sectors(BUSLOG, frames[0], 60);
+    return count_sectors(frames[0], 60);
 }
 
 static uint32_t count_packed(void)
 {
     make_station(image);
-    return count_sectors(PASSA, lines[0], 80);
+    return count_sectors(lines[0], 80);
 }
 
 /* ---- all of them ---- */
 
+/* One by each engine, about the same file. */
+#define BOTH(name, about, file, prepare, run)                          \
+    {name "-plain", about, &side_plain, file, prepare, run},           \
+    {name "-buffered", "the same, buffered", &side_buffered, file, prepare, run}
+/* One by no engine, about no file. */
+#define ALONE(name, about, prepare, run) {name, about, NULL, 0, prepare, run}
+
 const struct workload workloads[] = {
-    {"mount-plain", "mounting 4,096 sectors, 18 full files", prepare_mount, mount_plain},
-    {"mount-buffered", "the same, buffered", prepare_mount, mount_buffered},
-    {"blocked-write-plain", "writing 10,000 records of 60 bytes", prepare_blocked_plain,
-     write_blocked},
-    {"blocked-write-buffered", "the same, buffered", prepare_blocked_buffered, write_blocked},
-    {"blocked-read-plain", "reading 10,000 records of 60 bytes", prepare_blocked_plain,
-     read_blocked},
-    {"blocked-read-buffered", "the same, buffered", prepare_blocked_buffered, read_blocked},
-    {"packed-write-plain", "writing 10,000 compressed records of 80", prepare_packed_plain,
-     write_packed},
-    {"packed-write-buffered", "the same, buffered", prepare_packed_buffered, write_packed},
-    {"packed-read-plain", "reading 10,000 compressed records of 80", prepare_packed_plain,
-     read_packed},
-    {"packed-read-buffered", "the same, buffered", prepare_packed_buffered, read_packed},
-    {"granule-read-plain", "reading 1,000 granules of 360", prepare_granules_plain, read_granules},
-    {"granule-read-buffered", "the same, buffered", prepare_granules_buffered, read_granules},
-    {"granule-write-plain", "writing 1,000 granules of 360", prepare_granules_plain,
-     write_granules},
-    {"granule-write-buffered", "the same, buffered", prepare_granules_buffered, write_granules},
-    {"granule-look-plain", "looking at 1,000 granules of 360", prepare_granules_plain,
-     look_granules},
-    {"granule-look-buffered", "the same, buffered", prepare_granules_buffered, look_granules},
-    {"decode", "decoding 1,000 records of 80", prepare_codes, decode_lines},
-    {"encode", "encoding 1,000 records of 80", prepare_codes, encode_lines},
-    {"list", "listing 180 sectors, 18 files", prepare_list, list_image},
-    {"refused-plain", "1,000 reads of an open random file (7), 4 files", prepare_refused_plain,
-     refuse_reads},
-    {"refused-buffered", "the same, buffered", prepare_refused_buffered, refuse_reads},
-    {"refused-full-plain", "the same, 18 files and 4 of them open", prepare_full_plain,
-     refuse_full_reads},
-    {"refused-full-buffered", "the same, buffered", prepare_full_buffered, refuse_full_reads},
-    {"reopen-plain", "20 openings of an open full compressed file (9)", prepare_reopen_plain,
-     refuse_openings},
-    {"reopen-buffered", "the same, buffered", prepare_reopen_buffered, refuse_openings},
-    {"add-plain", "500 times ADD, 17 files, fragmented", prepare_edits_plain, add_files},
-    {"add-buffered", "the same, buffered", prepare_edits_buffered, add_files},
-    {"delete-plain", "500 times DELETE, 17 files", prepare_edits_plain, delete_files},
-    {"delete-buffered", "the same, buffered", prepare_edits_buffered, delete_files},
-    {"sectors-blocked-plain", "sum: sectors changed by 500 blocked writes", prepare_blocked_plain,
-     count_blocked},
-    {"sectors-blocked-buffered", "the same, buffered", prepare_blocked_buffered, count_blocked},
-    {"sectors-packed-plain", "sum: sectors changed by 500 compressed writes", prepare_packed_plain,
-     count_packed},
-    {"sectors-packed-buffered", "the same, buffered", prepare_packed_buffered, count_packed},
+    BOTH("mount", "mounting 4,096 sectors, 18 full files", 0, prepare_mount, mount),
+    BOTH("blocked-write", "writing 10,000 records of 60 bytes", BUSLOG, prepare_stream,
+         write_blocked),
+    BOTH("blocked-read", "reading 10,000 records of 60 bytes", BUSLOG, prepare_stream,
+         read_blocked),
+    BOTH("packed-write", "writing 10,000 compressed records of 80", PASSA, prepare_stream,
+         write_packed),
+    BOTH("packed-read", "reading 10,000 compressed records of 80", PASSA, prepare_stream,
+         read_packed),
+    BOTH("granule-read", "reading 1,000 granules of 360", TABLES, prepare_granules,
+         read_granules),
+    BOTH("granule-write", "writing 1,000 granules of 360", TABLES, prepare_granules,
+         write_granules),
+    BOTH("granule-look", "looking at 1,000 granules of 360", TABLES, prepare_granules,
+         look_granules),
+    ALONE("decode", "decoding 1,000 records of 80", prepare_codes, decode_lines),
+    ALONE("encode", "encoding 1,000 records of 80", prepare_codes, encode_lines),
+    ALONE("list", "listing 180 sectors, 18 files", prepare_list, list_image),
+    BOTH("refused", "1,000 reads of an open random file (7), 4 files", TABLES, prepare_refused,
+         refuse_reads),
+    BOTH("refused-full", "the same, 18 files and 4 of them open", FULL_TABLES, prepare_full,
+         refuse_reads),
+    BOTH("reopen", "20 openings of an open full compressed file (9)", PASSA, prepare_reopen,
+         refuse_openings),
+    BOTH("add", "500 times ADD, 17 files, fragmented", 0, prepare_edits, add_files),
+    BOTH("delete", "500 times DELETE, 17 files", DELETED, prepare_edits, delete_files),
+    BOTH("sectors-blocked", "sum: sectors changed by 500 blocked writes", BUSLOG, prepare_stream,
+         count_blocked),
+    BOTH("sectors-packed", "sum: sectors changed by 500 compressed writes", PASSA, prepare_stream,
+         count_packed),
 };
 const size_t workload_count = sizeof workloads / sizeof *workloads;
+
+size_t prepare(const struct workload *w)
+{
+    engine = w->engine;
+    entry = w->entry;
+    return w->prepare();
+}

@@ -5,14 +5,21 @@
 #include <stddef.h>
 #include <stdint.h>
 
+struct side_engine;
+
 struct workload {
     const char *name;
     const char *about;
-    size_t (*prepare)(void); /* returns how many steps an iteration has: requests, records, mountings */
+    const struct side_engine *engine;
+    size_t entry; /* of the file that it is about */
+    size_t (*prepare)(void);
     uint32_t (*run)(void);   /* returns a sum over answers and bytes, to be the same on both sides */
 };
 
 extern const struct workload workloads[];
 extern const size_t workload_count;
+
+/* Prepares a workload. Returns how many steps an iteration has: requests, records, mountings. */
+size_t prepare(const struct workload *w);
 
 #endif

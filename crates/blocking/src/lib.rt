@@ -2,9 +2,9 @@
 // A buffer of another size than a sector's stays as it is, and nothing is put back from it.
 use directory::Entry;
 use geometry::Geometry;
-use geometry::lay;
-use geometry::lay_padded;
-use geometry::part;
+use moving::lay;
+use moving::lay_padded;
+use moving::part;
 use placing::room_behind;
 use placing::sector_at;
 use sessions::Holding;

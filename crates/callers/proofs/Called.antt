@@ -11,7 +11,7 @@ use Rattle.geometry.proofs.Tests.{either, chosen}
 use Rattle.requests.specs.Numbers.{numberOf}
 use Rattle.sessions.specs.Session.{idle, fresh, bare, unheld, spotOf}
 use Rattle.mounting.specs.Mounting.{mounts, startWith, plainMount, bufferedMount}
-use Rattle.steps.specs.Edit.{editFacts, editedNumber, editedEntry, plainEditAnswer, plainEdit, bufferedEditAnswer, bufferedEdit}
+use Rattle.steps.specs.Edit.{editFacts, editedNumber, editedEntry, editAnswerBy, editBy, plainEdit, bufferedEdit}
 use Rattle.steps.specs.Look.{plainLook, bufferedLook}
 use Rattle.steps.specs.Step.{plainStep, bufferedStep}
 use Rattle.storing.specs.Stored.{sizeOf, hasBuffers, isSession, sessionIn, stored, plainIn, plainStored, layStart}
@@ -20,7 +20,8 @@ use Rattle.judging.specs.Lent.{lentAfter}
 use Rattle.engines.specs.Engines as Engines
 use Rattle.looking.specs.Looking.{lookIn}
 use Rattle.editing.specs.Editing.{lentEdited, editedIn}
-use Rattle.lleuadrys.specs.Calls.{requested, mountNumber, mountBytes}
+use Rattle.calling.specs.Mounted.{mountNumber, mountBytes}
+use Rattle.lleuadrys.specs.Calls.{requested}
 use Rattle.looking.proofs.Shown.{look-is}
 use Rattle.callers.specs.Lent.{lentEngine, leftOf, Called}
 use Rattle.requests.specs.declared.Asked.the-variants.{For}
@@ -61,11 +62,11 @@ edits-are image b i x name = by (hasBuffers b)
 
 -- an adding does not look at the entry's number that it is given, nor a deleting at the name
 adds-same : (image b : List ℕ) (i kind size sectors : ℕ) (name : List ℕ) → editedIn image b 0 (Add kind size sectors) name ≡ editedIn image b i (Add kind size sectors) name
-unfolding editedIn bufferedEdit plainEdit bufferedEditAnswer plainEditAnswer editFacts editedNumber
+unfolding editedIn editBy editAnswerBy editFacts editedNumber
 adds-same image b i kind size sectors name = refl
 
 deletes-same : (image b : List ℕ) (i : ℕ) (name : List ℕ) → editedIn image b i Delete [] ≡ editedIn image b i Delete name
-unfolding editedIn bufferedEdit plainEdit bufferedEditAnswer plainEditAnswer editFacts editedEntry
+unfolding editedIn editBy editAnswerBy editFacts editedEntry
 deletes-same image b i name = refl
 
 shows : (image b : List ℕ) (i g : ℕ) → lookIn image b i g ≡ lentEngine (hasBuffers b) .look image b i g

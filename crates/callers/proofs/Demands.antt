@@ -16,8 +16,8 @@ use Rattle.storing.specs.Stored.{isSession}
 use Rattle.demands.specs.Engine.{Engine, Standing, answered, stepOf, editOf, mounted, areBytes, sound}
 use Rattle.demands.specs.Demand1.{Proper, ProperEdit, Orderly, Passes, Passing}
 use Rattle.demands.specs.Demand2.{closing, Faithful, CountsStored}
-use Rattle.demands.specs.Buffer.{deskAt, Buffered, Buffering}
-use Rattle.demands.specs.Writes.{plainCount, bufferedCount, inRun, allDone, Counted, Writing}
+use Rattle.promises.specs.Buffer.{deskAt, Buffered, Buffering}
+use Rattle.promises.specs.Writes.{plainCount, bufferedCount, inRun, allDone, Counted, Writing}
 use Rattle.demands.proofs.Sound.{sound-image}
 use Rattle.callers.specs.Lent.{engineOf, readBy, storedBy, lentEngine}
 use Rattle.callers.proofs.Kept.{orderly, passing, faithful, counts, same, starts, meets, edit-goes}

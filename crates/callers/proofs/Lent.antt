@@ -19,16 +19,16 @@ use Rattle.storing.specs.Stored.{sessionIn}
 use Rattle.demands.specs.Engine.{plainEngine, bufferedEngine, Standing, run, mounted, inBytes}
 use Rattle.demands.specs.Demand1.{Running}
 use Rattle.demands.specs.Demand2.{closing, ReadsBack, RoomAlone}
-use Rattle.demands.specs.Edits.{Editable, Adding}
+use Rattle.promises.specs.Edits.{Editable, Adding}
 use Rattle.demands.specs.Demand3.{belongs, Outside, Agreeing, Agree}
-use Rattle.demands.specs.Buffer.{Buffering, Holding}
-use Rattle.demands.specs.Writes.{plainCount, bufferedCount, inRun, records, Counted, Writing, Saving}
-use Rattle.demands.proofs.Adding.{adds}
+use Rattle.promises.specs.Buffer.{Buffering, Holding}
+use Rattle.promises.specs.Writes.{plainCount, bufferedCount, inRun, records, Counted, Writing, Saving}
+use Rattle.promises.proofs.Adding.{adds}
 use Rattle.demands.proofs.Agree.{agree}
-use Rattle.demands.proofs.Editable.{editable}
-use Rattle.demands.proofs.Buffering.{buffering}
-use Rattle.demands.proofs.Holding.{holding}
-use Rattle.demands.proofs.Writes.{plain-counted, buffered-counted, saving}
+use Rattle.promises.proofs.Editable.{editable}
+use Rattle.promises.proofs.Buffering.{buffering}
+use Rattle.promises.proofs.Holding.{holding}
+use Rattle.promises.proofs.Writes.{plain-counted, buffered-counted, saving}
 use Rattle.demands.proofs.Running.{running}
 use Rattle.demands.proofs.ReadsBack.{reads-back, room-alone}
 use Rattle.callers.specs.Lent.{engineOf, lentEngine, lentPlain, lentBuffered}

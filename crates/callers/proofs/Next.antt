@@ -13,6 +13,7 @@ use Rattle.geometry.specs.Lists.{all, every, firstWith}
 use Rattle.geometry.specs.Places.{origin}
 use Rattle.geometry.specs.Sizes.{sector, entries, mostOpen, mostSectors, compressed}
 use Rattle.geometry.proofs.Tests.{and-left, and-right, and-both, all-getD, every-any, every-set, either, not-chosen}
+use Rattle.editing.proofs.Fits.{free-fits}
 use Rattle.geometry.specs.declared.Place.{Place}
 use Rattle.directory.specs.Entries.{entryAt, freeEntry, isFree, isKind}
 use Rattle.directory.specs.Stamp.{restamped}
@@ -100,10 +101,6 @@ restamped-fits e count flags h c f =
       count = below 4 count c;
       flags = below 2 flags f;
     })
-
-pub free-fits : entryFits freeEntry ≡ true
-unfolding entryFits all fits areBytes every
-free-fits = refl
 
 idle-fits : fileFits idle ≡ true
 unfolding fileFits all fits

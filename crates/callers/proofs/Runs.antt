@@ -17,7 +17,7 @@ use Rattle.judging.specs.Lent.{lentAfter}
 use Rattle.storing.specs.Stored.{hasBuffers, isSession}
 use Rattle.storing.proofs.Read.{session-size, told-by-size}
 use Rattle.demands.specs.Engine.{Engine, Standing, spotsOf, shownBy, answered, stepOf, reportOf, edited, editOf, editReportOf, next, reportFor, reports, run, heard, mounted, modelsThen, areBytes, givesBytes, giveBytes, inBytes}
-use Rattle.demands.specs.Writes.{inRun, allDone}
+use Rattle.promises.specs.Writes.{inRun, allDone}
 use Rattle.demands.proofs.Answers.{bytes-image, bytes-given}
 use Rattle.demands.proofs.Edits.{nothing-edited}
 use Rattle.demands.proofs.Illegal.{nothing-changed}

@@ -14,7 +14,8 @@ use Rattle.judging.specs.Lent.{lentAfter}
 use Rattle.engines.specs.Engines as Engines
 use Rattle.editing.specs.Editing.{lentEdited, editedIn}
 use Rattle.looking.specs.Looking.{lookIn, lookPlace}
-use Rattle.lleuadrys.specs.Calls.{Left, left, requested, mountNumber, mountBytes}
+use Rattle.calling.specs.Mounted.{mountNumber, mountBytes}
+use Rattle.lleuadrys.specs.Calls.{Left, left, requested}
 use Rattle.demands.specs.Engine.{Engine, plainEngine, bufferedEngine}
 use Rattle.requests.specs.declared.Asked.the-variants.{For}
 use Rattle.requests.specs.declared.Edit.{Edit}

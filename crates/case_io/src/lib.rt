@@ -1,11 +1,12 @@
 // The files of cases that the second program writes: a case's header, its image, the patches of an image or a session, and the line that
 // tells which case it is. What a file gives and what is printed, no contract can say.
-use geometry::lay;
-use geometry::put;
-use geometry::word_at;
+use arguments::open_read;
 use libc::SEEK_CUR;
 use libc::SEEK_SET;
 use libc::STDOUT_FILENO;
+use moving::lay;
+use moving::put;
+use moving::word_at;
 ghost use Prim.Native.Nat.{_<_};
 
 // A case's header.
@@ -19,10 +20,35 @@ pub struct Header {
     pub buffered: u16, // and behind them of the buffered one's
 }
 
+// The file of the cases, opened three times: for the images and the patches, the rows, and the bytes given.
+pub struct Files {
+    pub cases: i32,
+    pub script: i32,
+    pub bytes: i32,
+}
+
 // What stands next in a file of cases.
 pub enum Ahead {
     Case(Header),
     End,
+}
+
+// ---- the file
+
+// Opens the file of the cases, which argument i names.
+pub fn open_cases(i: usize) -> Files {
+    Files {
+        cases: open_read(i),
+        script: open_read(i),
+        bytes: open_read(i),
+    }
+}
+
+// Closes it.
+pub fn close_cases(f: Files) {
+    libc::close(f.cases);
+    libc::close(f.script);
+    libc::close(f.bytes);
 }
 
 // ---- moving in the file
@@ -49,6 +75,17 @@ pub fn skip_rows(fd: i32, rows: u16) {
     libc::lseek(fd, ((rows as usize) * 16) as i64, SEEK_CUR);
 }
 
+// Goes to a case's rows, and to the bytes that are given behind them. The patches of the sessions stand next in the file of the cases.
+pub fn find_rows(f: Files, h: Header) {
+    let patches = libc::lseek(f.cases, 0, SEEK_CUR);
+    libc::lseek(f.script, patches, SEEK_SET);
+    skip_patches(f.script, h.plain);
+    skip_patches(f.script, h.buffered);
+    let rows = libc::lseek(f.script, 0, SEEK_CUR);
+    libc::lseek(f.bytes, rows, SEEK_SET);
+    skip_rows(f.bytes, h.rows);
+}
+
 // ---- a case's line, its image, and patches
 
 // Prints the line of case number k.
@@ -56,6 +93,15 @@ pub fn print_case(k: u64) {
     io::write_all(STDOUT_FILENO, b"CASE ");
     io::print_decimal(STDOUT_FILENO, k);
     io::write_all(STDOUT_FILENO, b"\n");
+}
+
+// Prints the line of the engine that plays: whether it is the one with buffers.
+pub fn print_engine(buffered: bool) {
+    if buffered {
+        io::write_all(STDOUT_FILENO, b"BUFFERED\n");
+    } else {
+        io::write_all(STDOUT_FILENO, b"PLAIN\n");
+    }
 }
 
 // The header that stands next.

@@ -1,7 +1,7 @@
 // Writing one compressed record: document 01's "Compressed records". The proofs have the round trip: what is written here reads back.
 use geometry::Geometry;
-use geometry::least;
-use geometry::put;
+use moving::least;
+use moving::put;
 ghost use mathlib.Core.Path.{_≡_};
 ghost use mathlib.Core.Bool.{false};
 ghost use mathlib.Core.List.{_∷_};

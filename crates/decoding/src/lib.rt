@@ -1,9 +1,9 @@
 // Reading one compressed record: document 01's "Compressed records". The reader is two functions that call each other, one for each sort of run.
 use geometry::Geometry;
-use geometry::byte_at;
-use geometry::fill;
-use geometry::lay;
-use geometry::part;
+use moving::byte_at;
+use moving::fill;
+use moving::lay;
+use moving::part;
 ghost use mathlib.Core.Path.{_≡_};
 ghost use Prim.Native.Nat.{_+_, _≤_, _<_};
 ghost use lib.ListN.{length, drop, getD};

@@ -12,7 +12,7 @@ use Rattle.geometry.specs.Bytes.{part, lay}
 use Rattle.geometry.proofs.Bytes.{Apart, length-part, part-lay-same}
 use Rattle.geometry.proofs.Tests.{both-ways, chosen}
 use Rattle.directory.specs.Entries.{tableOf, entryAt}
-use Rattle.sessions.specs.Session.{bare, isOf, fileOf, hasBuffer, holdsOne, extent, extentWith}
+use Rattle.sessions.specs.Session.{bare, isOf, fileOf, hasBuffer, holdsOne, extent, extentWith, bufferedLegal}
 use Rattle.sessions.proofs.Held.{holds-one}
 use Rattle.sessions.proofs.Files.{is-of, Finds, opened, closed, finds}
 use Rattle.mounting.specs.Mounting.{mounts, bufferedMount}
@@ -28,15 +28,14 @@ use Rattle.steps.specs.Step.{heldOf, bufferedScene, bufferedAnswer, bufferedAft
 use Rattle.settling.proofs.Bench.{length-all}
 use Rattle.settling.proofs.Kept.{Kept, entry-room, settle-elsewhere, settle-table}
 use Rattle.settling.proofs.Scene.{same-bytes}
-use Rattle.settling.proofs.Edited.{outside-buffered}
+use Rattle.steps.proofs.Edited.{outside-edit}
 use Rattle.settling.proofs.Step.{Agrees}
 use Rattle.demands.proofs.Heard.{Alike, same-heard}
 use Rattle.demands.specs.Engine.{plainEngine, bufferedEngine, Standing, answered, stepOf, run, heard, mounted, modelsThen}
 use Rattle.demands.specs.Demand2.{closing, Faithful, CountsStored}
 use Rattle.demands.specs.Demand3.{belongs, Outside, Untouched, Agreeing, Agree}
-use Rattle.demands.proofs.Buffering.{buffer-used}
 use Rattle.demands.proofs.Passing.{held-within}
-use Rattle.demands.proofs.Sound.{held-size}
+use Rattle.demands.proofs.Sound.{buffer-used, held-size}
 use Rattle.demands.proofs.Plain.{mount-stands, mount-view, then-stands, then-view, afresh, plain-faithful}
 use Rattle.demands.proofs.Counts.{plain-counts}
 use Rattle.demands.proofs.Untouched.{far, Spared, as-long, mounted-spared, plain-untouched}
@@ -145,7 +144,7 @@ module _ (image : List ℕ) (ok : mounts image ≡ true) (asked : List Asking) w
         ∙ ap (λ (y : List ℕ). part y (sector * b .held) sector) seen-bytes
 
   buffered-untouched : Untouched bufferedEngine image asked
-  buffered-untouched = (as-long bufferedEngine buffered-long (λ image s i x name. outside-buffered image s i x name .size) image asked, elsewhere)
+  buffered-untouched = (as-long bufferedEngine buffered-long (λ image s i x name. outside-edit (bufferedLegal image s) _ image (bare s) i x name .size) image asked, elsewhere)
 
   same-models : modelsThen bufferedEngine image asked ≡ modelsThen plainEngine image asked
   unfolding modelsThen

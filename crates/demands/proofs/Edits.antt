@@ -1,6 +1,6 @@
 -- One edit, in both engines, whatever the session is: refused, it changes nothing; done, it changes one entry, whose file is not open, so every state in use keeps
 -- its own. A plain session is one that holds nothing, and an edit looks at nothing that is held.
-use mathlib.Core.Path.{_≡_, refl, sym, subst, _∙_}
+use mathlib.Core.Path.{_≡_, refl, sym, ap, subst, _∙_}
 use mathlib.Core.Bool.{Bool, true, false, _&&_}
 use mathlib.Core.List.{List, []}
 use Prim.Native.Nat.{ℕ, _+_, _*_, _≤_, _<_}
@@ -10,33 +10,32 @@ use borrow.Author.Tests.{eqb-false, leb-false, ltb-false}
 use lib.ListN.{length}
 use Rattle.geometry.specs.Lists.{every}
 use Rattle.geometry.specs.Sizes.{entries, entrySize, sectorsOf}
-use Rattle.geometry.proofs.Bytes.{Apart, Outside}
+use Rattle.geometry.proofs.Bytes.{Apart}
 use Rattle.geometry.proofs.Tests.{either, both-ways}
 use Rattle.geometry.specs.Bytes.{lay}
 use Rattle.geometry.proofs.Places.{lawful-most}
 use Rattle.directory.specs.Entries.{entryAt, freeEntry, isFree}
 use Rattle.directory.proofs.Good.{Lies, lies}
 use Rattle.tables.specs.Tables.{oneWordWide, hasRows, entryOf, layRow, layEntry}
-use Rattle.gaps.specs.Made.{fileMade}
-use Rattle.requests.specs.Judge.{editTests, placeInLine, inOrder, judgeEdit}
+use Rattle.shapes.specs.Made.{fileMade}
+use Rattle.requests.specs.Judge.{editTests, placeInLine, inOrder}
 use Rattle.requests.proofs.InOrder.{edits-in-order}
-use Rattle.requests.proofs.Edits.{done-edits, never-met}
 use Rattle.sessions.specs.Session.{bare, unheld, extent, legal, bufferedLegal, typed}
 use Rattle.sessions.proofs.Legal.{lawful-length, good-table, bare-legal}
 use Rattle.sessions.proofs.Unheld.{unheld-legal}
-use Rattle.steps.specs.Edit.{editFacts, editedNumber, editedEntry, toldOf, toldBy, imageEdited, tableEdited, Edited, plainEdit, bufferedEditAnswer, bufferedEdit}
-use Rattle.steps.proofs.Edited.{Edits, eight-done, edits-done, added-done, longest-most}
-use Rattle.steps.proofs.Laid.{laid-outside, extent-laid}
+use Rattle.steps.specs.Edit.{editedNumber, editedEntry, toldOf, tableEdited, Edited, editAnswerBy, editBy, plainEdit, bufferedEditAnswer, bufferedEdit}
+use Rattle.steps.proofs.Edited.{Edits, done-legal, eight-done, added-done, edit-either, longest-most}
+use Rattle.steps.proofs.Laid.{length-laid, laid-outside, extent-laid}
 use Rattle.steps.proofs.Unheld.{heldNone, plain-as-held}
-use Rattle.settling.proofs.Edited.{entry-legal}
+use Rattle.settling.proofs.Edited.{entry-legal, buffered-edits}
 use Rattle.settling.proofs.Kept.{table-length, typed-entry}
 use Rattle.demands.specs.Engine.{Engine, plainEngine, bufferedEngine, sound}
 use Rattle.demands.specs.Demand1.{inLine, withEntry, ProperEdit, Orderly}
+use Rattle.demands.proofs.ReadsBack.{isRefusal}
 use Rattle.demands.proofs.Bytes.{Bytes, lay-bytes, entry-bytes}
 use Rattle.demands.proofs.Sound.{sound-image, sound-typed, sound-buffers, sound-of}
 use Rattle.directory.specs.declared.Entry.{Entry}
-use Rattle.requests.specs.declared.Answer.{Answer}
-use Rattle.requests.specs.declared.Answer.the-variants.{Done, Met, Refused}
+use Rattle.requests.specs.declared.Answer.the-variants.{Done, Refused}
 use Rattle.requests.specs.declared.Edit.{Edit}
 use Rattle.requests.specs.declared.Edit.the-variants.{Add, Delete}
 use Rattle.requests.specs.declared.Refusal.{Refusal}
@@ -73,17 +72,11 @@ laid-bytes image n e b h = go (hasRows oneWordWide entries image && ltb n entrie
 
 -- the entry that an edit answered 0 makes
 module _ (image : List ℕ) (s : Session) (ok : legal image s ≡ true) (many : length (s .table) ≡ entries) (b : Bool) (i : ℕ) (name : List ℕ) (gives : Bytes name) where
-  made-bytes : (x : Edit) → judgeEdit x (editFacts b (sectorsOf image) s i x name) ≡ Done → Bytes (entryOf oneWordWide (editedEntry x (sectorsOf image) (s .table) name))
+  made-bytes : (x : Edit) → editAnswerBy b image s i x name ≡ Done → Bytes (entryOf oneWordWide (editedEntry x (sectorsOf image) (s .table) name))
   unfolding editedEntry fileMade
   made-bytes (Add kind size sectors) d =
       lies-bytes (sectorsOf image) _ (lawful-most image (lawful-length image s ok)) (added-done image s ok many b i kind size sectors name d .lies) gives
   made-bytes Delete d = free-bytes
-
--- an edit is answered 0 in a legal session alone
-pub done-legal : (x : Edit) (b : Bool) (N : ℕ) (s : Session) (i : ℕ) (name : List ℕ) → judgeEdit x (editFacts b N s i x name) ≡ Done → b ≡ true
-unfolding editFacts
-done-legal (Add kind size sectors) b N s i name d = done-edits (Add kind size sectors) _ d .legal
-done-legal Delete b N s i name d = done-edits Delete _ d .legal
 
 -- ---- the buffered engine
 
@@ -94,93 +87,69 @@ module _ (image : List ℕ) (s : BufferedSession) (i : ℕ) (x : Edit) (name : L
   abbrev e : Entry
   e = editedEntry x (sectorsOf image) (s .table) name
 
-  -- what an answer leaves
-  abbrev left : Answer → Edited BufferedSession
-  left a = record {
-    answer = a;
-    told = toldBy a x n;
-    image = imageEdited a image n e;
-    session = record { says = s .says; table = tableEdited a (s .table) n e; files = s .files };
-  }
-
-  eight : bufferedEditAnswer image s i x name ≡ Done → length (e .name) ≡ 8
-  unfolding bufferedEditAnswer bare
-  eight d = eight-done (bufferedLegal image s) (sectorsOf image) (bare s) i x name d
-
-  left-outside : (a : Answer) → bufferedEditAnswer image s i x name ≡ a → Outside (left a .image) image (entrySize * n) entrySize
-  unfolding imageEdited
-  left-outside Done d = laid-outside image n e (eight d)
-  left-outside (Met y) d = record { size = refl; byte = λ j h. refl }
-  left-outside (Refused y) d = record { size = refl; byte = λ j h. refl }
-
-  left-refused : (a : Answer) → bufferedEditAnswer image s i x name ≡ a → ¬ (a ≡ Done)
-      → (y : Refusal) × (a ≡ Refused y) × (left a .image ≡ image) × (left a .session ≡ s) × (left a .told ≡ [])
-  unfolding imageEdited tableEdited toldBy bufferedEditAnswer
-  left-refused Done d h = absurd (h refl)
-  left-refused (Met y) d h = absurd (never-met x _ y d)
-  left-refused (Refused y) d h = (y, refl, refl, refl, refl)
-
-  left-one : (a : Answer) → a ≡ Done → (left a .told ≡ toldOf x n) × (left a .session ≡ withEntry s n e) × (left a .image ≡ layEntry oneWordWide entries image n e)
-  unfolding imageEdited tableEdited toldBy
-  left-one a d = rw d (refl, refl, refl)
+  -- of an edit: what holds of one that lays an entry, and of one that is refused
+  either-way : (P : Edited BufferedSession → Type 0)
+      → (bufferedEditAnswer image s i x name ≡ Done → P (record { answer = Done; told = toldOf x n; image = layEntry oneWordWide entries image n e; session = withEntry s n e }))
+      → ((y : Refusal) → bufferedEditAnswer image s i x name ≡ Refused y → P (record { answer = Refused y; told = []; image = image; session = s }))
+      → P (bufferedEdit image s i x name)
+  unfolding bare
+  either-way P done refused = edit-either (bufferedLegal image s) (λ table. record { says = s .says; table = table; files = s .files }) image (bare s) i x name P done refused
 
   pub buffered-proper-edit : ProperEdit bufferedEngine image s i x name (bufferedEdit image s i x name)
-  unfolding bufferedEdit
-  buffered-proper-edit = record {
-    ordered = refl;
-    refused = left-refused (bufferedEditAnswer image s i x name) refl;
-    one = λ d m p f q. rw (p, q) (left-one (bufferedEditAnswer image s i x name) d);
-    others = λ m p j h. left-outside (bufferedEditAnswer image s i x name) refl .byte j (apart j (entrySize * n) entrySize (rw p at h));
-    size = left-outside (bufferedEditAnswer image s i x name) refl .size;
-  }
+  unfolding bare isRefusal
+  buffered-proper-edit =
+      either-way (ProperEdit bufferedEngine image s i x name)
+      (λ d. record {
+        ordered = sym d;
+        refused = λ h. absurd (h refl);
+        one = λ k m p f q. rw (p, q) (refl, refl, refl);
+        others = λ m p j h. laid-outside image n e (eight-done (bufferedLegal image s) image (bare s) i x name d) .byte j (apart j (entrySize * n) entrySize (rw p at h));
+        size = length-laid image n e;
+      })
+      (λ y d. record {
+        ordered = sym d;
+        refused = λ h. (y, refl, refl, refl, refl);
+        one = λ k. both-ways true refl (ap isRefusal k);
+        others = λ m p j h. refl;
+        size = refl;
+      })
 
   -- what lies behind the directory stays
   pub extent-edited : typed s ≡ true → (k : ℕ) → isFree (entryAt (s .table) k) ≡ false
       → extent (entryAt (s .table) k) (bufferedEdit image s i x name .image) ≡ extent (entryAt (s .table) k) image
-  unfolding bufferedEdit
-  extent-edited t k u = go (bufferedEditAnswer image s i x name) refl
-    where
-      go : (a : Answer) → bufferedEditAnswer image s i x name ≡ a → extent (entryAt (s .table) k) (left a .image) ≡ extent (entryAt (s .table) k) image
-      go Done d = unfold imageEdited bufferedEditAnswer bare in
-          let ok : bufferedLegal image s ≡ true = done-legal x (bufferedLegal image s) (sectorsOf image) (bare s) i name d in
-          let z : Edits (sectorsOf image) (bare s) n e = edits-done image (bare s) (bare-legal image s ok) (table-length s t) (bufferedLegal image s) i x name d in
-          extent-laid image n e (z .eight) (z .inside) (entryAt (s .table) k) (lies (sectorsOf image) (s .table) (good-table image (bare s) (bare-legal image s ok)) k (eqb-false _ 0 u) .starts)
-      go (Met y) d = unfold imageEdited in refl
-      go (Refused y) d = unfold imageEdited in refl
+  unfolding bare
+  extent-edited t k u =
+      either-way (λ (r : Edited BufferedSession). extent (entryAt (s .table) k) (r .image) ≡ extent (entryAt (s .table) k) image)
+      (λ d.
+      let ok : bufferedLegal image s ≡ true = done-legal (bufferedLegal image s) image (bare s) i x name d in
+      let z : Edits (sectorsOf image) (bare s) n e = buffered-edits image s ok t i x name d in
+      extent-laid image n e (z .eight) (z .inside) (entryAt (s .table) k) (lies (sectorsOf image) (s .table) (good-table image (bare s) (bare-legal image s ok)) k (eqb-false _ 0 u) .starts))
+      (λ y d. refl)
 
   module _ (fine : sound image s ≡ true) (ok : bufferedLegal image s ≡ true) (gives : Bytes name) where
     edits : bufferedEditAnswer image s i x name ≡ Done → Edits (sectorsOf image) (bare s) n e
-    unfolding bufferedEditAnswer bare
-    edits d = edits-done image (bare s) (bare-legal image s ok) (table-length s (sound-typed image s fine)) (bufferedLegal image s) i x name d
+    edits d = buffered-edits image s ok (sound-typed image s fine) i x name d
 
     made : bufferedEditAnswer image s i x name ≡ Done → Bytes (entryOf oneWordWide e)
-    unfolding bufferedEditAnswer bare
+    unfolding bare
     made d = made-bytes image (bare s) (bare-legal image s ok) (table-length s (sound-typed image s fine)) (bufferedLegal image s) i name gives x d
-
-    left-sound : (a : Answer) → bufferedEditAnswer image s i x name ≡ a → sound (left a .image) (left a .session) ≡ true
-    unfolding imageEdited tableEdited
-    left-sound Done d =
-        sound-of (layEntry oneWordWide entries image n e) (withEntry s n e) (laid-bytes image n e (sound-image image s fine) (made d))
-        (typed-entry s (sound-typed image s fine) n e (edits d .eight)) (sound-buffers image s fine)
-    left-sound (Met y) d = fine
-    left-sound (Refused y) d = fine
-
-    left-legal : (a : Answer) → bufferedEditAnswer image s i x name ≡ a → bufferedLegal (left a .image) (left a .session) ≡ true
-    unfolding imageEdited tableEdited
-    left-legal Done d = entry-legal image s ok n e (edits d)
-    left-legal (Met y) d = ok
-    left-legal (Refused y) d = ok
 
     pub buffered-edit-passes : (sound (bufferedEdit image s i x name .image) (bufferedEdit image s i x name .session) ≡ true)
         × (bufferedLegal (bufferedEdit image s i x name .image) (bufferedEdit image s i x name .session) ≡ true)
-    unfolding bufferedEdit
-    buffered-edit-passes = (left-sound (bufferedEditAnswer image s i x name) refl, left-legal (bufferedEditAnswer image s i x name) refl)
+    buffered-edit-passes =
+        either-way (λ (r : Edited BufferedSession). (sound (r .image) (r .session) ≡ true) × (bufferedLegal (r .image) (r .session) ≡ true))
+        (λ d. (
+          sound-of (layEntry oneWordWide entries image n e) (withEntry s n e) (laid-bytes image n e (sound-image image s fine) (made d))
+              (typed-entry s (sound-typed image s fine) n e (edits d .eight)) (sound-buffers image s fine),
+          entry-legal image s ok n e (edits d),
+        ))
+        (λ y d. (fine, ok))
 
 -- ---- the plain engine: an edit looks at nothing that is held
 
 module _ (image : List ℕ) (s : Session) (i : ℕ) (x : Edit) (name : List ℕ) where
   stays-plain : (y : Refusal) → plainEdit image s i x name .answer ≡ Refused y → plainEdit image s i x name .session ≡ s
-  unfolding plainEdit tableEdited
+  unfolding editBy tableEdited
   stays-plain y h = rw h
 
   pub plain-proper-edit : ProperEdit plainEngine image s i x name (plainEdit image s i x name)
@@ -206,8 +175,7 @@ module _ (image : List ℕ) (s : Session) (i : ℕ) (x : Edit) (name : List ℕ)
 
 pub nothing-edited : (E : Engine) → Orderly E → (image : List ℕ) (s : E .Session) (i : ℕ) (x : Edit) (name : List ℕ) → bufferedLegal image (E .seen s) ≡ false
     → (E .edit image s i x name .image ≡ image) × (E .edit image s i x name .session ≡ s)
-unfolding bufferedEditAnswer
 nothing-edited E orderly image s i x name l =
     let p : ProperEdit E image s i x name (E .edit image s i x name) = orderly .every-edit image s i x name in
-    let n = p .refused (λ d. both-ways (bufferedLegal image (E .seen s)) (done-legal x _ (sectorsOf image) (bare (E .seen s)) i name (sym (p .ordered) ∙ d)) l) in
+    let n = p .refused (λ d. both-ways (bufferedLegal image (E .seen s)) (done-legal _ image (bare (E .seen s)) i x name (sym (p .ordered) ∙ d)) l) in
     (n .2, n .3)

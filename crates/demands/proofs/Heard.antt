@@ -13,7 +13,7 @@ use Rattle.geometry.proofs.Bytes.{Apart}
 use Rattle.geometry.proofs.Tests.{either, or-either}
 use Rattle.directory.specs.Entries.{entryAt, isFree, isKind, isMarked}
 use Rattle.gaps.specs.Gaps.{standsFree, isTaken, lowestGap}
-use Rattle.gaps.specs.Made.{fileMade}
+use Rattle.shapes.specs.Made.{fileMade}
 use Rattle.gaps.proofs.Gaps.{gap-stands, gap-same}
 use Rattle.gaps.proofs.Taken.{gap-apart}
 use Rattle.sessions.specs.Session.{bare, extent}

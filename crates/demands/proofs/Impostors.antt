@@ -16,7 +16,7 @@ use Rattle.directory.specs.Entries.{entryFrom, entryBytes, entriesFrom, tableOf
 use Rattle.directory.specs.Rules.{kindKnown, freeIsZero, nameGood, namesDiffer, extentInside, extentsApart, flagsKnown, longest, lengthGood, countGood, randomBare, tableRules, tableGood}
 use Rattle.directory.specs.Stamp.{stampBytes}
 use Rattle.gaps.specs.Gaps.{standsFree, lowestGap}
-use Rattle.gaps.specs.Made.{isNamed, shapeGood, fileMade}
+use Rattle.shapes.specs.Made.{isNamed, shapeGood, fileMade}
 use Rattle.requests.specs.Judge.{isFull, tests, editTests, whether, orElse, firstOf, judge, judgeEdit}
 use Rattle.sessions.specs.Session.{unheld, isOf, fileOf, slotOf, openFiles, spotOf, extent, ofUsedEntry, ofOther, positionGood, beyondGood, placesGood, sayingGood, sessionRules, legal}
 use Rattle.mounting.specs.Mounting.{countDecodes, mounts, startWith, plainMount}
@@ -32,7 +32,7 @@ use Rattle.tapes.specs.Runs.{Asking, ofFile, ofDirectory, stepIn, reportIn, mod
 use Rattle.demands.specs.Engine.{Engine, answered, stepOf, reportOf, edited, editOf, editReportOf, next, reportFor, reports, run, heard, mounted, modelsThen, givesBytes, inBytes}
 use Rattle.demands.specs.Demand2.{Faithful, ReadsBack, countOf, CountsStored}
 use Rattle.demands.specs.Demand3.{Agree}
-use Rattle.demands.specs.Edits.{adding, deleting}
+use Rattle.demands.specs.Demand1.{adding, deleting}
 use Rattle.requests.specs.declared.Answer.the-variants.{Done, Refused}
 use Rattle.requests.specs.declared.Edit.{Edit}
 use Rattle.requests.specs.declared.Order.the-variants.{RewindOnline, RewindOffline}

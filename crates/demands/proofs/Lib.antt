@@ -3,10 +3,6 @@ pub mod Bytes
 pub mod Sound
 pub mod Illegal
 pub mod Settled
-pub mod Desk
-pub mod States
-pub mod Buffering
-pub mod Holding
 pub mod Passing
 pub mod Running
 pub mod Plain
@@ -17,8 +13,5 @@ pub mod Granules
 pub mod ReadsBack
 pub mod Counts
 pub mod Impostors
-pub mod Writes
 pub mod Edits
 pub mod Heard
-pub mod Editable
-pub mod Adding

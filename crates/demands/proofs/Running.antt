@@ -13,7 +13,7 @@ use Rattle.requests.specs.Numbers.{numberOf}
 use Rattle.sessions.specs.Session.{bare, bufferedLegal}
 use Rattle.steps.specs.Next.{factsOf}
 use Rattle.steps.specs.Step.{bufferedAnswer}
-use Rattle.steps.specs.Edit.{editFacts, bufferedEditAnswer}
+use Rattle.steps.specs.Edit.{editFacts, editAnswerBy}
 use Rattle.tapes.specs.Model.{Asked}
 use Rattle.tapes.specs.Edits.{Editing}
 use Rattle.tapes.specs.Runs.{Asking, ofFile, ofDirectory}
@@ -98,7 +98,7 @@ module _ (E : Engine) (orderly : Orderly E) (w : Standing (E .Session)) (x : Edi
   proper-edit = orderly .every-edit (w .image) (w .session) (x .entry) (x .edit) (x .name)
 
   edit-not-12 : Passes E w → other (edited E w x .answer) ≡ true
-  unfolding bufferedEditAnswer judgeEdit firstOf
+  unfolding editAnswerBy judgeEdit firstOf
   edit-not-12 p = ap other (proper-edit .ordered) ∙ others (editTests (x .edit)) _ (edits-legality (x .edit) _ (facts-legal (x .edit) (p .isLegal)))
     where
       facts-legal : (y : Edit) → bufferedLegal (w .image) (E .seen (w .session)) ≡ true

@@ -6,13 +6,14 @@ use Prim.Native.Nat.{ℕ, _+_, _*_, _≤_, _<_}
 use native.Mathlib.Omega.{arith}
 use lib.Dec.{eqb}
 use lib.ListN.{length, set}
+use borrow.Author.Tests.{eqb-true, ne-eqb}
 use Rattle.geometry.specs.Bytes.{lay}
 use Rattle.geometry.specs.Lists.{every}
-use Rattle.geometry.specs.Sizes.{sector}
+use Rattle.geometry.specs.Sizes.{sector, blocked, compressed}
 use Rattle.geometry.proofs.Bytes.{length-lay, length-part}
-use Rattle.geometry.proofs.Tests.{either, and-left, and-right, and-both, every-any, every-set}
-use Rattle.directory.specs.Entries.{entryAt}
-use Rattle.sessions.specs.Session.{idle, fresh, unheld, typed}
+use Rattle.geometry.proofs.Tests.{either, and-left, and-right, and-both, or-either, every-any, every-set}
+use Rattle.directory.specs.Entries.{entryAt, isFree, isKind}
+use Rattle.sessions.specs.Session.{idle, fresh, unheld, hasBuffer, typed}
 use Rattle.steps.specs.Effects.{Effect, hold, change, store, stamp, putBack, plainDo, sectorAt, Bench, puttingBack, loaded, taking, working, bufferedDo, bufferedAll}
 use Rattle.steps.specs.Next.{Scene}
 use Rattle.steps.specs.Step.{heldOf, kept}
@@ -49,6 +50,12 @@ held-size s t i = go (standing s i)
     go : Standing s i → length (heldOf s i .buffer) ≡ sector
     go (isOpen k o) = rw (o .buffer) (buffer-length s t k)
     go (isShut z) = rw (z .buffer)
+
+-- an entry that has one is not free
+pub buffer-used : (e : Entry) → hasBuffer e ≡ true → isFree e ≡ false
+buffer-used e kind = or-either (isKind blocked e) (isKind compressed e) kind
+    (λ (b : isKind blocked e ≡ true). ne-eqb (e .kind) 0 (omega (arith, eqb-true (e .kind) blocked b)))
+    (λ (z : isKind compressed e ≡ true). ne-eqb (e .kind) 0 (omega (arith, eqb-true (e .kind) compressed z)))
 
 -- ---- what `sound` says
 

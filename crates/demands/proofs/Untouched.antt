@@ -1,6 +1,6 @@
 -- "every byte outside the entries and extents of" files "opened, added or deleted" "is as mounted", in the plain engine: a request changes bytes of an open file
 -- alone, a file is open only if it was opened since the mounting, and an edit changes its own entry.
-use mathlib.Core.Path.{_≡_, refl, sym, ap, subst, _∙_}
+use mathlib.Core.Path.{_≡_, refl, sym, ap, _∙_}
 use mathlib.Core.Logic.{_⊎_, inl, inr}
 use mathlib.Core.Bool.{Bool, true, false, _&&_, _||_, not, false≢true}
 use mathlib.Core.List.{List, [], _∷_}
@@ -9,16 +9,16 @@ use native.Mathlib.Omega.{arith}
 use lib.ListN.{length, getD}
 use borrow.Author.Tests.{not-true}
 use Rattle.geometry.specs.Lists.{every}
-use Rattle.geometry.specs.Sizes.{sector, entrySize, random, sectorsOf}
+use Rattle.geometry.specs.Sizes.{sector, entrySize, random}
 use Rattle.geometry.proofs.Bytes.{Apart}
 use Rattle.geometry.proofs.Tests.{either, both-ways, and-left, and-right}
 use Rattle.directory.specs.Entries.{tableOf, entryAt, isFree, isKind}
 use Rattle.directory.proofs.Free.{every-append}
 use Rattle.directory.specs.Stamp.{restamped}
-use Rattle.sessions.specs.Session.{fileOf, extent}
+use Rattle.sessions.specs.Session.{fileOf, extent, legal}
 use Rattle.sessions.proofs.Distinct.{free-shut}
 use Rattle.mounting.specs.Mounting.{mounts, startWith}
-use Rattle.steps.specs.Edit.{editedNumber, editedEntry, imageEdited, plainEditAnswer, plainEdit}
+use Rattle.steps.specs.Edit.{editedNumber, Edited}
 use Rattle.steps.specs.Effects.{effects}
 use Rattle.steps.specs.Step.{plainScene, plainAnswer, plainAfter, plainStep}
 use Rattle.steps.proofs.Frame.{length-plain}
@@ -26,7 +26,8 @@ use Rattle.tapes.specs.Model.{Model, nothing, tape, row, shapeOf, Asked, modelA
 use Rattle.tapes.specs.Edits.{Editing, ofShape, editAnswer, modelNumber}
 use Rattle.tapes.specs.Runs.{Asking, ofFile, ofDirectory, stepIn, Site, siteOf, touchedFile, touchedNow, touched}
 use Rattle.tapes.proofs.Opened.{open-after, open-edited}
-use Rattle.steps.proofs.Edited.{outside-edit}
+use Rattle.steps.proofs.Edited.{eight-done, edit-either, outside-edit}
+use Rattle.steps.proofs.Laid.{laid-outside}
 use Rattle.serving.proofs.Sought.{edit-number, answer-same}
 use Rattle.serving.proofs.Lifting.{Stands}
 use Rattle.serving.proofs.Mounted.{mounted-session, nothing-open}
@@ -158,23 +159,15 @@ module _ (j : ℕ) where
     behind = editOf plainEngine w x
 
     byte-edited : getD (behind .image) j 0 ≡ getD (w .image) j 0
-    unfolding editOf edited plainEdit
-    byte-edited = go (plainEditAnswer (w .image) (w .session) (x .entry) (x .edit) (x .name)) refl
-      where
-        at : ℕ
-        at = editedNumber (x .edit) (w .session .table) (x .entry)
-
-        new : Entry
-        new = editedEntry (x .edit) (sectorsOf (w .image)) (w .session .table) (x .name)
-
-        go : (a : Answer) → plainEditAnswer (w .image) (w .session) (x .entry) (x .edit) (x .name) ≡ a → getD (imageEdited a (w .image) at new) j 0 ≡ getD (w .image) j 0
-        go Done e =
-            let d : editAnswer shown x (w .image) ≡ Done = sym (answer-same (w .image) (w .session) (p .stands) (x .entry) (x .name) (x .edit)) ∙ e in
-            let n : at ≡ modelNumber (x .edit) shown (x .entry) = edit-number (w .image) (w .session) (p .stands .many) (x .edit) (x .entry) in
-            let k : Apart j 1 (entrySize * at) entrySize = rw n (entry-beside j (modelNumber (x .edit) shown (x .entry)) (touchedFile (x .edit) shown x (w .image)) (now d)) in
-            subst (λ (a : Answer). getD (imageEdited a (w .image) at new) j 0 ≡ getD (w .image) j 0) e (outside-edit (w .image) (w .session) (x .entry) (x .edit) (x .name) .byte j k)
-        go (Met y) e = unfold imageEdited in refl
-        go (Refused y) e = unfold imageEdited in refl
+    unfolding editOf edited
+    byte-edited =
+        edit-either (legal (w .image) (w .session)) _ (w .image) (w .session) (x .entry) (x .edit) (x .name) (λ (r : Edited Session). getD (r .image) j 0 ≡ getD (w .image) j 0)
+        (λ e.
+        let d : editAnswer shown x (w .image) ≡ Done = sym (answer-same (w .image) (w .session) (p .stands) (x .entry) (x .name) (x .edit)) ∙ e in
+        let n : editedNumber (x .edit) (w .session .table) (x .entry) ≡ modelNumber (x .edit) shown (x .entry) = edit-number (w .image) (w .session) (p .stands .many) (x .edit) (x .entry) in
+        laid-outside (w .image) _ _ (eight-done (legal (w .image) (w .session)) (w .image) (w .session) (x .entry) (x .edit) (x .name) e) .byte j
+        (rw n (entry-beside j (modelNumber (x .edit) shown (x .entry)) (touchedFile (x .edit) shown x (w .image)) (now d))))
+        (λ y e. refl)
 
     spared-edited : Spared behind
     spared-edited = record {
@@ -248,9 +241,6 @@ module _ (E : Engine) (request : (image : List ℕ) (s : E .Session) (i : ℕ) (
   unfolding mounted
   as-long image asked = run-long asked (mounted E image)
 
-plain-edit-long : (image : List ℕ) (s : Session) (i : ℕ) (x : Edit) (name : List ℕ) → length (plainEdit image s i x name .image) ≡ length image
-plain-edit-long image s i x name = outside-edit image s i x name .size
-
 plain-long : (image : List ℕ) (s : Session) (i : ℕ) (q : Request) (given buffer : List ℕ) → length (plainStep image s i q given buffer .image) ≡ length image
 unfolding plainStep plainAfter
 plain-long image s i q given buffer = go (plainAnswer image s i q given (length buffer))
@@ -267,4 +257,4 @@ unfolding mounted
 mounted-spared image ok asked j h = spared j asked (mounted plainEngine image) (start image ok j) (rw (mount-view image ok) h)
 
 pub plain-untouched : (image : List ℕ) → mounts image ≡ true → (asked : List Asking) → Untouched plainEngine image asked
-plain-untouched image ok asked = (as-long plainEngine plain-long plain-edit-long image asked, λ j h. mounted-spared image ok asked j h .0)
+plain-untouched image ok asked = (as-long plainEngine plain-long (λ image s i x name. outside-edit (legal image s) _ image s i x name .size) image asked, λ j h. mounted-spared image ok asked j h .0)

@@ -25,6 +25,7 @@ use Rattle.demands.specs.Engine.{Engine, Standing, stepOf, editOf, next,
 use Rattle.directory.specs.declared.Entry.{Entry}
 use Rattle.requests.specs.declared.Edge.{Edge}
 use Rattle.requests.specs.declared.Edit.{Edit}
+use Rattle.requests.specs.declared.Edit.the-variants.{Add, Delete}
 use Rattle.requests.specs.declared.Refusal.{Refusal}
 use Rattle.requests.specs.declared.Request.{Request}
 use Rattle.requests.specs.declared.Request.the-variants.{Open, Read, Write, GranuleRead, GranuleWrite, GranuleLook, Position}
@@ -81,6 +82,13 @@ pub record Shows (E : Engine) (image : List ℕ) (s : E .Session) (i g : ℕ) (e
   pub empty : (x : Refusal) → a ≡ Refused x → E .look image s i g ≡ []
 
 -- ---- one edit
+
+-- "ADD takes name, kind, length and sector count"; DELETE takes the entry's number
+abbrev pub adding : ℕ → ℕ → ℕ → List ℕ → Editing
+adding kind size sectors name = record { entry = 0; edit = Add kind size sectors; name = name }
+
+abbrev pub deleting : ℕ → Editing
+deleting i = record { entry = i; edit = Delete; name = [] }
 
 -- the session with another entry of number n
 abbrev pub withEntry : BufferedSession → ℕ → Entry → BufferedSession

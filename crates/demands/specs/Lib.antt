@@ -2,6 +2,3 @@ pub mod Engine
 pub mod Demand1
 pub mod Demand2
 pub mod Demand3
-pub mod Buffer
-pub mod Writes
-pub mod Edits

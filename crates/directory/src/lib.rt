@@ -1,9 +1,9 @@
 // The directory: document 01's "Sizes and the directory".
 use geometry::Geometry;
-use geometry::lay;
-use geometry::part;
-use geometry::same;
-use geometry::word_at;
+use moving::lay;
+use moving::part;
+use moving::same;
+use moving::word_at;
 ghost use mathlib.Core.Path.{_≡_};
 ghost use mathlib.Core.List.{_++_};
 ghost use Rattle.geometry.specs.Bytes.{padded, word};

@@ -18,12 +18,12 @@ use Rattle.directory.specs.Search.{matches, told, find}
 use Rattle.tables.specs.Tables.{oneWordWide, twoWordsWide, tableIn, layEntry}
 use Rattle.tables.proofs.Tables.{length-entries}
 use Rattle.gaps.specs.Gaps.{lowestFree, isTaken, lowestGap}
-use Rattle.gaps.specs.Made.{isNamed, shapeGood, fileMade}
+use Rattle.shapes.specs.Made.{isNamed, shapeGood, fileMade}
 use Rattle.requests.specs.Judge.{judgeEdit, EditFacts}
 use Rattle.requests.proofs.Edits.{bad-name}
 use Rattle.sessions.specs.Session.{bare, bufferedLegal}
 use Rattle.sessions.proofs.Legal.{lawful-length, bare-legal}
-use Rattle.steps.specs.Edit.{isTakenName, editFacts, editedNumber, editedEntry, toldOf}
+use Rattle.steps.specs.Edit.{isTakenName, editFacts, editedNumber, editedEntry, toldOf, editAnswerBy}
 use Rattle.storing.specs.Fits.{entryFits}
 use Rattle.storing.specs.Numbers.{isSet}
 use Rattle.storing.specs.Stored.{hasBuffers, saidAt, saidWidth, sizeOf, sayingIn, isSession, lentSession}
@@ -171,7 +171,7 @@ module _ (image b : List ℕ) (ok : bufferedLegal image (lentSession b) ≡ true
                   many = ap (λ (s : BufferedSession). length (s .table)) (session-is (hasBuffers b) b (legal-told image b ok)) ∙ length-entries twoWordsWide entries b
 
                   fits-so : entryFits (editedEntry (Add k l m) N (s .table) name) ≡ true
-                  unfolding bare
+                  unfolding editAnswerBy bare
                   fits-so = made-fits image (bare s) (bufferedLegal image s) (λ h. bare-legal image s h) many i (Add k l m) name done
 
                   pub added : (image′ b′ : List ℕ) → image′ ≡ layEntry oneWordWide entries image n (fileMade k l m name p) → b′ ≡ layEntry twoWordsWide entries b n (fileMade k l m name p)

@@ -10,7 +10,7 @@ use Rattle.directory.specs.Entries.{entryAt, isFree}
 use Rattle.tables.specs.Tables.{oneWordWide, twoWordsWide, layEntry}
 use Rattle.requests.specs.Judge.{judgeEdit, EditFacts}
 use Rattle.sessions.specs.Session.{bare, fileOf, bufferedLegal}
-use Rattle.steps.specs.Edit.{Edited, editFacts, editedNumber, editedEntry, toldOf, toldBy, imageEdited, tableEdited, plainEdit, bufferedEditAnswer, bufferedEdit}
+use Rattle.steps.specs.Edit.{Edited, editFacts, editedNumber, editedEntry, toldOf, toldBy, imageEdited, tableEdited, editAnswerBy, editBy, plainEdit, bufferedEdit}
 use Rattle.steps.proofs.Unheld.{plain-as-held}
 use Rattle.storing.specs.Fits.{entryFits}
 use Rattle.storing.specs.Stored.{hasBuffers, stored, isSession, sessionIn, lentSession, plainIn, plainStored}
@@ -82,7 +82,7 @@ module _ (image b : List ℕ) (i : ℕ) (x : Edit) (name : List ℕ) where
   }
 
   by-answer : editedIn image b i x name ≡ byAnswer (judgeEdit x factsIn)
-  unfolding lentEdited bufferedEdit bufferedEditAnswer
+  unfolding lentEdited editBy editAnswerBy bare
   by-answer = in-both
 
   hands : (a : Answer) → judgeEdit x factsIn ≡ a → (image′ b′ : List ℕ) (before at : ℕ) → Handed (byAnswer a) a image′ b′ before at → Handed (editedIn image b i x name) a image′ b′ before at

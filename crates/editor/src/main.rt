@@ -1,22 +1,21 @@
 // Adds a file to an image, or deletes one: editor add IMAGE NAME KIND LENGTH SECTORS OUT, editor delete IMAGE NAME OUT. docs/OPERATORS.md
 // says what is printed.
 use arguments::Taken;
-use arguments::complain;
 use arguments::read_image;
-use arguments::save;
-use geometry::same;
-use libc::STDERR_FILENO;
-use libc::STDOUT_FILENO;
+use arguments::says;
+use edit_io::finish;
+use edit_io::kind_typed;
+use edit_io::length_typed;
+use edit_io::put_typed;
+use edit_io::sectors_typed;
+use edit_io::tell;
+use edit_io::tell_usage;
 use lleuadrys::lleuadrys_add;
 use lleuadrys::lleuadrys_delete;
 use lleuadrys::lleuadrys_find;
 use lleuadrys::lleuadrys_mount;
 use storing::Form;
-use telling::put_words;
 use typing::Typed;
-use typing::kind_of;
-use typing::number_of;
-use typing::put_name;
 ghost use Rattle.io.specs.Counts.{Counts};
 
 // The numbers of its arguments.
@@ -36,71 +35,6 @@ const SECTORS: usize = 6;
 const OUT_ADDED: usize = 7;
 
 const OUT_DELETED: usize = 4;
-
-// ---- what is printed
-
-// Prints the words of an answer's number, a blank before them.
-fn print_words(number: u16) {
-    let mut words = [0u8; 64];
-    let n = put_words(number, &mut words);
-    io::write_all(STDOUT_FILENO, b" ");
-    io::write_all(STDOUT_FILENO, &words[..n]);
-}
-
-// Prints an answer: behind a 0 the entry, behind any other number its words.
-fn tell(number: u16, entry: usize) {
-    io::write_all(STDOUT_FILENO, b"ANSWER ");
-    io::print_decimal(STDOUT_FILENO, number as u64);
-    if number == 0 {
-        io::write_all(STDOUT_FILENO, b" ENTRY ");
-        io::print_decimal(STDOUT_FILENO, entry as u64);
-    } else {
-        print_words(number);
-    }
-    io::write_all(STDOUT_FILENO, b"\n");
-}
-
-// Writes the image where the answer is 0, and prints the answer.
-fn finish(out: usize, image: &[u8], number: u16, entry: usize) {
-    if number == 0 {
-        if !save(out, image) {
-            return;
-        }
-    }
-    tell(number, entry);
-}
-
-// ---- what is typed
-
-// Puts the bytes of the name; how many there are.
-fn name_in(out: &mut [u8]) -> usize
-    ensures { λ r. ⌜ Counts r (now (out .exit)) ⌝ }
-{
-    let mut word = io::buffer();
-    let n = os::arg(NAME, &mut word);
-    put_name(&word[..n], out)
-}
-
-// The kind.
-fn kind_typed() -> Typed {
-    let mut word = io::buffer();
-    let n = os::arg(KIND, &mut word);
-    kind_of(&word[..n])
-}
-
-// The number that argument i says.
-fn number_typed(i: usize) -> Typed {
-    let mut word = io::buffer();
-    let n = os::arg(i, &mut word);
-    number_of(&word[..n])
-}
-
-// Whether it is that request, with so many arguments.
-fn is_request(word: &[u8], count: usize) -> bool {
-    let mut first = io::buffer();
-    let n = os::arg(REQUEST, &mut first);
-    same(&first[..n], word) & (os::arg_count() == count)
-}
 
 // ---- the requests
 
@@ -126,7 +60,7 @@ fn mount(room: &mut [u8], session: &mut [u8]) -> Taken
 // Adds the file to a mounted image.
 fn add_to(image: &mut [u8], session: &mut [u8], kind: u16, length: u16, sectors: u16) {
     let mut name = io::buffer();
-    let n = name_in(&mut name);
+    let n = put_typed(NAME, &mut name);
     let mut entry: usize = 0;
     let number = lleuadrys_add(
         image,
@@ -151,30 +85,29 @@ fn add_file(room: &mut [u8], session: &mut [u8], kind: u16, length: u16, sectors
 
 // Adds the file that is typed, if these are numbers. If one is none, that is told.
 fn add(room: &mut [u8], session: &mut [u8]) {
-    let Typed::Number(kind) = kind_typed() else {
-        complain(
-            b"KIND is no number and none of unblocked, blocked, compressed, random: ",
-            KIND,
-        );
+    let Typed::Number(kind) = kind_typed(KIND) else {
         return;
     };
-    let Typed::Number(length) = number_typed(LENGTH) else {
-        complain(b"LENGTH is no number from 0 to 4294967295: ", LENGTH);
+    let Typed::Number(length) = length_typed(LENGTH) else {
         return;
     };
-    let Typed::Number(sectors) = number_typed(SECTORS) else {
-        complain(b"SECTORS is no number from 0 to 4294967295: ", SECTORS);
+    let Typed::Number(sectors) = sectors_typed(SECTORS) else {
         return;
     };
     add_file(room, session, kind, length, sectors);
 }
 
+// The entry of the file that is typed; the number of the search.
+fn find_typed(session: &[u8], entry: &mut usize) -> u16 {
+    let mut name = io::buffer();
+    let n = put_typed(NAME, &mut name);
+    lleuadrys_find(session, &name[..n], entry)
+}
+
 // Deletes the file from a mounted image.
 fn delete_from(image: &mut [u8], session: &mut [u8]) {
-    let mut name = io::buffer();
-    let n = name_in(&mut name);
     let mut entry: usize = 0;
-    let found = lleuadrys_find(session, &name[..n], &mut entry);
+    let found = find_typed(session, &mut entry);
     if found != 0 {
         tell(found, 0);
         return;
@@ -194,15 +127,13 @@ fn delete(room: &mut [u8], session: &mut [u8]) {
 
 // Does the request, with room for an image of 4,096 sectors.
 fn edit(room: &mut [u8; 1474560], session: &mut [u8; Form::SESSION]) {
-    if is_request(b"add", 8) {
+    let count = os::arg_count();
+    if (count == 8) & says(REQUEST, b"add") {
         add(room, session);
-    } else if is_request(b"delete", 5) {
+    } else if (count == 5) & says(REQUEST, b"delete") {
         delete(room, session);
     } else {
-        io::write_all(
-            STDERR_FILENO,
-            b"usage: editor add IMAGE NAME KIND LENGTH SECTORS OUT\n       editor delete IMAGE NAME OUT\n",
-        );
+        tell_usage();
     }
 }
 

@@ -5,8 +5,8 @@ use directory::free_entry;
 use gaps::none_used;
 use geometry::Geometry;
 use geometry::Place;
-use geometry::part;
 use knowing::is_session;
+use moving::part;
 use sessions::Holding;
 use sessions::OpenFile;
 use sessions::Spot;
@@ -56,13 +56,6 @@ fn long(a: u8, b: u8, c: u8, d: u8) -> u32
     (a as u32) + 256 * (b as u32) + 65536 * (c as u32) + 16777216 * (d as u32)
 }
 
-// The number in eight bytes.
-fn wide(a: u8, b: u8, c: u8, d: u8, e: u8, f: u8, g: u8, h: u8) -> usize
-    ensures { λ r. ⌜ r ≡ numberIn (a ∷ b ∷ c ∷ d ∷ e ∷ f ∷ g ∷ h ∷ []) ⌝ }
-{
-    (long(a, b, c, d) as usize) + 4294967296 * (long(e, f, g, h) as usize)
-}
-
 fn long_at(b: &[u8], at: usize) -> u32
     requires { ⌜ at + 4 ≤ length (now b) ⌝ }
     ensures { λ r. ⌜ r ≡ numberIn (Bytes.part (now (b .entry)) at 4) ⌝ }
@@ -70,20 +63,12 @@ fn long_at(b: &[u8], at: usize) -> u32
     long(b[at], b[at + 1], b[at + 2], b[at + 3])
 }
 
+// The number in eight bytes.
 fn wide_at(b: &[u8], at: usize) -> usize
     requires { ⌜ at + 8 ≤ length (now b) ⌝ }
     ensures { λ r. ⌜ r ≡ numberIn (Bytes.part (now (b .entry)) at 8) ⌝ }
 {
-    wide(
-        b[at],
-        b[at + 1],
-        b[at + 2],
-        b[at + 3],
-        b[at + 4],
-        b[at + 5],
-        b[at + 6],
-        b[at + 7],
-    )
+    (long_at(b, at) as usize) + 4294967296 * (long_at(b, at + 4) as usize)
 }
 
 fn is_set(b: &[u8], at: usize) -> bool

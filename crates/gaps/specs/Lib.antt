@@ -1,3 +1,2 @@
 pub mod Gaps
 pub mod Sweep
-pub mod Made

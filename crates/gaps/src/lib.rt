@@ -1,7 +1,5 @@
-// Where document 02's ADD puts a file: the lowest free entry of a table in lent bytes, and the lowest gap between its extents. And what it asks of
-// the file that it is given.
+// Where document 02's ADD puts a file: the lowest free entry of a table in lent bytes, and the lowest gap between its extents.
 use geometry::Geometry;
-use names::is_name;
 use tables::Width;
 use tables::has_rows;
 ghost use mathlib.Core.Path.{_≡_};
@@ -10,10 +8,8 @@ ghost use lib.ListN.{length};
 ghost use Rattle.geometry.specs.Bytes.{wordAt};
 ghost use Rattle.geometry.specs.Lists.{every};
 ghost use Rattle.directory.specs.Entries.{isFree};
-ghost use Rattle.directory.specs.Rules as Rules;
 ghost use Rattle.tables.specs.Tables.{Wide, entryIn, entriesIn, tableIn};
 ghost use Rattle.gaps.specs.Gaps.{lowestFree, isTaken, lowestGap};
-ghost use Rattle.gaps.specs.Made.{isNamed, shapeGood};
 ghost use Rattle.gaps.specs.Sweep as Sweep;
 
 // ---- an entry where it lies
@@ -148,37 +144,4 @@ pub fn lowest_gap(b: &[u8], width: usize, rows: usize, sectors: u32, n: u16) -> 
     } else {
         gap_in(b, Width::ONE, 0, sectors, n as u32)
     }
-}
-
-// ---- a file that is to be added
-
-// Whether bytes are a name: 8 of them, as the directory's rule has it.
-pub fn is_named(name: &[u8]) -> bool
-    ensures { λ r. ⌜ r ≡ isNamed (now (name .entry)) ⌝ }
-{
-    if name.len() != 8 {
-        return false;
-    }
-    is_name(name)
-}
-
-// The greatest R of a kind.
-fn longest(kind: u16) -> u16
-    ensures { λ r. ⌜ r ≡ Rules.longest kind ⌝ }
-{
-    if kind == Geometry::BLOCKED {
-        Geometry::LONGEST_BLOCKED
-    } else if kind == Geometry::COMPRESSED {
-        Geometry::LONGEST_COMPRESSED
-    } else {
-        Geometry::LONGEST
-    }
-}
-
-// Whether they are the kind, R and number of sectors of a file: a kind that there is, an R that the directory's rule for it takes, a sector at least.
-pub fn shape_good(kind: u16, length: u16, sectors: u16) -> bool
-    ensures { λ r. ⌜ r ≡ shapeGood kind length sectors ⌝ }
-{
-    let fits = (length % 2 == 0) & ((2 <= length) & (length <= longest(kind)));
-    (Geometry::UNBLOCKED <= kind) & ((kind <= Geometry::RANDOM) & (fits & (1 <= sectors)))
 }

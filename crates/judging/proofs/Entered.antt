@@ -25,7 +25,7 @@ use Rattle.straight.specs.Straight.{codeGiven}
 use Rattle.following.specs.Following.{entryFrom, fileFrom, verdictFrom}
 use Rattle.judging.specs.Judged.{sceneSeen, judgedBy, bufferBy}
 use Rattle.finding.specs.declared.Seen.{Seen}
-use Rattle.judging.specs.Turns.{Stands, sceneOf}
+use Rattle.judging.specs.Turns.{Stands, sceneOf, Ruled}
 use Rattle.geometry.specs.declared.Place.{Place}
 use Rattle.directory.specs.declared.Entry.{Entry}
 use Rattle.sessions.specs.declared.OpenFile.{OpenFile}
@@ -61,11 +61,10 @@ module _ (image : List ℕ) (ok : Bool) (files : ℕ) (e : Entry) (f : OpenFile)
 
   -- a ruling
   abbrev Rules : Answer → Place → List ℕ → Type 0
-  Rules a p b =
-      (a ≡ answerOf ok files (length buffer) code q scene) × (verdictFrom a q i e f p ≡ verdictOf ok files (length buffer) code q scene)
-      × (b ≡ bufferNext (answerOf ok files (length buffer) code q scene) q scene buffer)
+  Rules a p b = Ruled ok files code q scene buffer a p b
 
   refused : (x : Refusal) → answerOf ok files (length buffer) code q scene ≡ Refused x → (p : Place) → Rules (Refused x) p buffer
+  unfolding Ruled
   refused x h p = (sym h, refused-is ok files (length buffer) code q scene x h p, refused-buffer ok files (length buffer) code q scene x h buffer)
 
   pub twelve : not ok ≡ true → (p : Place) → Rules (Refused NotLegal) p buffer
@@ -84,10 +83,7 @@ module _ (image : List ℕ) (ok : Bool) (files : ℕ) (e : Entry) (f : OpenFile)
       enters bytes eb = (s (not-false ok h) (ne-eqb (e .kind) 0 k) .0, rw eb (length-part image _ _ (omega (arith, inside))))
 
     pub ruled : (bytes : List ℕ) (a : Answer) (p : Place) (b : List ℕ) → bytes ≡ extent e image
-        → (a ≡ answerOf true files (length buffer) code q (sceneOf i e f (seenBytes e f bytes held over) given))
-        × (verdictFrom a q i e f p ≡ verdictOf true files (length buffer) code q (sceneOf i e f (seenBytes e f bytes held over) given))
-        × (b ≡ bufferNext (answerOf true files (length buffer) code q (sceneOf i e f (seenBytes e f bytes held over) given)) q (sceneOf i e f (seenBytes e f bytes held over) given) buffer)
-        → Rules a p b
+        → Ruled true files code q (sceneOf i e f (seenBytes e f bytes held over) given) buffer a p b → Rules a p b
     ruled bytes a p b eb h2 = rw (not-false ok h) (rw eb at h2)
 
   -- the verdict that a ruling makes
@@ -95,6 +91,7 @@ module _ (image : List ℕ) (ok : Bool) (files : ℕ) (e : Entry) (f : OpenFile)
   Comes v b = (v ≡ verdictOf ok files (length buffer) code q scene) × (b ≡ bufferNext (answerOf ok files (length buffer) code q scene) q scene buffer)
 
   pub comes : (a : Answer) (p : Place) (b : List ℕ) (v : Verdict) → Rules a p b → v ≡ verdictFrom a q i e f p → Comes v b
+  unfolding Ruled
   comes a p b v r ev = (ev ∙ r .1, r .2)
 
 -- a legal session's entry and state stand

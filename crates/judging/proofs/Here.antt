@@ -22,7 +22,8 @@ use Rattle.steps.specs.Next.{recordHere, fixedAt}
 use Rattle.steps.specs.Verdict.{seenBytes}
 use Rattle.steps.proofs.Lawful.{Lawful}
 use Rattle.steps.proofs.Compressed.{good-within, here-read}
-use Rattle.judging.specs.Turns.{factsBut, TurnOf, CarryOf, Ready, Fixed, sight, recordIn, blockedBytes, hereLed, laidFirst, hereInto}
+use Rattle.answering.specs.Facts.{factsBut}
+use Rattle.judging.specs.Turns.{TurnOf, CarryOf, Ready, Fixed, sight, recordIn, blockedBytes, hereLed, laidFirst, hereInto}
 use Rattle.judging.proofs.Turns.{here-there}
 use Rattle.directory.specs.declared.Entry.{Entry}
 use Rattle.sessions.specs.declared.OpenFile.{OpenFile}

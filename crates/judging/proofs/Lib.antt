@@ -3,5 +3,4 @@ pub mod Written
 pub mod Fixed
 pub mod Here
 pub mod Entered
-pub mod Looks
 pub mod Lent

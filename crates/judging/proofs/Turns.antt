@@ -27,7 +27,8 @@ use Rattle.steps.proofs.Compressed.{end-is}
 use Rattle.steps.specs.Verdict.{entryNext, bufferNext, doneWith, fileWith, verdictOf}
 use Rattle.following.specs.Following.{oneMore, orderFrom, doneFrom, fileFrom, verdictFrom}
 use Rattle.following.proofs.Following.{one-more, entry-from}
-use Rattle.judging.specs.Turns.{factsBut, sight, endLed, hereLed, laidFirst, hereInto, turnLed, turnInto, isAstray, placeIn, writtenAt, carriedTo, carriedInto}
+use Rattle.answering.specs.Facts.{factsBut}
+use Rattle.judging.specs.Turns.{sight, endLed, hereLed, laidFirst, hereInto, turnLed, turnInto, isAstray, placeIn, writtenAt, carriedTo, carriedInto}
 use Rattle.geometry.specs.declared.Place.{Place}
 use Rattle.directory.specs.declared.Entry.{Entry}
 use Rattle.packing.specs.declared.Led.{Led}

@@ -1,4 +1,3 @@
 pub mod Turns
-pub mod Looks
 pub mod Lent
 pub mod Judged

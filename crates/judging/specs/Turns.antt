@@ -9,7 +9,7 @@ use lib.Dec.{ltb}
 use Rattle.geometry.specs.Bytes.{part, lay}
 use Rattle.geometry.specs.Places.{capacity, placeOf, byteOf, origin}
 use Rattle.geometry.specs.Sizes.{sector, blocked, compressed, random, mostSectors}
-use Rattle.directory.specs.Entries.{isFree, isKind, isMarked, isProtected}
+use Rattle.directory.specs.Entries.{isFree, isKind}
 use Rattle.packing.specs.Placing.{behindNew}
 use Rattle.packing.specs.Reading.{overlaid, Got, got, lost, walkedTo, ledTo}
 use Rattle.mounting.specs.Mounting.{countedWalk}
@@ -19,31 +19,12 @@ use Rattle.geometry.specs.declared.Place.{Place}
 use Rattle.directory.specs.declared.Entry.{Entry}
 use Rattle.packing.specs.declared.Led.{Led}
 use Rattle.packing.specs.declared.Led.the-variants.{To, Lost}
-use Rattle.requests.specs.declared.Facts.{Facts}
+use Rattle.steps.specs.Verdict.{bufferNext, answerOf, verdictOf}
+use Rattle.following.specs.Following.{verdictFrom}
+use Rattle.requests.specs.declared.Answer.{Answer}
 use Rattle.requests.specs.declared.Request.{Request}
 use Rattle.requests.specs.declared.Request.the-variants.{Open, Read, Write, GranuleRead, GranuleWrite, GranuleLook, Position}
 use Rattle.sessions.specs.declared.OpenFile.{OpenFile}
-
--- the facts but for the codes, which are supposed to be bad or not
-abbrev pub factsBut : Bool → Bool → ℕ → Entry → OpenFile → ℕ → ℕ → ℕ → Facts
-factsBut bad legal files e f given code buffer = record {
-  legal = legal;
-  files = files;
-  kind = e .kind;
-  length = e .length;
-  sectors = e .sectors;
-  protected = isProtected e;
-  opened = f .used;
-  position = f .position;
-  count = e .count;
-  marked = isMarked e;
-  beyond = f .beyond;
-  here = f .here;
-  bad = bad;
-  given = given;
-  code = code;
-  buffer = buffer;
-}
 
 -- ---- decoding, and copying, in its turn
 
@@ -172,3 +153,12 @@ CarryOf (GranuleRead g) code e f n = (Fixed e g n) × (f .used ≡ true) × (isK
 CarryOf (GranuleWrite g) code e f n = Unit {0}
 CarryOf (GranuleLook g) code e f n = Unit {0}
 CarryOf (Position o) code e f n = Unit {0}
+
+-- ---- a ruling
+
+-- the answer, the verdict that is made of it and of a place, and what is then in the buffer
+unfoldable pub Ruled : Bool → ℕ → ℕ → Request → Scene → List ℕ → Answer → Place → List ℕ → Type 0
+Ruled legal files code q c old a p new =
+    (a ≡ answerOf legal files (length old) code q c)
+    × (verdictFrom a q (c .number) (c .entry) (c .file) p ≡ verdictOf legal files (length old) code q c)
+    × (new ≡ bufferNext (answerOf legal files (length old) code q c) q c old)

@@ -1,9 +1,10 @@
 // One request, judged once for both engines: document 01's "The tape a file is" and "Answer numbers". The next entry and the next state of its
 // file are made by `following`.
 // Decoding happens only in its turn: a request is first judged as if a bad code were met, and only where that gives 11 is anything decoded.
+use answering::facts;
+use answering::judge;
+use answering::past_code;
 use directory::Entry;
-use directory::is_marked;
-use directory::is_protected;
 use finding::Seen;
 use finding::find_in;
 use finding::lent_in;
@@ -11,24 +12,20 @@ use following::next;
 use following::start;
 use geometry::Geometry;
 use geometry::Place;
-use geometry::lay;
+use moving::lay;
 use packing::Led;
 use packing::goes_to_byte;
 use packing::goes_to_sector;
-use packing::read_behind;
-use packing::skip_behind;
-use packing::walk;
 use requests::Answer;
-use requests::Facts;
 use requests::Refusal;
 use requests::Request;
-use requests::judge;
-use requests::judge_granule_look;
 use requests::number;
-use requests::past_code;
 use sessions::OpenFile;
 use steps::Verdict;
 use straight::encode_given;
+use walking::read_behind;
+use walking::skip_behind;
+use walking::walk;
 ghost use mathlib.Core.Path.{_≡_};
 ghost use mathlib.Core.Bool.{true, false, _&&_};
 ghost use Prim.Native.Nat.{_+_, _*_, _≤_};
@@ -38,54 +35,14 @@ ghost use lib.Seq.{sets};
 ghost use Rattle.geometry.specs.Bytes as Bytes;
 ghost use Rattle.geometry.specs.Sizes.{blocked, random};
 ghost use Rattle.geometry.specs.Sizes as Sizes;
-ghost use Rattle.directory.specs.Entries.{entryAt, isKind};
+ghost use Rattle.directory.specs.Entries.{isKind};
 ghost use Rattle.sessions.specs.Session.{extent};
-ghost use Rattle.steps.specs.Look.{bufferedLookAnswer};
-ghost use Rattle.storing.specs.Stored.{lentSession};
 ghost use Rattle.finding.specs.Lent.{seenIn};
 ghost use Rattle.straight.specs.Straight.{codeGiven};
-ghost use Rattle.following.specs.Following.{verdictFrom};
 ghost use Rattle.judging.specs.Judged.{sceneSeen, judgedIn, bufferIn};
-ghost use Rattle.judging.specs.Looks.{lookedBy};
-ghost use Rattle.steps.specs.Verdict.{seenBytes, bufferNext, answerOf, verdictOf};
+ghost use Rattle.steps.specs.Verdict.{seenBytes};
 ghost use Rattle.steps.proofs.Lawful.{Lawful};
-ghost use Rattle.judging.specs.Turns.{factsBut, Ready, Stands, endLed, hereLed, hereInto, turnLed, turnInto, TurnOf, writtenAt, Reaches, carriedTo, carriedInto, CarryOf, Fixed, recordIn, blockedBytes, sceneOf};
-
-// ---- what a request is judged by
-
-// What the tests ask about.
-fn facts(
-    bad: bool,
-    legal: bool,
-    files: u32,
-    e: Entry,
-    f: OpenFile,
-    given: usize,
-    code: usize,
-    buffer: usize,
-) -> Facts
-    ensures { λ r. ⌜ r ≡ factsBut bad legal files e f given code buffer ⌝ }
-{
-    let here = f.here;
-    Facts {
-        legal: legal,
-        files: files,
-        kind: e.kind,
-        length: e.length,
-        sectors: e.sectors,
-        protected: is_protected(e),
-        opened: f.used,
-        position: f.position,
-        count: e.count,
-        marked: is_marked(e),
-        beyond: f.beyond,
-        here: here,
-        bad: bad,
-        given: given,
-        code: code,
-        buffer: buffer,
-    }
-}
+ghost use Rattle.judging.specs.Turns.{Ready, Stands, endLed, hereLed, hereInto, turnLed, turnInto, TurnOf, writtenAt, Reaches, carriedTo, carriedInto, CarryOf, Fixed, recordIn, blockedBytes, sceneOf, Ruled};
 
 // ---- decoding and copying
 
@@ -269,13 +226,8 @@ fn lawful_ruling(
     buffer: &mut [u8],
 ) -> Ruling
     requires { ⌜ (Lawful e f) × (length (now bytes) ≡ Sizes.sector * e .sectors) ⌝ }
-    ensures { λ r. ⌜ (r .answer ≡ answerOf true files (length (now (buffer .entry))) code q
-        (sceneOf i e f (seenBytes e f (now (bytes .entry)) held (now (over .entry))) (now (given .entry))))
-        × (verdictFrom (r .answer) q i e f (r .place) ≡ verdictOf true files (length (now (buffer .entry))) code q
-        (sceneOf i e f (seenBytes e f (now (bytes .entry)) held (now (over .entry))) (now (given .entry))))
-        × (now (buffer .exit) ≡ bufferNext (answerOf true files (length (now (buffer .entry))) code q
-        (sceneOf i e f (seenBytes e f (now (bytes .entry)) held (now (over .entry))) (now (given .entry)))) q
-        (sceneOf i e f (seenBytes e f (now (bytes .entry)) held (now (over .entry))) (now (given .entry))) (now (buffer .entry))) ⌝ }
+    ensures { λ r. ⌜ Ruled true files code q (sceneOf i e f (seenBytes e f (now (bytes .entry)) held (now (over .entry))) (now (given .entry)))
+        (now (buffer .entry)) (r .answer) (r .place) (now (buffer .exit)) ⌝ }
 {
     let known = facts(true, true, files, e, f, given.len(), code, buffer.len());
     let first = judge(q, known);
@@ -319,11 +271,8 @@ fn ruling_on(
     buffer: &mut [u8],
 ) -> Ruling
     requires { ⌜ Stands (now image) (seen .lawful) (seen .entry) (seen .file) ⌝ }
-    ensures { λ r. ⌜ (r .answer ≡ answerOf (seen .lawful) (seen .opened) (length (now (buffer .entry))) code q (sceneSeen (now (image .entry)) seen (now (over .entry)) i q (now (given .entry))))
-        × (verdictFrom (r .answer) q i (seen .entry) (seen .file) (r .place)
-        ≡ verdictOf (seen .lawful) (seen .opened) (length (now (buffer .entry))) code q (sceneSeen (now (image .entry)) seen (now (over .entry)) i q (now (given .entry))))
-        × (now (buffer .exit) ≡ bufferNext (answerOf (seen .lawful) (seen .opened) (length (now (buffer .entry))) code q (sceneSeen (now (image .entry)) seen (now (over .entry)) i q (now (given .entry)))) q
-        (sceneSeen (now (image .entry)) seen (now (over .entry)) i q (now (given .entry))) (now (buffer .entry))) ⌝ }
+    ensures { λ r. ⌜ Ruled (seen .lawful) (seen .opened) code q (sceneSeen (now (image .entry)) seen (now (over .entry)) i q (now (given .entry)))
+        (now (buffer .entry)) (r .answer) (r .place) (now (buffer .exit)) ⌝ }
 {
     if !seen.lawful {
         return Ruling {
@@ -395,33 +344,4 @@ pub fn verdict_in(
         seen: seen,
         size: size,
     }
-}
-
-// ---- looks
-
-// The answer to a look, and the entry looked at.
-pub struct Looked {
-    pub answer: Answer,
-    pub entry: Entry,
-}
-
-// A look at granule g of what is seen of an entry.
-fn look_seen(seen: Seen, g: u32) -> Looked
-    ensures { λ r. ⌜ r ≡ lookedBy seen g ⌝ }
-{
-    let e = seen.entry;
-    let f = seen.file;
-    let known = facts(false, seen.lawful, seen.opened, e, f, 0, 0, 0);
-    Looked {
-        answer: judge_granule_look(known, g),
-        entry: e,
-    }
-}
-
-// A look at granule g of entry i of the session that the lent bytes are.
-pub fn look_in(image: &[u8], session: &[u8], i: usize, g: u32) -> Looked
-    ensures { λ r. ⌜ (r .answer ≡ bufferedLookAnswer (now (image .entry)) (lentSession (now (session .entry))) i g)
-        × (r .entry ≡ entryAt (lentSession (now (session .entry)) .table) i) ⌝ }
-{
-    look_seen(find_in(image, session, i), g)
 }

@@ -1,13 +1,13 @@
 // Entries laid in a table in lent bytes, of 20 bytes each or of 22: one entry, the count and flags of one, and a whole table in another width.
 use directory::Entry;
 use directory::entry_bytes;
-use geometry::lay;
-use geometry::turned;
+use moving::lay;
+use moving::turned;
 use tables::Width;
 use tables::entry_in;
 use tables::has_rows;
 ghost use mathlib.Core.Path.{_≡_};
-ghost use mathlib.Core.List.{_++_};
+ghost use mathlib.Core.List.{[], _∷_, _++_};
 ghost use Prim.Native.Nat.{_*_, _≤_};
 ghost use lib.ListN.{length};
 ghost use Rattle.geometry.specs.Bytes as Bytes;
@@ -16,7 +16,23 @@ ghost use Rattle.tables.specs.Tables.{Wide, entryOf, countOf, entriesIn, layEnt
 
 // ---- an entry
 
-// A name and seven words, as 22 bytes. Words are turned, so that those which were read and turned are laid as they were read.
+// The two bytes of a word, the high one first. The word is turned, so that one which was read and turned is laid as it was read.
+struct Pair {
+    high: u8,
+    low: u8,
+}
+
+fn two_bytes(x: u16) -> Pair
+    ensures { λ r. ⌜ (r .high ∷ r .low ∷ []) ≡ Bytes.word x ⌝ }
+{
+    let t = turned(x);
+    Pair {
+        high: (t % 256) as u8,
+        low: (t / 256) as u8,
+    }
+}
+
+// A name and seven words, as 22 bytes.
 fn twenty_two_bytes(
     name: [u8; 8],
     kind: u16,
@@ -29,13 +45,13 @@ fn twenty_two_bytes(
 ) -> [u8; 22]
     ensures { λ r. ⌜ r ≡ name ++ (Bytes.word kind ++ (Bytes.word length ++ (Bytes.word first ++ (Bytes.word sectors ++ (Bytes.word high ++ (Bytes.word low ++ Bytes.word flags)))))) ⌝ }
 {
-    let k = turned(kind);
-    let l = turned(length);
-    let f = turned(first);
-    let s = turned(sectors);
-    let h = turned(high);
-    let w = turned(low);
-    let g = turned(flags);
+    let k = two_bytes(kind);
+    let l = two_bytes(length);
+    let f = two_bytes(first);
+    let s = two_bytes(sectors);
+    let h = two_bytes(high);
+    let w = two_bytes(low);
+    let g = two_bytes(flags);
     [
         name[0],
         name[1],
@@ -45,20 +61,20 @@ fn twenty_two_bytes(
         name[5],
         name[6],
         name[7],
-        (k % 256) as u8,
-        (k / 256) as u8,
-        (l % 256) as u8,
-        (l / 256) as u8,
-        (f % 256) as u8,
-        (f / 256) as u8,
-        (s % 256) as u8,
-        (s / 256) as u8,
-        (h % 256) as u8,
-        (h / 256) as u8,
-        (w % 256) as u8,
-        (w / 256) as u8,
-        (g % 256) as u8,
-        (g / 256) as u8,
+        k.high,
+        k.low,
+        l.high,
+        l.low,
+        f.high,
+        f.low,
+        s.high,
+        s.low,
+        h.high,
+        h.low,
+        w.high,
+        w.low,
+        g.high,
+        g.low,
     ]
 }
 

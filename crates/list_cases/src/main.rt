@@ -1,7 +1,7 @@
 // Lists each image of a file of cases, which its first argument names: a case is a length of four bytes, high byte first, and that
 // many bytes. What it must print is what the second program, written from document 01 alone, says of each image.
-use geometry::word_at;
 use libc::STDOUT_FILENO;
+use moving::word_at;
 
 // Prints the listing of an image. A listing has at most 1,596 bytes (`short`, in listing's proofs).
 fn print_listing(image: &[u8]) {

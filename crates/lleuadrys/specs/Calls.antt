@@ -1,17 +1,12 @@
 -- What each call from C answers and leaves in what was lent. Definitions only.
 use mathlib.Core.Path.{_≡_}
-use mathlib.Core.Bool.{true, false}
 use mathlib.Core.List.{List}
 use Prim.Native.Nat.{ℕ, _+_, _*_}
-use lib.Dec.{eqb}
-use lib.ListN.{length}
 use Rattle.requests.specs.Numbers.{numberOf}
 use Rattle.requests.specs.declared.Asked.{Asked}
 use Rattle.requests.specs.declared.Asked.the-variants.{For, Unknown}
-use Rattle.mounting.specs.Mounting.{plainMount}
 use Rattle.steps.specs.Edit.{Edited}
 use Rattle.steps.specs.Step.{After}
-use Rattle.storing.specs.Stored.{sizeOf, hasBuffers, layStart}
 use Rattle.looking.specs.Looking.{lookAnswerIn}
 use Rattle.engines.specs.Engines as Engines
 use Rattle.numbering.specs.Codes.{unknownNumber}
@@ -36,14 +31,6 @@ requested image b i Unknown given buffer = left (unknownNumber (lookAnswerIn ima
 -- what a call of the RAD Editor hands back of an edit: its answer as a number, and what it leaves in the image and the session's bytes
 abbrev pub Edits : Edited (List ℕ) → ℕ → List ℕ → List ℕ → Type 0
 Edits w n image session = (n ≡ numberOf (w .answer)) × (image ≡ w .image) × (session ≡ w .session)
-
--- mounting: 12 where the lent bytes are not as many as a session takes
-unfoldable pub mountNumber : List ℕ → List ℕ → ℕ
-mountNumber image b = elim (eqb (length b) (sizeOf (hasBuffers b))) [ true ↦ numberOf (plainMount image .answer) | false ↦ 12 ]
-
--- the session that mounting hands out; "A refused mounting hands out a table with no used entry and nothing open", and says so
-unfoldable pub mountBytes : List ℕ → List ℕ → List ℕ
-mountBytes image b = layStart b (plainMount image .session .says) (plainMount image .session .table)
 
 -- 2.0.0, as one number
 unfoldable pub version : ℕ

@@ -1,18 +1,16 @@
 // The calls from C: both engines on a lent image, with the session in lent bytes, whose number says which engine's they are. include/lleuadrys.h has the
 // declarations.
+use calling::look_size;
+use calling::mount;
+use calling::position;
 use editing::edit;
-use finding::spot_in;
-use looking::look;
 use looking::look_answer;
-use mounting::mounts;
-use numbering::tell;
 use numbering::unknown;
 use requests::Asked;
 use requests::Edit;
 use requests::by_code;
 use requests::number;
 use storing::Form;
-use storing::put_start;
 use telling::field_in;
 use telling::find_named;
 use telling::put_words;
@@ -32,8 +30,9 @@ ghost use Rattle.requests.specs.declared.Edit.the-variants.{Add, Delete};
 ghost use Rattle.editing.specs.Editing.{editedIn};
 ghost use Rattle.looking.specs.Looking.{lookIn, lookPlace};
 ghost use Rattle.telling.specs.Told.{found, fieldIn, wordsOf};
+ghost use Rattle.calling.specs.Mounted.{mountNumber, mountBytes};
 ghost use Rattle.numbering.specs.Codes.{standing, recordAt, codeSize};
-ghost use Rattle.lleuadrys.specs.Calls.{left, requested, Edits, mountNumber, mountBytes, version};
+ghost use Rattle.lleuadrys.specs.Calls.{left, requested, Edits, version};
 
 // ---- the calls on a session
 
@@ -59,14 +58,7 @@ pub extern "C" fn lleuadrys_mount(image: &[u8], session: &mut [u8]) -> u16
     ensures { λ r. ⌜ (r ≡ mountNumber (now (image .entry)) (now (session .entry)))
         × (now (session .exit) ≡ mountBytes (now (image .entry)) (now (session .entry))) ⌝ }
 {
-    let n = session.len();
-    if (n == Form::SESSION) | (n == Form::BUFFERED) {
-        let good = mounts(image);
-        put_start(session, image, good);
-        if good { 0 } else { 11 }
-    } else {
-        12
-    }
+    mount(image, session)
 }
 
 // A request by its code on that entry; its number.
@@ -101,7 +93,7 @@ pub extern "C" fn lleuadrys_look(
     ensures { λ r. ⌜ (r ≡ length (lookIn (now (image .entry)) (now (session .entry)) entry granule))
         × (now (at .exit) ≡ lookPlace (now (image .entry)) (now (session .entry)) entry granule (now (at .entry))) ⌝ }
 {
-    look(image, session, entry, granule, at).len()
+    look_size(image, session, entry, granule, at)
 }
 
 // Where an entry's file stands: 0 not open, 1 open, 2 open and beyond the mark; its record goes into at.
@@ -110,7 +102,7 @@ pub extern "C" fn lleuadrys_position(session: &[u8], entry: usize, at: &mut u32)
     ensures { λ r. ⌜ (r ≡ standing (spotOf (bare (lentSession (now (session .entry)))) entry))
         × (now (at .exit) ≡ recordAt (spotOf (bare (lentSession (now (session .entry)))) entry) (now (at .entry))) ⌝ }
 {
-    tell(spot_in(session, entry), at)
+    position(session, entry, at)
 }
 
 // The entry of that name in the session's table: 0, and its number goes into at; 8 where none has it, 12 where the bytes are no session.

@@ -1,8 +1,11 @@
 // A granule shown in place in the image: document 01's "Where a record lies", for both engines, on a session in lent bytes.
+use answering::facts;
+use answering::judge_granule_look;
 use directory::Entry;
+use finding::Seen;
+use finding::find_in;
 use geometry::Geometry;
-use geometry::part;
-use judging::look_in;
+use moving::part;
 use requests::Answer;
 use requests::number;
 ghost use mathlib.Core.Path.{_≡_};
@@ -10,7 +13,38 @@ ghost use Prim.Native.Nat.{_+_, _*_};
 ghost use Rattle.geometry.specs.Places.{placeOf, byteOf};
 ghost use Rattle.geometry.specs.Sizes.{random};
 ghost use Rattle.geometry.specs.Sizes as Sizes;
+ghost use Rattle.directory.specs.Entries.{entryAt};
+ghost use Rattle.steps.specs.Look.{bufferedLookAnswer};
+ghost use Rattle.storing.specs.Stored.{lentSession};
+ghost use Rattle.looking.specs.Looks.{lookedBy};
 ghost use Rattle.looking.specs.Looking.{lookIn, lookAnswerIn, lookPlace};
+
+// The answer to a look, and the entry looked at.
+struct Looked {
+    answer: Answer,
+    entry: Entry,
+}
+
+// A look at granule g of what is seen of an entry.
+fn look_seen(seen: Seen, g: u32) -> Looked
+    ensures { λ r. ⌜ r ≡ lookedBy seen g ⌝ }
+{
+    let e = seen.entry;
+    let f = seen.file;
+    let known = facts(false, seen.lawful, seen.opened, e, f, 0, 0, 0);
+    Looked {
+        answer: judge_granule_look(known, g),
+        entry: e,
+    }
+}
+
+// A look at granule g of entry i of the session that the lent bytes are.
+fn look_in(image: &[u8], session: &[u8], i: usize, g: u32) -> Looked
+    ensures { λ r. ⌜ (r .answer ≡ bufferedLookAnswer (now (image .entry)) (lentSession (now (session .entry))) i g)
+        × (r .entry ≡ entryAt (lentSession (now (session .entry)) .table) i) ⌝ }
+{
+    look_seen(find_in(image, session, i), g)
+}
 
 // Where granule g of an entry begins in the image.
 pub fn granule_at(e: Entry, g: u32) -> usize

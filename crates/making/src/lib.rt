@@ -1,6 +1,6 @@
 // An image with no files, made in bytes that are lent.
 use geometry::Geometry;
-use geometry::fill;
+use moving::fill;
 ghost use mathlib.Core.Path.{_≡_};
 ghost use Rattle.geometry.specs.Sizes.{lawfulLength};
 ghost use Rattle.making.specs.Making.{emptied};

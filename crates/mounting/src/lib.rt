@@ -22,8 +22,8 @@ fn count_decodes(image: &[u8], e: Entry) -> bool
     }
     let at = Geometry::SECTOR * (e.first as usize);
     let n = Geometry::SECTOR * (e.sectors as usize);
-    let bytes = geometry::part(image, at, n);
-    match packing::walk(bytes, e.sectors, e.length, e.count) {
+    let bytes = moving::part(image, at, n);
+    match walking::walk(bytes, e.sectors, e.length, e.count) {
         Led::To(_) => true,
         Led::Lost(_) => false,
     }

@@ -1,6 +1,6 @@
 // What C reads as numbers, where Rattle has enums: the answer to a code that names no request, where a file stands, the size of a code.
 use decoding::Coded;
-use geometry::least;
+use moving::least;
 use requests::Answer;
 use requests::number;
 use sessions::Spot;

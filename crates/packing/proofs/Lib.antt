@@ -1,6 +1,4 @@
-pub mod Overlaid
 pub mod One
-pub mod Starts
 pub mod Walks
 pub mod Placed
 pub mod Table

@@ -1,11 +1,12 @@
 // Plays a script of requests on an image, with one of the two engines: play plain|buffered IMAGE SCRIPT BYTES OUT. docs/PLAY.md says what
 // these files hold and what is printed.
 use arguments::complain;
-use arguments::more;
 use arguments::open_read;
 use arguments::read_image;
+use arguments::readable;
 use arguments::save;
-use geometry::same;
+use arguments::says;
+use arguments::writable;
 use libc::STDERR_FILENO;
 use storing::Form;
 
@@ -23,37 +24,11 @@ const OUT: usize = 5;
 // A proved loop has to end, so rows are counted up to a number that no script has.
 const MOST: u32 = 4294967295;
 
-// Whether the file that argument i names can be read. If not, that is told.
-fn readable(i: usize) -> bool {
-    let fd = open_read(i);
-    let got = more(fd);
-    libc::close(fd);
-    if got < 0 {
-        complain(b"cannot read ", i);
-        return false;
-    }
-    true
-}
-
-// Whether the file that argument i names can be written, of which not a byte changes. If not, that is told.
-fn writable(i: usize) -> bool {
-    let mut path = io::buffer();
-    let n = os::arg(i, &mut path);
-    let old = os::open_append(&path[..n]);
-    let fd = if old < 0 { os::create(&path[..n]) } else { old };
-    if fd < 0 {
-        complain(b"cannot write ", i);
-        return false;
-    }
-    libc::close(fd);
-    true
-}
-
 // Whether every row of the script is in order. If not, that is told.
 fn in_order() -> bool {
     let script = open_read(SCRIPT);
     let bytes = open_read(BYTES);
-    let ok = play_io::test(script, bytes, MOST);
+    let ok = row_io::test(script, bytes, MOST);
     libc::close(script);
     libc::close(bytes);
     ok
@@ -109,11 +84,9 @@ fn play_buffered(room: &mut [u8]) {
 
 // Plays with the engine that is named.
 fn play_by_name(room: &mut [u8]) {
-    let mut word = io::buffer();
-    let n = os::arg(ENGINE, &mut word);
-    if same(&word[..n], b"plain") {
+    if says(ENGINE, b"plain") {
         play_plain(room);
-    } else if same(&word[..n], b"buffered") {
+    } else if says(ENGINE, b"buffered") {
         play_buffered(room);
     } else {
         complain(b"no such engine: ", ENGINE);

@@ -17,7 +17,7 @@ use Rattle.requests.specs.declared.Answer.the-variants.{Done, Met, Refused}
 use Rattle.requests.specs.declared.Edit.the-variants.{Add, Delete}
 use Rattle.sessions.specs.declared.BufferedSession.{BufferedSession}
 use Rattle.sessions.specs.Session.{bare}
-use Rattle.steps.specs.Edit.{toldOf, toldBy, editedNumber, plainEdit, bufferedEdit}
+use Rattle.steps.specs.Edit.{toldOf, toldBy, editedNumber, editBy}
 use Rattle.storing.specs.Stored.{hasBuffers, isSession, unlawfulEntry, unlawful, sessionIn}
 use Rattle.editing.specs.Editing.{lentEdited, editedIn}
 
@@ -52,13 +52,13 @@ told-none (Refused x) t = refl
 
 module _ (image b : List ℕ) (i : ℕ) where
   pub adds-most : (k l n : ℕ) (name : List ℕ) → getD (editedIn image b i (Add k l n) name .told) 0 0 ≤ entries
-  unfolding editedIn lentEdited plainEdit bufferedEdit editedNumber bare
+  unfolding editedIn lentEdited editBy editedNumber bare
   adds-most k l n name = either (hasBuffers b)
       (λ (h : hasBuffers b ≡ true). rw (h, editedIn) (told-most _ k l n _ (free-most true b)))
       (λ (h : hasBuffers b ≡ false). rw (h, editedIn) (told-most _ k l n _ (free-most false b)))
 
   pub deletes-none : (name : List ℕ) → getD (editedIn image b i Delete name .told) 0 0 ≡ 0
-  unfolding editedIn lentEdited plainEdit bufferedEdit
+  unfolding editedIn lentEdited editBy
   deletes-none name = either (hasBuffers b)
       (λ (h : hasBuffers b ≡ true). rw (h, editedIn) (told-none _ _))
       (λ (h : hasBuffers b ≡ false). rw (h, editedIn) (told-none _ _))

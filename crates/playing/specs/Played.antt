@@ -1,11 +1,9 @@
 -- A row played by the calls from C, on a session in lent bytes of either engine. Definitions only.
 use mathlib.Core.Bool.{true, false}
-use mathlib.Core.List.{List, [], _∷_}
+use mathlib.Core.List.{List, []}
 use Prim.Native.Nat.{ℕ, _%_}
 use lib.Dec.{eqb}
 use lib.ListN.{getD}
-use Rattle.geometry.specs.Bytes.{part}
-use Rattle.directory.specs.Entries.{entryAt, tableOf}
 use Rattle.requests.specs.Codes.{askedFor}
 use Rattle.requests.specs.Numbers.{numberOf}
 use Rattle.requests.specs.declared.Edit.the-variants.{Add, Delete}
@@ -14,13 +12,13 @@ use Rattle.sessions.specs.declared.Spot.{Spot}
 use Rattle.steps.specs.Edit.{Edited}
 use Rattle.editing.specs.Editing.{editedIn}
 use Rattle.storing.specs.Stored.{lentSession}
-use Rattle.looking.specs.Looking.{lookIn}
 use Rattle.lleuadrys.specs.Calls.{Left, left, requested}
 use Rattle.numbering.specs.Codes.{standing, recordAt}
 use Rattle.scripts.specs.declared.Played.{Played}
 use Rattle.scripts.specs.declared.Row.{Row}
 use Rattle.scripts.specs.Script.{isEdit}
 use Rattle.scripts.specs.Sums.{wordsOf, sumOf}
+use Rattle.summing.specs.Moved.{moved}
 
 -- what is said of an edit: its number, the new entry's in place of a sum, and no position
 abbrev pub editSaid : ℕ → ℕ → Played
@@ -48,22 +46,11 @@ module _ (row : Row) (given : List ℕ) where
     | false ↦ asked image session buffer
   ]
 
-  -- the bytes that a request answered 0 moved, by code from 0 on: a read's in the buffer, R as the directory has it, a write's as they were
-  -- given, and what a look shows
-  unfoldable pub movedBy : Left → List (List ℕ)
-  movedBy a =
-      let read : List ℕ = part (a .buffer) 0 (entryAt (tableOf (a .image)) (row .entry) .length) in
-      [] ∷ [] ∷ read ∷ given ∷ read ∷ given ∷ lookIn (a .image) (a .session) (row .entry) (row .granule) ∷ []
-
-  -- any other moved none
-  unfoldable pub moved : Left → List ℕ
-  moved a = elim (eqb (a .number) 0) [ true ↦ getD (movedBy a) (row .code) [] | false ↦ [] ]
-
   -- what is said of a row behind its request
   unfoldable pub saidOf : Left → Played
   saidOf a =
       let spot : Spot = spotOf (bare (lentSession (a .session))) (row .entry) in
-      record { number = a .number; sum = sumOf (wordsOf (moved a)); standing = standing spot; position = recordAt spot 0 }
+      record { number = a .number; sum = sumOf (wordsOf (moved row given a)); standing = standing spot; position = recordAt spot 0 }
 
   unfoldable pub played : List ℕ → List ℕ → List ℕ → Played
   played image session buffer = elim (isEdit (row .code)) [ true ↦ saidOfEdit (edited image session) | false ↦ saidOf (asked image session buffer) ]

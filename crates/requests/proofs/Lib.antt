@@ -4,6 +4,5 @@ pub mod Live
 pub mod Edits
 pub mod InTurn
 pub mod First
-pub mod Behind
 pub mod Codes
 pub mod Numbers

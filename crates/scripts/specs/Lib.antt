@@ -1,3 +1,2 @@
 pub mod Script
 pub mod Sums
-pub mod Said

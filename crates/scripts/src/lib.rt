@@ -1,14 +1,10 @@
-// Scripts of requests: what a row asks for, the sums of words, and what is said. docs/PLAY.md has the form of a script.
-use geometry::word_at;
+// Scripts of requests: what a row asks for, and the sums of words. docs/PLAY.md has the form of a script.
+use moving::word_at;
 use requests::Asked;
 use requests::by_code;
-use texts::put_all;
-use texts::put_number;
 ghost use mathlib.Core.Path.{_≡_};
-ghost use Rattle.texts.specs.Texts.{spaced, Wrote};
 ghost use Rattle.scripts.specs.Script.{isEdit, usedBy, rowIn, rowOf, missingFor};
 ghost use Rattle.scripts.specs.Sums.{sumsOf};
-ghost use Rattle.scripts.specs.Said.{mountLine, standWords, rowLine, imageLine, faultWords, faultLine};
 
 // ---- rows
 
@@ -142,82 +138,4 @@ pub struct Played {
     pub sum: u32, // of the words moved
     pub standing: u16, // its file: 0 not open, 1 open, 2 open and beyond the mark
     pub position: u32, // of its file, if that is open
-}
-
-// Puts what is said of a mounting into out. How many bytes that is.
-pub fn write_mount(out: &mut [u8], number: u16) -> usize
-    ensures { λ r. ⌜ Wrote (now (out .entry)) 0 (mountLine number) (now (out .exit)) r ⌝ }
-{
-    let at = put_all(out, 0, b"MOUNT ");
-    put_number(out, at, number as u32, b'\n')
-}
-
-// Puts where a file stands, and the line's end.
-fn put_stand(out: &mut [u8], at: usize, standing: u16, position: u32) -> usize
-    ensures { λ r. ⌜ Wrote (now (out .entry)) at (spaced (standWords standing position)) (now (out .exit)) r ⌝ }
-{
-    if standing == 0 {
-        return put_all(out, at, b"- -\n");
-    }
-    let a = put_number(out, at, position, b' ');
-    put_number(out, a, (standing - 1) as u32, b'\n')
-}
-
-// Puts what is said of row n into out. How many bytes that is.
-pub fn write_row(out: &mut [u8], n: u32, p: Played) -> usize
-    ensures { λ r. ⌜ Wrote (now (out .entry)) 0 (rowLine n p) (now (out .exit)) r ⌝ }
-{
-    let b = put_number(out, 0, n, b' ');
-    let c = put_number(out, b, p.number as u32, b' ');
-    let d = put_number(out, c, p.sum, b' ');
-    put_stand(out, d, p.standing, p.position)
-}
-
-// Puts what is said of an image into out. How many bytes that is.
-pub fn write_image(out: &mut [u8], s: Sums) -> usize
-    ensures { λ r. ⌜ Wrote (now (out .entry)) 0 (imageLine s) (now (out .exit)) r ⌝ }
-{
-    let a = put_all(out, 0, b"IMAGE ");
-    let b = put_number(out, a, s.words, b' ');
-    put_number(out, b, s.running, b'\n')
-}
-
-// Puts why a row is not in order, and the line's end.
-fn put_fault(out: &mut [u8], at: usize, f: Fault) -> usize
-    ensures { λ r. ⌜ Wrote (now (out .entry)) at (faultWords f) (now (out .exit)) r ⌝ }
-{
-    match f {
-        Fault::Cut(k) => {
-            let a = put_all(out, at, b" cut short at ");
-            let b = put_number(out, a, k, b' ');
-            put_all(out, b, b"of 16 bytes\n")
-        }
-        Fault::Shape => put_all(
-            out,
-            at,
-            b" unknown shape (the last two words are not zero)\n",
-        ),
-        Fault::Code(k) => {
-            let a = put_all(out, at, b" unknown code ");
-            put_number(out, a, k as u32, b'\n')
-        }
-        Fault::Missing(k) => {
-            let a = put_all(out, at, b" bytes are missing for its write of ");
-            put_number(out, a, k as u32, b'\n')
-        }
-        Fault::NoName(k) => {
-            let a = put_all(out, at, b" bytes are missing for its name of ");
-            put_number(out, a, k as u32, b'\n')
-        }
-        Fault::Unread => put_all(out, at, b" cannot be read\n"),
-    }
-}
-
-// Puts what is said of row n, which is not in order, into out. How many bytes that is.
-pub fn write_fault(out: &mut [u8], n: u32, f: Fault) -> usize
-    ensures { λ r. ⌜ Wrote (now (out .entry)) 0 (faultLine n f) (now (out .exit)) r ⌝ }
-{
-    let a = put_all(out, 0, b"ERROR row ");
-    let b = put_number(out, a, n, b':');
-    put_fault(out, b, f)
 }

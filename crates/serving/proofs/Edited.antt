@@ -19,14 +19,14 @@ use Rattle.directory.specs.Stamp.{restamped}
 use Rattle.directory.proofs.Good.{Lies, lies}
 use Rattle.directory.proofs.Table.{length-table}
 use Rattle.tables.specs.Tables.{oneWordWide, layEntry}
-use Rattle.gaps.specs.Made.{fileMade}
+use Rattle.shapes.specs.Made.{fileMade}
 use Rattle.packing.specs.Reading.{walk, decodes, recordsOf}
 use Rattle.sessions.specs.Session.{idle, fileOf, extent, legal}
 use Rattle.sessions.proofs.Legal.{lawful-length, good-table}
 use Rattle.sessions.proofs.Distinct.{file-idle}
 use Rattle.mounting.specs.Mounting.{countedWalk, countDecodes}
-use Rattle.steps.specs.Edit.{editedNumber, editedEntry, toldBy, imageEdited, tableEdited, plainEditAnswer, plainEdit}
-use Rattle.steps.proofs.Edited.{Edits, edits-done, legal-edited}
+use Rattle.steps.specs.Edit.{editedNumber, editedEntry, Edited, editBy, plainEditAnswer, plainEdit}
+use Rattle.steps.proofs.Edited.{Edits, edits-done, edit-either, legal-edited}
 use Rattle.steps.proofs.Inside.{lawful}
 use Rattle.steps.proofs.Laid.{length-laid, table-laid, extent-laid}
 use Rattle.tapes.specs.Edits.{editAnswer, modelNumber, modelMade, modelsEdited, editStep, modelTold}
@@ -39,8 +39,7 @@ use Rattle.serving.proofs.Solo.{shows, Sound}
 use Rattle.serving.proofs.Sought.{edit-number, editing, answer-same, made-shows, told-same}
 use Rattle.serving.proofs.View.{showsAt, view, shows-same, length-view, view-at}
 use Rattle.directory.specs.declared.Entry.{Entry}
-use Rattle.requests.specs.declared.Answer.{Answer}
-use Rattle.requests.specs.declared.Answer.the-variants.{Done, Met, Refused}
+use Rattle.requests.specs.declared.Answer.the-variants.{Done}
 use Rattle.requests.specs.declared.Edit.{Edit}
 use Rattle.sessions.specs.declared.Session.{Session}
 
@@ -162,42 +161,40 @@ module _ (image : List ℕ) (s : Session) (v : Stands image s) (i : ℕ) (x : Ed
   abbrev e : Entry
   e = editedEntry x (sectorsOf image) (s .table) name
 
+  abbrev session : List Entry → Session
+  session table = record { says = s .says; table = table; files = s .files }
+
   pub edit-answer : plainEdit image s i x name .answer ≡ editAnswer ms (editing i x name) image
-  unfolding plainEdit
+  unfolding editBy
   edit-answer = answer-same image s v i name x
 
   pub edit-told : plainEdit image s i x name .told ≡ ifDone (editAnswer ms (editing i x name) image) (modelTold x (modelNumber x ms i))
-  unfolding plainEdit toldBy ifDone
-  edit-told = ap (λ (a : Answer). toldBy a x n) (answer-same image s v i name x) ∙ go (editAnswer ms (editing i x name) image)
-    where
-      go : (a : Answer) → toldBy a x n ≡ ifDone a (modelTold x (modelNumber x ms i))
-      go Done = told-same x n ∙ ap (modelTold x) (edit-number image s (v .many) x i)
-      go (Met y) = refl
-      go (Refused y) = refl
+  unfolding ifDone
+  edit-told =
+      rw (← (answer-same image s v i name x))
+      (edit-either (legal image s) session image s i x name (λ (r : Edited Session). r .told ≡ ifDone (plainEditAnswer image s i x name) (modelTold x (modelNumber x ms i)))
+      (λ h. rw h (told-same x n ∙ ap (modelTold x) (edit-number image s (v .many) x i)))
+      (λ y h. rw h))
+
+  -- what it leaves, where it is done
+  made : plainEditAnswer image s i x name ≡ Done → Edits (sectorsOf image) s n e
+  made h = edits-done image s (v .ok) (v .many) (legal image s) i x name h
 
   pub edit-stands : Stands (plainEdit image s i x name .image) (plainEdit image s i x name .session)
-  unfolding plainEdit plainEditAnswer imageEdited tableEdited
-  edit-stands = go (plainEditAnswer image s i x name) refl
-    where
-      go : (a : Answer) → plainEditAnswer image s i x name ≡ a → Stands (imageEdited a image n e) (record { says = s .says; table = tableEdited a (s .table) n e; files = s .files })
-      go Done h = stands-edited image s v n e (edits-done image s (v .ok) (v .many) (legal image s) i x name h)
-      go (Met y) h = v
-      go (Refused y) h = v
+  edit-stands =
+      edit-either (legal image s) session image s i x name (λ (r : Edited Session). Stands (r .image) (r .session)) (λ h. stands-edited image s v n e (made h)) (λ y h. v)
 
   pub edit-view : view (plainEdit image s i x name .image) (plainEdit image s i x name .session) ≡ editStep ms (editing i x name) image
-  unfolding plainEdit plainEditAnswer imageEdited tableEdited editStep modelsEdited
+  unfolding editStep modelsEdited
   edit-view =
-      go (plainEditAnswer image s i x name) refl
-      ∙ ap (λ (a : Answer). modelsEdited a ms (modelNumber x ms i) (modelMade x ms name image)) (answer-same image s v i name x)
-    where
-      go : (a : Answer) → plainEditAnswer image s i x name ≡ a
-          → view (imageEdited a image n e) (record { says = s .says; table = tableEdited a (s .table) n e; files = s .files }) ≡ modelsEdited a ms (modelNumber x ms i) (modelMade x ms name image)
-      go Done h =
-          view-edited image s v n e (edits-done image s (v .ok) (v .many) (legal image s) i x name h)
-          ∙ ap (λ (m : ℕ). set ms m (shows e idle (extent e image))) (edit-number image s (v .many) x i)
-          ∙ ap (set ms (modelNumber x ms i)) (sym (made-shows image s (v .many) name x))
-      go (Met y) h = refl
-      go (Refused y) h = refl
+      rw (← (answer-same image s v i name x))
+      (edit-either (legal image s) session image s i x name
+      (λ (r : Edited Session). view (r .image) (r .session) ≡ modelsEdited (plainEditAnswer image s i x name) ms (modelNumber x ms i) (modelMade x ms name image))
+      (λ h.
+      rw h (view-edited image s v n e (made h)
+      ∙ ap (λ (m : ℕ). set ms m (shows e idle (extent e image))) (edit-number image s (v .many) x i)
+      ∙ ap (set ms (modelNumber x ms i)) (sym (made-shows image s (v .many) name x))))
+      (λ y h. rw h))
 
 -- ---- a file that is added has no record; a random one has the granules that lie there
 

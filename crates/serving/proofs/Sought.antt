@@ -17,12 +17,12 @@ use Rattle.directory.specs.Entries.{entryAt, freeEntry, isFree, isKind}
 use Rattle.directory.specs.Search.{matches}
 use Rattle.directory.proofs.Table.{getD-any}
 use Rattle.gaps.specs.Gaps.{lowestFree, usedBy, isTaken, lowestGap}
-use Rattle.gaps.specs.Made.{isNamed}
+use Rattle.shapes.specs.Made.{isNamed}
 use Rattle.gaps.proofs.Gaps.{gap-same}
 use Rattle.requests.specs.Judge.{judgeEdit}
 use Rattle.requests.proofs.Edits.{bad-name}
 use Rattle.sessions.specs.Session.{idle, fileOf, extent, legal}
-use Rattle.steps.specs.Edit.{isTakenName, editFacts, editedNumber, editedEntry, toldOf, plainEditAnswer}
+use Rattle.steps.specs.Edit.{isTakenName, editFacts, editedNumber, editedEntry, toldOf, editAnswerBy, plainEditAnswer}
 use Rattle.tapes.specs.Edits.{Editing, ofShape, isNothing, modelNamed, modelHas, modelTaken, modelFree, modelGap, modelEditFacts, editAnswer, modelNumber, modelMade, modelTold}
 use Rattle.tapes.specs.Model.{Model, nothing, shapeOf}
 use Rattle.tapes.specs.Tape.{Shape}
@@ -139,7 +139,7 @@ module _ (image : List ℕ) (s : Session) (v : Stands image s) (i : ℕ) (name :
   delete-facts = rw (v .ok, view-at image s (v .many) i, nothing-at image s (v .many) i, open-at image s (v .ok) i, v .said)
 
   pub answer-same : (x : Edit) → plainEditAnswer image s i x name ≡ editAnswer ms (editing i x name) image
-  unfolding plainEditAnswer editAnswer isNamed
+  unfolding editAnswerBy editAnswer isNamed
   answer-same (Add k l n) =
       either (isNamed name)
       (λ (h : isNamed name ≡ true). ap (judgeEdit (Add k l n)) (add-facts k l n (eqb-true (length name) 8 (and-left (eqb (length name) 8) (isName name) h))))

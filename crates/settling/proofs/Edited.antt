@@ -10,22 +10,22 @@ use lib.Seq.{ext-getD, getD-set-other}
 use Rattle.geometry.specs.Bytes.{part, lay}
 use Rattle.geometry.specs.Lists.{every}
 use Rattle.geometry.specs.Sizes.{sector, entries, sectorsOf}
-use Rattle.geometry.proofs.Bytes.{Outside, outside-same, outside-part}
+use Rattle.geometry.proofs.Bytes.{outside-part}
 use Rattle.geometry.proofs.Places.{lawful-whole, lawful-some}
 use Rattle.geometry.proofs.Tests.{either, both-ways, and-both, every-alike}
 use Rattle.directory.specs.Entries.{entryAt, freeEntry}
 use Rattle.tables.specs.Tables.{oneWordWide, entryOf, layEntry}
 use Rattle.tables.proofs.Laid.{length-entry, row-there}
 use Rattle.tables.proofs.Widths.{rows-there}
-use Rattle.sessions.specs.Session.{isOf, fresh, idle, bare, spotOf, heldGood, legal, bufferedLegal}
+use Rattle.sessions.specs.Session.{isOf, fresh, idle, bare, heldGood, legal, bufferedLegal, typed}
 use Rattle.sessions.proofs.Files.{is-of}
 use Rattle.sessions.proofs.Distinct.{file-not}
 use Rattle.sessions.proofs.Legal.{lawful-length, bare-legal, all-held}
-use Rattle.steps.specs.Edit.{Edited, editedNumber, editedEntry, toldBy, imageEdited, tableEdited, plainEditAnswer, plainEdit, bufferedEditAnswer, bufferedEdit}
+use Rattle.steps.specs.Edit.{Edited, editedNumber, editedEntry, toldBy, imageEdited, tableEdited, editAnswerBy, editBy, plainEditAnswer, plainEdit, bufferedEditAnswer, bufferedEdit}
 use Rattle.steps.specs.Effects.{sectorAt}
 use Rattle.steps.specs.Step.{heldOf}
 use Rattle.steps.proofs.Laid.{length-laid, laid-outside}
-use Rattle.steps.proofs.Edited.{Edits, eight-done, edits-done, legal-edited}
+use Rattle.steps.proofs.Edited.{Edits, edits-done, legal-edited}
 use Rattle.steps.proofs.Standing.{heldAt, bare-at}
 use Rattle.settling.proofs.Settle.{empty, allBack, heldBy, holdOf, settle, back-lay}
 use Rattle.settling.proofs.Kept.{Kept, InStep, holds, hold-at, hold-used, hold-unused, used-entry, entry-room, holds-behind, table-length, typed-entry}
@@ -118,13 +118,19 @@ module _ (image : List ℕ) (s : BufferedSession) (ok : Kept image s) (n : ℕ) 
 
 -- ---- an edit, whatever is asked
 
+-- one that is answered 0
+pub buffered-edits : (image : List ℕ) (s : BufferedSession) → bufferedLegal image s ≡ true → typed s ≡ true → (i : ℕ) (x : Edit) (name : List ℕ)
+    → bufferedEditAnswer image s i x name ≡ Done → Edits (sectorsOf image) (bare s) (editedNumber x (s .table) i) (editedEntry x (sectorsOf image) (s .table) name)
+unfolding bare
+buffered-edits image s ok types i x name d = edits-done image (bare s) (bare-legal image s ok) (table-length s types) (bufferedLegal image s) i x name d
+
 module _ (image : List ℕ) (s : BufferedSession) (ok : Kept image s) (i : ℕ) (x : Edit) (name : List ℕ) where
   same-sectors : sectorsOf (settle image s) ≡ sectorsOf image
   unfolding sectorsOf
   same-sectors = ap (λ (n : ℕ). n / sector) (length-settle image s)
 
   same-edit : bufferedEditAnswer image s i x name ≡ plainEditAnswer (settle image s) (bare s) i x name
-  unfolding bufferedEditAnswer plainEditAnswer
+  unfolding editAnswerBy
   same-edit = rw (ok .isLegal, settled-legal image s ok i, same-sectors)
 
   abbrev n : ℕ
@@ -134,8 +140,7 @@ module _ (image : List ℕ) (s : BufferedSession) (ok : Kept image s) (i : ℕ) 
   e = editedEntry x (sectorsOf image) (s .table) name
 
   found : bufferedEditAnswer image s i x name ≡ Done → Edits (sectorsOf image) (bare s) n e
-  unfolding bufferedEditAnswer bare
-  found d = edits-done image (bare s) (bare-legal image s (ok .isLegal)) (table-length s (ok .isTyped)) (bufferedLegal image s) i x name d
+  found d = buffered-edits image s (ok .isLegal) (ok .isTyped) i x name d
 
   -- an edit answered 0; any other changes nothing
   answer-agrees : (a : Answer) → bufferedEditAnswer image s i x name ≡ a
@@ -149,26 +154,10 @@ module _ (image : List ℕ) (s : BufferedSession) (ok : Kept image s) (i : ℕ) 
   answer-agrees (Refused y) d = record { answer = refl; told = refl; image = refl; session = refl; stays = ok }
 
   pub edit-agrees : EditAgrees (bufferedEdit image s i x name) (plainEdit (settle image s) (bare s) i x name)
-  unfolding bufferedEdit plainEdit bare
+  unfolding editBy bare
   edit-agrees = rw (← same-edit, same-sectors) (answer-agrees (bufferedEditAnswer image s i x name) refl)
 
-module _ (image : List ℕ) (s : BufferedSession) (i : ℕ) (x : Edit) (name : List ℕ) where
-  -- every byte but the 20 of its entry is as it was
-  pub outside-buffered : Outside (bufferedEdit image s i x name .image) image (20 * editedNumber x (s .table) i) 20
-  unfolding bufferedEdit imageEdited bufferedEditAnswer bare
-  outside-buffered = go (bufferedEditAnswer image s i x name) refl
-    where
-      go : (a : Answer) → bufferedEditAnswer image s i x name ≡ a
-          → Outside (imageEdited a image (editedNumber x (s .table) i) (editedEntry x (sectorsOf image) (s .table) name)) image (20 * editedNumber x (s .table) i) 20
-      go Done d = laid-outside image (editedNumber x (s .table) i) _ (eight-done (bufferedLegal image s) (sectorsOf image) (bare s) i x name d)
-      go (Met y) d = outside-same image (20 * editedNumber x (s .table) i) 20
-      go (Refused y) d = outside-same image (20 * editedNumber x (s .table) i) 20
-
-  -- no file is opened or closed, and each holds what it held and stands where it stood
-  pub edit-held : (k : ℕ) → heldOf (bufferedEdit image s i x name .session) k ≡ heldOf s k
-  unfolding bufferedEdit heldOf bare
-  edit-held k = refl
-
-  pub edit-spot : (k : ℕ) → spotOf (bare (bufferedEdit image s i x name .session)) k ≡ spotOf (bare s) k
-  unfolding bufferedEdit spotOf bare
-  edit-spot k = refl
+-- no file is opened or closed, and each holds what it held
+pub edit-held : (image : List ℕ) (s : BufferedSession) (i : ℕ) (x : Edit) (name : List ℕ) (k : ℕ) → heldOf (bufferedEdit image s i x name .session) k ≡ heldOf s k
+unfolding editBy heldOf bare
+edit-held image s i x name k = refl

@@ -26,22 +26,22 @@ use Rattle.directory.proofs.Good.{Lies, lies, used-inside}
 use Rattle.directory.proofs.Grouped.{grouped, used-good, two-free, free-apart}
 use Rattle.tables.specs.Tables.{oneWordWide, layEntry}
 use Rattle.gaps.specs.Gaps.{lowestFree, isTaken, standsFree, lowestGap}
-use Rattle.gaps.specs.Made.{isNamed, shapeGood, fileMade}
+use Rattle.shapes.specs.Made.{isNamed, shapeGood, fileMade}
 use Rattle.gaps.proofs.Gaps.{stands-inside, gap-stands, free-lowest}
 use Rattle.gaps.proofs.Taken.{pairwise-set, gap-extents, gap-extents-back, good-sectors}
-use Rattle.requests.specs.Judge.{judgeEdit}
-use Rattle.requests.proofs.Edits.{Adds, Deletes, done-edits}
+use Rattle.requests.proofs.Edits.{Adds, Deletes, done-edits, never-met}
 use Rattle.sessions.specs.Session.{fileOf, legal}
 use Rattle.sessions.proofs.Legal.{good-table, honest, legal-length}
 use Rattle.sessions.proofs.Distinct.{free-shut}
 use Rattle.sessions.proofs.Kept.{legal-elsewhere}
-use Rattle.steps.proofs.Laid.{length-laid, laid-outside}
-use Rattle.steps.specs.Edit.{isTakenName, editFacts, editedNumber, editedEntry, imageEdited, tableEdited, plainEditAnswer, plainEdit}
+use Rattle.steps.proofs.Laid.{laid-outside}
+use Rattle.steps.specs.Edit.{isTakenName, editFacts, editedNumber, editedEntry, toldOf, toldBy, imageEdited, tableEdited, Edited, editAnswerBy, editBy}
 use Rattle.directory.specs.declared.Entry.{Entry}
 use Rattle.requests.specs.declared.Answer.{Answer}
 use Rattle.requests.specs.declared.Answer.the-variants.{Done, Met, Refused}
 use Rattle.requests.specs.declared.Edit.{Edit}
 use Rattle.requests.specs.declared.Edit.the-variants.{Add, Delete}
+use Rattle.requests.specs.declared.Refusal.{Refusal}
 use Rattle.sessions.specs.declared.Session.{Session}
 
 -- ---- a good table with another entry
@@ -171,15 +171,21 @@ pub record Added (N : ℕ) (t : List Entry) (n : ℕ) (e : Entry) : Type 0 where
   pub clear : standsFree (isTaken t) N (e .sectors) (e .first) ≡ true
   pub lies : Lies N e
 
-module _ (b : Bool) (N : ℕ) (s : Session) (i : ℕ) where
-  name-added : (k l n : ℕ) (name : List ℕ) → Adds (editFacts b N s i (Add k l n) name) → (length name ≡ 8) × (isName name ≡ true)
-  unfolding editFacts isNamed
-  name-added k l n name a =
-      (eqb-true (length name) 8 (and-left (eqb (length name) 8) (isName name) (a .named)), and-right (eqb (length name) 8) (isName name) (a .named))
+name-added : (lawful : Bool) (N : ℕ) (s : Session) (i k l n : ℕ) (name : List ℕ) → Adds (editFacts lawful N s i (Add k l n) name) → (length name ≡ 8) × (isName name ≡ true)
+unfolding editFacts isNamed
+name-added lawful N s i k l n name a =
+    (eqb-true (length name) 8 (and-left (eqb (length name) 8) (isName name) (a .named)), and-right (eqb (length name) 8) (isName name) (a .named))
 
-  pub eight-done : (x : Edit) (name : List ℕ) → judgeEdit x (editFacts b N s i x name) ≡ Done → length (editedEntry x N (s .table) name .name) ≡ 8
-  unfolding editedEntry fileMade
-  eight-done (Add k l n) name h = name-added k l n name (done-edits (Add k l n) _ h) .0
+module _ (lawful : Bool) (image : List ℕ) (s : Session) (i : ℕ) where
+  -- in a legal session alone
+  pub done-legal : (x : Edit) (name : List ℕ) → editAnswerBy lawful image s i x name ≡ Done → lawful ≡ true
+  unfolding editAnswerBy editFacts
+  done-legal (Add k l n) name h = done-edits (Add k l n) _ h .legal
+  done-legal Delete name h = done-edits Delete _ h .legal
+
+  pub eight-done : (x : Edit) (name : List ℕ) → editAnswerBy lawful image s i x name ≡ Done → length (editedEntry x (sectorsOf image) (s .table) name .name) ≡ 8
+  unfolding editAnswerBy editedEntry fileMade
+  eight-done (Add k l n) name h = name-added lawful (sectorsOf image) s i k l n name (done-edits (Add k l n) _ h) .0
   eight-done Delete name h = refl
 
 module _ (image : List ℕ) (s : Session) (ok : legal image s ≡ true) (many : length (s .table) ≡ entries) (b : Bool) (i : ℕ) where
@@ -242,14 +248,14 @@ module _ (image : List ℕ) (s : Session) (ok : legal image s ≡ true) (many : 
       said = honest image s ok i used;
     }
 
-  pub edits-done : (x : Edit) (name : List ℕ) → judgeEdit x (editFacts b N s i x name) ≡ Done → Edits N s (editedNumber x (s .table) i) (editedEntry x N (s .table) name)
-  unfolding editedNumber editedEntry
+  pub edits-done : (x : Edit) (name : List ℕ) → editAnswerBy b image s i x name ≡ Done → Edits N s (editedNumber x (s .table) i) (editedEntry x N (s .table) name)
+  unfolding editAnswerBy editedNumber editedEntry
   edits-done (Add k l n) name h = add-edits k l n name (done-edits (Add k l n) _ h)
   edits-done Delete name h = delete-edits name (done-edits Delete _ h)
 
-  pub added-done : (k l n : ℕ) (name : List ℕ) → judgeEdit (Add k l n) (editFacts b N s i (Add k l n) name) ≡ Done
+  pub added-done : (k l n : ℕ) (name : List ℕ) → editAnswerBy b image s i (Add k l n) name ≡ Done
       → Added N (s .table) (editedNumber (Add k l n) (s .table) i) (editedEntry (Add k l n) N (s .table) name)
-  unfolding editedNumber editedEntry
+  unfolding editAnswerBy editedNumber editedEntry
   added-done k l n name h = add-added k l n name (done-edits (Add k l n) _ h)
 
 -- ---- the session stays legal
@@ -259,34 +265,36 @@ pub legal-edited : (image image′ : List ℕ) (s : Session) (n : ℕ) (e : Entr
 legal-edited image image′ s n e ok h long =
     legal-length image′ image _ long ∙ legal-elsewhere image s ok n (h .shut) e (h .said) (h .good)
 
--- ---- an edit in the plain engine
+-- ---- an edit, in either engine
 
-module _ (image : List ℕ) (s : Session) (i : ℕ) (x : Edit) (name : List ℕ) where
+module _ {S : Type 0} (lawful : Bool) (tabled : List Entry → S) (image : List ℕ) (s : Session) (i : ℕ) (x : Edit) (name : List ℕ) where
   abbrev n : ℕ
   n = editedNumber x (s .table) i
 
   abbrev e : Entry
   e = editedEntry x (sectorsOf image) (s .table) name
 
-  -- every byte but the 20 of its entry is as it was, and so is the length
-  pub outside-edit : Outside (plainEdit image s i x name .image) image (20 * n) 20
-  unfolding plainEdit imageEdited plainEditAnswer
-  outside-edit = go (plainEditAnswer image s i x name) refl
+  -- it is answered 0, and one entry is another; or it is refused, and nothing is
+  pub edit-either : (P : Edited S → Type 0)
+      → (editAnswerBy lawful image s i x name ≡ Done
+      → P (record { answer = Done; told = toldOf x n; image = layEntry oneWordWide entries image n e; session = tabled (set (s .table) n e) }))
+      → ((y : Refusal) → editAnswerBy lawful image s i x name ≡ Refused y → P (record { answer = Refused y; told = []; image = image; session = tabled (s .table) }))
+      → P (editBy lawful tabled image s i x name)
+  unfolding editBy editAnswerBy toldBy imageEdited tableEdited
+  edit-either P done refused = go (editAnswerBy lawful image s i x name) refl
     where
-      go : (a : Answer) → plainEditAnswer image s i x name ≡ a → Outside (imageEdited a image n e) image (20 * n) 20
-      go Done h = laid-outside image n e (eight-done (legal image s) (sectorsOf image) s i x name h)
-      go (Met y) h = outside-same image (20 * n) 20
-      go (Refused y) h = outside-same image (20 * n) 20
+      go : (a : Answer) → editAnswerBy lawful image s i x name ≡ a
+          → P (record { answer = a; told = toldBy a x n; image = imageEdited a image n e; session = tabled (tableEdited a (s .table) n e) })
+      go Done h = done h
+      go (Met y) h = absurd (never-met x _ y h)
+      go (Refused y) h = refused y h
 
-  pub legal-edit : legal image s ≡ true → length (s .table) ≡ entries → legal (plainEdit image s i x name .image) (plainEdit image s i x name .session) ≡ true
-  unfolding plainEdit imageEdited tableEdited plainEditAnswer
-  legal-edit ok many = go (plainEditAnswer image s i x name) refl
-    where
-      go : (a : Answer) → plainEditAnswer image s i x name ≡ a
-          → legal (imageEdited a image n e) (record { says = s .says; table = tableEdited a (s .table) n e; files = s .files }) ≡ true
-      go Done h = legal-edited image (layEntry oneWordWide entries image n e) s n e ok (edits-done image s ok many (legal image s) i x name h) (length-laid image n e)
-      go (Met y) h = ok
-      go (Refused y) h = ok
+  -- every byte but the 20 of its entry is as it was, and so is the length
+  pub outside-edit : Outside (editBy lawful tabled image s i x name .image) image (20 * n) 20
+  outside-edit =
+      edit-either (λ (r : Edited S). Outside (r .image) image (20 * n) 20)
+      (λ h. laid-outside image n e (eight-done lawful image s i x name h))
+      (λ y h. outside-same image (20 * n) 20)
 
 -- ---- the greatest length of any kind
 

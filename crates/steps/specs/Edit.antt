@@ -11,7 +11,7 @@ use Rattle.directory.specs.Entries.{entryAt, freeEntry, isFree}
 use Rattle.directory.specs.Search.{matches}
 use Rattle.tables.specs.Tables.{oneWordWide, layEntry}
 use Rattle.gaps.specs.Gaps.{lowestFree, isTaken, lowestGap}
-use Rattle.gaps.specs.Made.{isNamed, shapeGood, fileMade}
+use Rattle.shapes.specs.Made.{isNamed, shapeGood, fileMade}
 use Rattle.requests.specs.Judge.{judgeEdit, EditFacts}
 use Rattle.sessions.specs.Session.{bare, fileOf, legal, bufferedLegal}
 use Rattle.directory.specs.declared.Entry.{Entry}
@@ -94,33 +94,32 @@ tableEdited Done table n e = set table n e
 tableEdited (Met x) table n e = table
 tableEdited (Refused x) table n e = table
 
-unfoldable pub plainEditAnswer : List ℕ → Session → ℕ → Edit → List ℕ → Answer
-plainEditAnswer image s i x name = judgeEdit x (editFacts (legal image s) (sectorsOf image) s i x name)
+-- the answer, and what an edit leaves: `lawful` says whether the session is legal, `s` is the session without its buffers, `tabled` the session with another table
+unfoldable pub editAnswerBy : Bool → List ℕ → Session → ℕ → Edit → List ℕ → Answer
+editAnswerBy lawful image s i x name = judgeEdit x (editFacts lawful (sectorsOf image) s i x name)
 
-unfoldable pub plainEdit : List ℕ → Session → ℕ → Edit → List ℕ → Edited Session
-plainEdit image s i x name =
-    let a : Answer = plainEditAnswer image s i x name in
+unfoldable pub editBy : {S : Type 0} → Bool → (List Entry → S) → List ℕ → Session → ℕ → Edit → List ℕ → Edited S
+editBy lawful tabled image s i x name =
+    let a : Answer = editAnswerBy lawful image s i x name in
     let n : ℕ = editedNumber x (s .table) i in
     let e : Entry = editedEntry x (sectorsOf image) (s .table) name in
     record {
       answer = a;
       told = toldBy a x n;
       image = imageEdited a image n e;
-      session = record { says = s .says; table = tableEdited a (s .table) n e; files = s .files };
+      session = tabled (tableEdited a (s .table) n e);
     }
 
-unfoldable pub bufferedEditAnswer : List ℕ → BufferedSession → ℕ → Edit → List ℕ → Answer
-bufferedEditAnswer image s i x name = judgeEdit x (editFacts (bufferedLegal image s) (sectorsOf image) (bare s) i x name)
+-- the engines differ in when a session is legal, and in what one holds
+abbrev pub plainEditAnswer : List ℕ → Session → ℕ → Edit → List ℕ → Answer
+plainEditAnswer image s i x name = editAnswerBy (legal image s) image s i x name
+
+abbrev pub plainEdit : List ℕ → Session → ℕ → Edit → List ℕ → Edited Session
+plainEdit image s i x name = editBy (legal image s) (λ table. record { says = s .says; table = table; files = s .files }) image s i x name
+
+abbrev pub bufferedEditAnswer : List ℕ → BufferedSession → ℕ → Edit → List ℕ → Answer
+bufferedEditAnswer image s i x name = editAnswerBy (bufferedLegal image s) image (bare s) i x name
 
 -- no buffer is put back
-unfoldable pub bufferedEdit : List ℕ → BufferedSession → ℕ → Edit → List ℕ → Edited BufferedSession
-bufferedEdit image s i x name =
-    let a : Answer = bufferedEditAnswer image s i x name in
-    let n : ℕ = editedNumber x (s .table) i in
-    let e : Entry = editedEntry x (sectorsOf image) (s .table) name in
-    record {
-      answer = a;
-      told = toldBy a x n;
-      image = imageEdited a image n e;
-      session = record { says = s .says; table = tableEdited a (s .table) n e; files = s .files };
-    }
+abbrev pub bufferedEdit : List ℕ → BufferedSession → ℕ → Edit → List ℕ → Edited BufferedSession
+bufferedEdit image s i x name = editBy (bufferedLegal image s) (λ table. record { says = s .says; table = table; files = s .files }) image (bare s) i x name

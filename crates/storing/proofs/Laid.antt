@@ -1,11 +1,11 @@
 -- What the code that lays a session meets on its way: a state written out byte by byte, sizes, and parts that are there or not.
 use mathlib.Core.Path.{_≡_, refl, sym, ap, _∙_}
 use mathlib.Core.Bool.{Bool, true, false}
-use mathlib.Core.List.{List, [], _∷_, append-assoc}
+use mathlib.Core.List.{List, append-assoc}
 use Prim.Native.Nat.{ℕ, _+_, _*_, _≤_, _<_}
 use native.Mathlib.Omega.{arith}
 use native.Mathlib.Decide.{decLt}
-use lib.ListN.{length, getD, replicate, length-append, length-replicate}
+use lib.ListN.{length, replicate, length-append, length-replicate}
 use borrow.Author.Tests.{lt-ltb, le-ltb, eqb-true}
 use Rattle.geometry.specs.Bytes.{lay}
 use Rattle.geometry.specs.Sizes.{sector, mostOpen}
@@ -15,48 +15,10 @@ use Rattle.sessions.specs.declared.BufferedFile.{BufferedFile}
 use Rattle.sessions.specs.declared.Holding.{Holding}
 use Rattle.sessions.specs.declared.OpenFile.{OpenFile}
 use Rattle.sessions.specs.declared.Saying.{Saying}
-use Rattle.storing.specs.Numbers.{bytesOf, flagOf}
+use Rattle.storing.specs.Numbers.{bytesOf}
 use Rattle.storing.specs.Stored.{fileWidth, heldWidth, filesAt, width, saidWidth, sizeOf, hasBuffers, placeStored, fileStored, noHold, holdStored, heldStored, stateStored, sayingStored, frontStored, layPart, layState, layFresh}
 
 -- ---- bytes written out
-
--- an open-file state from the bytes of its numbers
-pub file-joined : (o : OpenFile) (u y : ℕ) (i p h e : List ℕ)
-    → u ≡ flagOf (o .used) → i ≡ bytesOf 8 (o .entry) → p ≡ bytesOf 4 (o .position) → y ≡ flagOf (o .beyond) → h ≡ placeStored (o .here) → e ≡ placeStored (o .end)
-    → u
-    ∷ getD i 0 0
-    ∷ getD i 1 0
-    ∷ getD i 2 0
-    ∷ getD i 3 0
-    ∷ getD i 4 0
-    ∷ getD i 5 0
-    ∷ getD i 6 0
-    ∷ getD i 7 0
-    ∷ getD p 0 0
-    ∷ getD p 1 0
-    ∷ getD p 2 0
-    ∷ getD p 3 0
-    ∷ y
-    ∷ getD h 0 0
-    ∷ getD h 1 0
-    ∷ getD h 2 0
-    ∷ getD h 3 0
-    ∷ getD h 4 0
-    ∷ getD h 5 0
-    ∷ getD h 6 0
-    ∷ getD h 7 0
-    ∷ getD e 0 0
-    ∷ getD e 1 0
-    ∷ getD e 2 0
-    ∷ getD e 3 0
-    ∷ getD e 4 0
-    ∷ getD e 5 0
-    ∷ getD e 6 0
-    ∷ getD e 7 0
-    ∷ []
-    ≡ fileStored o
-unfolding fileStored placeStored bytesOf
-file-joined o u y i p h e hu hi hp hy hh he = rw (hu, hi, hp, hy, hh, he)
 
 -- ---- sizes
 

@@ -3,7 +3,7 @@ use coding::encode;
 use directory::Entry;
 use geometry::Geometry;
 use geometry::Place;
-use geometry::lay_padded;
+use moving::lay_padded;
 use packing::fits_here;
 use placing::room_behind;
 use sessions::OpenFile;

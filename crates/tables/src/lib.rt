@@ -4,7 +4,7 @@ use directory::Entry;
 use directory::Found;
 use directory::free_entry;
 use geometry::Geometry;
-use geometry::turned;
+use moving::turned;
 use names::is_name;
 use vetting::used_good;
 ghost use mathlib.Core.Path.{_≡_};

@@ -8,7 +8,7 @@ use lib.Dec.{leb, ltb}
 use Rattle.geometry.specs.Lists.{every, firstWith, same}
 use Rattle.geometry.specs.Sizes.{entries, sectorsOf}
 use Rattle.gaps.specs.Gaps.{lowestGap}
-use Rattle.gaps.specs.Made.{isNamed, shapeGood, fileMade}
+use Rattle.shapes.specs.Made.{isNamed, shapeGood, fileMade}
 use Rattle.requests.specs.Judge.{judgeEdit, EditFacts}
 use Rattle.requests.specs.Numbers.{numberOf}
 use Rattle.tapes.specs.Tape.{Shape}

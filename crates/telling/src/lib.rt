@@ -2,8 +2,8 @@
 use directory::Entry;
 use directory::Found;
 use geometry::Geometry;
-use geometry::part;
 use knowing::is_session;
+use moving::part;
 use storing::has_buffers;
 use tables::Width;
 use tables::entry_in;

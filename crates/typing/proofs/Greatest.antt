@@ -6,7 +6,7 @@ use Prim.Native.Nat.{ℕ, _≤_}
 use native.Mathlib.Omega.{arith}
 use lib.Dec.{leb}
 use Rattle.gaps.specs.Gaps.{lowestGap}
-use Rattle.gaps.specs.Made.{shapeGood, fileMade}
+use Rattle.shapes.specs.Made.{shapeGood, fileMade}
 use Rattle.gaps.proofs.Gaps.{gap-is, stands-outside}
 
 pub no-kind : (length sectors : ℕ) → shapeGood 65535 length sectors ≡ false

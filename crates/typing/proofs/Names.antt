@@ -15,7 +15,7 @@ use Rattle.geometry.specs.Sizes.{blank}
 use Rattle.geometry.proofs.Bytes.{length-padded, padded-long}
 use Rattle.geometry.proofs.Tests.{either, not-chosen, and-left, and-right, every-replicate}
 use Rattle.names.specs.Names.{capital, digit, isName, restOfName}
-use Rattle.gaps.specs.Made.{isNamed}
+use Rattle.shapes.specs.Made.{isNamed}
 use Rattle.listing.specs.Listing.{nameText}
 use Rattle.typing.specs.Typing.{isCapital, isLetter, isTypedName, ebcdic, nameOf}
 use Rattle.typing.proofs.Letters.{is-capital, is-letter, no-blank, letter-back}

@@ -14,7 +14,7 @@ use Rattle.directory.specs.Search.{matches, told, find}
 use Rattle.directory.specs.declared.Entry.{Entry}
 use Rattle.directory.specs.declared.Found.the-variants.{Nothing}
 use Rattle.directory.proofs.Find.{found-none}
-use Rattle.gaps.specs.Made.{isNamed}
+use Rattle.shapes.specs.Made.{isNamed}
 use Rattle.typing.specs.Typing.{isTypedName, nameOf}
 use Rattle.typing.proofs.Names.{names-alone}
 

@@ -1,7 +1,7 @@
 // What is typed to describe a file: its name, its kind, a number.
 use geometry::Geometry;
-use geometry::part;
-use geometry::same;
+use moving::part;
+use moving::same;
 use texts::Numeral;
 use texts::number_in;
 use texts::put_all;

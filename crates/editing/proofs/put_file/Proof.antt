@@ -4,7 +4,7 @@ use mathlib.Core.List.{List}
 use Prim.Native.Nat.{ℕ}
 use Rattle.geometry.specs.Sizes.{entries}
 use Rattle.tables.specs.Tables.{oneWordWide, twoWordsWide, layEntry}
-use Rattle.gaps.specs.Made.{fileMade}
+use Rattle.shapes.specs.Made.{fileMade}
 use borrow.Author.Needs.{needs}
 use Rattle.editing.proofs.put_file.Statement.{statement}
 use Rattle.editing.proofs.put_file.Tie as tie

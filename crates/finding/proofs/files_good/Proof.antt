@@ -1,4 +1,4 @@
--- `storing::lawful::files_good` meets its contract: what is done of the states keeps both rules.
+-- `finding::lawful::files_good` meets its contract: what is done of the states keeps both rules.
 use Prim.Native.Nat.{_≤_, _-_, _<_}
 use mathlib.Core.Path.{_≡_, refl, sym, _∙_}
 use mathlib.Core.Bool.{true}

@@ -1,4 +1,4 @@
--- `storing::lawful::first_idle` meets its contract: each state passed is in use.
+-- `finding::lawful::first_idle` meets its contract: each state passed is in use.
 use Prim.Native.Nat.{ℕ, _<_, _≤_, _-_}
 use mathlib.Core.Path.{_≡_, sym, ap, _∙_}
 use mathlib.Core.Bool.{false, not}

@@ -1,4 +1,4 @@
--- `storing::lawful::first_of` meets its contract: no state passed is the entry's.
+-- `finding::lawful::first_of` meets its contract: no state passed is the entry's.
 use Prim.Native.Nat.{ℕ, _<_, _≤_, _-_}
 use mathlib.Core.Path.{_≡_, sym, _∙_}
 use mathlib.Core.Bool.{false}

@@ -1,4 +1,4 @@
--- `storing::lawful::is_of_at` meets its contract: the first byte says whether the state is in use, and the next eight whose it is.
+-- `finding::lawful::is_of_at` meets its contract: the first byte says whether the state is in use, and the next eight whose it is.
 use Rattle.sessions.specs.Session.{isOf}
 use Rattle.storing.specs.Stored.{fileIn}
 use borrow.Author.Needs.{needs}

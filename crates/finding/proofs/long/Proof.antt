@@ -1,4 +1,4 @@
--- `storing::long` meets its contract: each byte counts 256 times the one before it.
+-- `finding::long` meets its contract: each byte counts 256 times the one before it.
 use native.Mathlib.Omega.{arith}
 use Rattle.tables.specs.Numbers.{numberIn}
 use borrow.Author.Needs.{needs}

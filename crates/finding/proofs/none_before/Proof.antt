@@ -1,4 +1,4 @@
--- `storing::lawful::none_before` meets its contract: what is left of the states before it decides.
+-- `finding::lawful::none_before` meets its contract: what is left of the states before it decides.
 use Prim.Native.Nat.{_≤_, _-_}
 use mathlib.Core.Path.{_≡_, refl, sym, ap, _∙_}
 use mathlib.Core.Bool.{not}

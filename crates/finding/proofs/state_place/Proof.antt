@@ -1,4 +1,4 @@
--- `storing::lawful::state_place` meets its contract: of four states, each ends before the fourth does.
+-- `finding::lawful::state_place` meets its contract: of four states, each ends before the fourth does.
 use Prim.Native.Nat.{_*_, _≤_}
 use mathlib.Core.Path.{refl}
 use native.Mathlib.Nat.{mul-le-mul, mul-le-mul-left}

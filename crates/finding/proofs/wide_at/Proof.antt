@@ -1,82 +1,44 @@
--- The bytes that stand there, taken together.
-use Rattle.tables.specs.Numbers.{numberIn}
-use mathlib.Core.Path.{sym, ap, _∙_}
-use Rattle.storing.proofs.Numbers.{written}
+-- The number in the last four bytes, 2^32 times, and that in the first four.
+use Rattle.tables.proofs.Numbers.{eight-fours}
 use borrow.Author.Needs.{needs}
 use Rattle.finding.proofs.wide_at.Statement.{statement}
 use Rattle.finding.proofs.wide_at.Tie as tie
 
-shared-slice-read-wide : tie.Need-shared-slice-read-wide
-shared-slice-read-wide c = search needs
+long-at-requires : tie.Need-long-at-requires
+long-at-requires c κs = search needs
 
-add-wide : tie.Need-add-wide
-add-wide c = search needs
+cast-result : tie.Need-cast-result
+cast-result c = search needs
 
-shared-slice-read-wide-2 : tie.Need-shared-slice-read-wide-2
-shared-slice-read-wide-2 c = search needs
+add-long-at : tie.Need-add-long-at
+add-long-at c = search needs
 
-add-wide-2 : tie.Need-add-wide-2
-add-wide-2 c = search needs
+long-at-requires-2 : tie.Need-long-at-requires-2
+long-at-requires-2 c κs = search needs
 
-shared-slice-read-wide-3 : tie.Need-shared-slice-read-wide-3
-shared-slice-read-wide-3 c = search needs
+cast-result-2 : tie.Need-cast-result-2
+cast-result-2 c = search needs
 
-add-wide-3 : tie.Need-add-wide-3
-add-wide-3 c = search needs
+mul-result : tie.Need-mul-result
+mul-result c = search needs
 
-shared-slice-read-wide-4 : tie.Need-shared-slice-read-wide-4
-shared-slice-read-wide-4 c = search needs
-
-add-wide-4 : tie.Need-add-wide-4
-add-wide-4 c = search needs
-
-shared-slice-read-wide-5 : tie.Need-shared-slice-read-wide-5
-shared-slice-read-wide-5 c = search needs
-
-add-wide-5 : tie.Need-add-wide-5
-add-wide-5 c = search needs
-
-shared-slice-read-wide-6 : tie.Need-shared-slice-read-wide-6
-shared-slice-read-wide-6 c = search needs
-
-add-wide-6 : tie.Need-add-wide-6
-add-wide-6 c = search needs
-
-shared-slice-read-wide-7 : tie.Need-shared-slice-read-wide-7
-shared-slice-read-wide-7 c = search needs
-
-add-wide-7 : tie.Need-add-wide-7
-add-wide-7 c = search needs
-
-shared-slice-read-wide-8 : tie.Need-shared-slice-read-wide-8
-shared-slice-read-wide-8 c = search needs
-
-wide-requires : tie.Need-wide-requires
-wide-requires c κs = search needs
+add-result : tie.Need-add-result
+add-result c = search needs
 
 returns : tie.Need-returns
 returns c =
-    let a = c .before .before .before .before .before .before .before .before .before .before .args in
-    c .wide .ensures ∙ ap numberIn (sym (written (a .b .now) (a .at) 7 (search needs)))
+    let a = c .before .before .before .args in
+    rw (c .before .long-at .ensures, c .long-at2 .ensures) (eight-fours (a .b .now) (a .at) (search needs))
 
 pub wide-at-spec : {M : Type 1} → statement M
 wide-at-spec =
     tie.close
     (tie.spec
-    shared-slice-read-wide
-    add-wide
-    shared-slice-read-wide-2
-    add-wide-2
-    shared-slice-read-wide-3
-    add-wide-3
-    shared-slice-read-wide-4
-    add-wide-4
-    shared-slice-read-wide-5
-    add-wide-5
-    shared-slice-read-wide-6
-    add-wide-6
-    shared-slice-read-wide-7
-    add-wide-7
-    shared-slice-read-wide-8
-    wide-requires
+    long-at-requires
+    cast-result
+    add-long-at
+    long-at-requires-2
+    cast-result-2
+    mul-result
+    add-result
     returns)

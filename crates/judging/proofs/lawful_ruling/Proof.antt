@@ -3,7 +3,7 @@
 use Rattle.judging.proofs.Turns.{is-bad, is-done, good-rules, lost-rules, done-rules, other-rules}
 use Rattle.judging.proofs.Here.{turn-of, carry-of}
 use Rattle.following.proofs.Following.{small}
-use Rattle.judging.specs.Turns.{sceneOf}
+use Rattle.judging.specs.Turns.{Ruled, sceneOf}
 use Rattle.steps.specs.Verdict.{seenBytes}
 use Rattle.requests.proofs.InTurn.{turn}
 use Rattle.requests.proofs.Done.{done-allows}
@@ -41,6 +41,7 @@ same-length : tie.Need-same-length
 same-length c = search needs
 
 returns : tie.Need-returns
+unfolding Ruled
 returns c =
     let a = c .before .before .before .before .before .before .before .before .before .before .before .before .before .before .before .before .args in
     let p = c .before .before .before .before .before .before .before .before .before .before .before .before .before .before .before .before .pre in
@@ -51,6 +52,7 @@ same-length-2 : tie.Need-same-length-2
 same-length-2 c = search needs
 
 returns-2 : tie.Need-returns-2
+unfolding Ruled
 returns-2 c =
     let a = c .before .before .before .before .before .before .before .before .before .before .before .before .before .before .before .args in
     let p = c .before .before .before .before .before .before .before .before .before .before .before .before .before .before .before .pre in
@@ -68,6 +70,7 @@ same-length-3 : tie.Need-same-length-3
 same-length-3 c = search needs
 
 returns-3 : tie.Need-returns-3
+unfolding Ruled
 returns-3 c =
     let a = c .before .before .before .before .before .before .before .before .before .before .before .before .before .args in
     let p = c .before .before .before .before .before .before .before .before .before .before .before .before .before .pre in
@@ -78,6 +81,7 @@ start-requires : tie.Need-start-requires
 start-requires c κs = search needs
 
 returns-4 : tie.Need-returns-4
+unfolding Ruled
 returns-4 c =
     let a = c .before .before .before .before .before .before .before .before .before .before .args in
     let p = c .before .before .before .before .before .before .before .before .before .before .pre in

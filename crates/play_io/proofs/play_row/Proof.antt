@@ -31,14 +31,8 @@ slice-aggregate-write-row c = search needs
 write-row-requires : tie.Need-write-row-requires
 write-row-requires c κs = search needs
 
-slice-aggregate-part : tie.Need-slice-aggregate-part
-slice-aggregate-part c = search needs
-
-part-requires-2 : tie.Need-part-requires-2
-part-requires-2 c κs = search needs
-
-write-all-requires : tie.Need-write-all-requires
-write-all-requires c κs = search needs
+print-line-requires : tie.Need-print-line-requires
+print-line-requires c κs = search needs
 
 same-length : tie.Need-same-length
 same-length c = search needs
@@ -64,9 +58,7 @@ play-row-spec =
     play-row-requires
     slice-aggregate-write-row
     write-row-requires
-    slice-aggregate-part
-    part-requires-2
-    write-all-requires
+    print-line-requires
     same-length
     same-length-2
     same-length-3

@@ -1,4 +1,4 @@
--- `play_io::play_rows` is safe and ends: the number of the row grows to a bound, and the rooms stay.
+-- `play_io::play_rows` is safe and ends: the number of the row grows to a bound, and image and session keep their lengths.
 use mathlib.Core.Path.{_≡_}
 use Prim.Native.Nat.{_-_}
 use lib.ListN.{length}
@@ -7,7 +7,7 @@ use Rattle.play_io.proofs.play_rows.Statement.{statement}
 use Rattle.play_io.proofs.play_rows.Tie as tie
 
 abbrev Inv-loop : tie.InvT-loop
-Inv-loop script bytes most image₀ session₀ given₀ buffer₀ k₀ image session given buffer k = (length image ≡ length image₀) × (length session ≡ length session₀) × (length given ≡ length given₀) × (length buffer ≡ length buffer₀)
+Inv-loop script bytes most image₀ session₀ given₀ buffer₀ k₀ image session given buffer k = (length image ≡ length image₀) × (length session ≡ length session₀)
 
 abbrev μ-loop : tie.MeasureT-loop
 μ-loop script bytes most image₀ session₀ given₀ buffer₀ k₀ image session given buffer k = most - k
@@ -33,12 +33,6 @@ same-length c = search needs
 same-length-2 : tie.Need-same-length-2 Inv-loop μ-loop
 same-length-2 c = search needs
 
-same-length-3 : tie.Need-same-length-3 Inv-loop μ-loop
-same-length-3 c = search needs
-
-same-length-4 : tie.Need-same-length-4 Inv-loop μ-loop
-same-length-4 c = search needs
-
 returns : tie.Need-returns Inv-loop μ-loop
 returns c = search needs
 
@@ -48,17 +42,11 @@ enum-known-n-2 c = search needs
 print-fault-requires : tie.Need-print-fault-requires Inv-loop μ-loop
 print-fault-requires c κs = search needs
 
-same-length-5 : tie.Need-same-length-5 Inv-loop μ-loop
-same-length-5 c = search needs
+same-length-3 : tie.Need-same-length-3 Inv-loop μ-loop
+same-length-3 c = search needs
 
-same-length-6 : tie.Need-same-length-6 Inv-loop μ-loop
-same-length-6 c = search needs
-
-same-length-7 : tie.Need-same-length-7 Inv-loop μ-loop
-same-length-7 c = search needs
-
-same-length-8 : tie.Need-same-length-8 Inv-loop μ-loop
-same-length-8 c = search needs
+same-length-4 : tie.Need-same-length-4 Inv-loop μ-loop
+same-length-4 c = search needs
 
 returns-2 : tie.Need-returns-2 Inv-loop μ-loop
 returns-2 c = search needs
@@ -72,17 +60,11 @@ loop-less c = search needs
 loop-again : tie.Need-loop-again Inv-loop μ-loop
 loop-again c = search needs
 
-same-length-9 : tie.Need-same-length-9 Inv-loop μ-loop
-same-length-9 c = search needs
+same-length-5 : tie.Need-same-length-5 Inv-loop μ-loop
+same-length-5 c = search needs
 
-same-length-10 : tie.Need-same-length-10 Inv-loop μ-loop
-same-length-10 c = search needs
-
-same-length-11 : tie.Need-same-length-11 Inv-loop μ-loop
-same-length-11 c = search needs
-
-same-length-12 : tie.Need-same-length-12 Inv-loop μ-loop
-same-length-12 c = search needs
+same-length-6 : tie.Need-same-length-6 Inv-loop μ-loop
+same-length-6 c = search needs
 
 returns-3 : tie.Need-returns-3 Inv-loop μ-loop
 returns-3 c = search needs
@@ -100,21 +82,15 @@ play-rows-spec =
     enum-told
     same-length
     same-length-2
-    same-length-3
-    same-length-4
     returns
     enum-known-n-2
     print-fault-requires
-    same-length-5
-    same-length-6
-    same-length-7
-    same-length-8
+    same-length-3
+    same-length-4
     returns-2
     add-k
     loop-less
     loop-again
-    same-length-9
-    same-length-10
-    same-length-11
-    same-length-12
+    same-length-5
+    same-length-6
     returns-3)

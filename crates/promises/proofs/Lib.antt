@@ -1,0 +1,7 @@
+pub mod Desk
+pub mod States
+pub mod Buffering
+pub mod Holding
+pub mod Writes
+pub mod Editable
+pub mod Adding

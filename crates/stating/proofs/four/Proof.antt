@@ -1,0 +1,25 @@
+-- The bytes of a number are its remainders by 256.
+use mathlib.Core.Path.{refl}
+use Rattle.storing.specs.Numbers.{bytesOf}
+use borrow.Author.Needs.{needs}
+use Rattle.stating.proofs.four.Statement.{statement}
+use Rattle.stating.proofs.four.Tie as tie
+
+cast-t6 : tie.Need-cast-t6
+cast-t6 c = search needs
+
+cast-t8 : tie.Need-cast-t8
+cast-t8 c = search needs
+
+cast-t10 : tie.Need-cast-t10
+cast-t10 c = search needs
+
+cast-t12 : tie.Need-cast-t12
+cast-t12 c = search needs
+
+returns : tie.Need-returns
+unfolding bytesOf
+returns c = refl
+
+pub four-spec : {M : Type 1} → statement M
+four-spec = tie.close (tie.spec cast-t6 cast-t8 cast-t10 cast-t12 returns)
