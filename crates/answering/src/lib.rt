@@ -13,7 +13,7 @@ use sessions::OpenFile;
 ghost use mathlib.Core.Path.{_≡_};
 ghost use mathlib.Core.List.{[], _∷_};
 ghost use Rattle.requests.specs.Judge.{whether, orElse, firstOf, judge, behindCode, isFull, notLegal, noEntry, notOpen, notSequential, notRandom, oddCount, badSize, badCode, meetsMark, atEnd, noGranule};
-ghost use Rattle.answering.specs.Facts.{factsBut};
+ghost use Rattle.steps.specs.Next.{factsBut};
 ghost use Rattle.requests.specs.declared.Answer.the-variants.{Met, Refused};
 ghost use Rattle.requests.specs.declared.Request.the-variants.{Open, Read, Write, GranuleRead, GranuleWrite, GranuleLook, Position};
 ghost use Rattle.requests.specs.declared.Order.the-variants.{WriteMark, RecordForward, RecordBack, FileForward, FileBack};

@@ -18,11 +18,10 @@ use Rattle.packing.specs.Reading.{overlaid, Got, got, lost, readBehind, ledTo, 
 use Rattle.packing.proofs.One.{Within, told}
 use Rattle.requests.proofs.Done.{Allows}
 use Rattle.requests.proofs.InTurn.{Then}
-use Rattle.steps.specs.Next.{recordHere, fixedAt}
+use Rattle.steps.specs.Next.{recordHere, fixedAt, factsBut}
 use Rattle.steps.specs.Verdict.{seenBytes}
 use Rattle.steps.proofs.Lawful.{Lawful}
 use Rattle.steps.proofs.Compressed.{good-within, here-read}
-use Rattle.answering.specs.Facts.{factsBut}
 use Rattle.judging.specs.Turns.{TurnOf, CarryOf, Ready, Fixed, sight, recordIn, blockedBytes, hereLed, laidFirst, hereInto}
 use Rattle.judging.proofs.Turns.{here-there}
 use Rattle.directory.specs.declared.Entry.{Entry}

@@ -22,12 +22,11 @@ use Rattle.requests.proofs.Done.{Allows, done-allows}
 use Rattle.requests.proofs.InTurn.{isBad, stands, turn, Then, ReadsThen, reads-on}
 use Rattle.requests.proofs.InTurn as InTurn
 use Rattle.mounting.specs.Mounting.{countedWalk}
-use Rattle.steps.specs.Next.{Scene, recordHere, fixedAt, isLost, bytesGot, behindGot, theCounted, theNext, decoding, badIn, endPlace, moved, fileMet, fileDone, intoBuffer}
+use Rattle.steps.specs.Next.{Scene, recordHere, fixedAt, isLost, bytesGot, behindGot, theCounted, theNext, decoding, badIn, endPlace, moved, fileMet, fileDone, intoBuffer, factsBut}
 use Rattle.steps.proofs.Compressed.{end-is}
 use Rattle.steps.specs.Verdict.{entryNext, bufferNext, doneWith, fileWith, verdictOf}
 use Rattle.following.specs.Following.{oneMore, orderFrom, doneFrom, fileFrom, verdictFrom}
 use Rattle.following.proofs.Following.{one-more, entry-from}
-use Rattle.answering.specs.Facts.{factsBut}
 use Rattle.judging.specs.Turns.{sight, endLed, hereLed, laidFirst, hereInto, turnLed, turnInto, isAstray, placeIn, writtenAt, carriedTo, carriedInto}
 use Rattle.geometry.specs.declared.Place.{Place}
 use Rattle.directory.specs.declared.Entry.{Entry}

@@ -6,14 +6,13 @@ use Prim.Native.Nat.{ℕ, _-_}
 use Rattle.directory.specs.Entries.{entryAt}
 use Rattle.requests.specs.Judge.{tests, orElse, firstOf, judge}
 use Rattle.sessions.specs.Session.{bare, openFiles, bufferedLegal}
-use Rattle.steps.specs.Next.{Scene, factsOf}
+use Rattle.steps.specs.Next.{Scene, factsOf, factsBut}
 use Rattle.steps.specs.Step.{bufferedScene, bufferedAnswer}
 use Rattle.steps.specs.Look.{bufferedLookAnswer}
 use Rattle.storing.specs.Stored.{lentSession}
 use Rattle.finding.specs.Lent.{seenOf, seenIn}
 use Rattle.looking.specs.Looks.{lookedBy}
 use Rattle.looking.specs.declared.Looked.{Looked}
-use Rattle.answering.specs.Facts.{factsBut}
 use Rattle.requests.specs.declared.Request.the-variants.{GranuleLook}
 
 look-seen : (l : Bool) (n g : ℕ) (c : Scene) → judge (GranuleLook g) (factsBut false l n (c .entry) (c .file) 0 0 0) ≡ judge (GranuleLook g) (factsOf l n 0 (GranuleLook g) c)

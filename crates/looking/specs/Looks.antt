@@ -3,7 +3,7 @@ use mathlib.Core.Bool.{false}
 use Prim.Native.Nat.{ℕ}
 use Rattle.requests.specs.Judge.{judge}
 use Rattle.finding.specs.declared.Seen.{Seen}
-use Rattle.answering.specs.Facts.{factsBut}
+use Rattle.steps.specs.Next.{factsBut}
 use Rattle.looking.specs.declared.Looked.{Looked}
 use Rattle.requests.specs.declared.Request.the-variants.{GranuleLook}
 

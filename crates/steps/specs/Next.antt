@@ -85,26 +85,30 @@ badIn none c = false
 unfoldable pub codeLength : Entry → List ℕ → ℕ
 codeLength e given = elim (isKind compressed e && leb (length given) (e .length)) [ true ↦ length (codeOf (e .length) given) | false ↦ 0 ]
 
--- `files` are open; `buffer` is the size of the buffer that the caller lends, and `code` the length of the code of the bytes given
-abbrev pub factsWith : Bool → ℕ → ℕ → ℕ → Request → Scene → Facts
-factsWith legal files buffer code q c = record {
+-- what the tests of a request ask about, of an entry and its file's state: `bad` says whether a code that it decodes is bad; `files` are open; `given` is
+-- how many bytes the caller gives, `code` the length of their code, and `buffer` the size of the buffer that the caller lends
+abbrev pub factsBut : Bool → Bool → ℕ → Entry → OpenFile → ℕ → ℕ → ℕ → Facts
+factsBut bad legal files e f given code buffer = record {
   legal = legal;
   files = files;
-  kind = c .entry .kind;
-  length = c .entry .length;
-  sectors = c .entry .sectors;
-  protected = isProtected (c .entry);
-  opened = c .file .used;
-  position = c .file .position;
-  count = c .entry .count;
-  marked = isMarked (c .entry);
-  beyond = c .file .beyond;
-  here = c .file .here;
-  bad = badIn (decoding q) c;
-  given = length (c .given);
+  kind = e .kind;
+  length = e .length;
+  sectors = e .sectors;
+  protected = isProtected e;
+  opened = f .used;
+  position = f .position;
+  count = e .count;
+  marked = isMarked e;
+  beyond = f .beyond;
+  here = f .here;
+  bad = bad;
+  given = given;
   code = code;
   buffer = buffer;
 }
+
+abbrev pub factsWith : Bool → ℕ → ℕ → ℕ → Request → Scene → Facts
+factsWith legal files buffer code q c = factsBut (badIn (decoding q) c) legal files (c .entry) (c .file) (length (c .given)) code buffer
 
 unfoldable pub factsOf : Bool → ℕ → ℕ → Request → Scene → Facts
 factsOf legal files buffer q c = factsWith legal files buffer (codeLength (c .entry) (c .given)) q c
