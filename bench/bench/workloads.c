@@ -15,7 +15,8 @@ static size_t size; /* of the image */
 
 /* Of the workload. */
 static const struct side_engine *engine;
-static size_t entry; /* the file that it is about */
+static size_t entry;  /* the file that it is about */
+static size_t blanks; /* between two characters of the record that it encodes */
 
 /* One request without a granule. */
 static unsigned ask(size_t file, enum request code, const uint8_t *given, size_t given_size,
@@ -188,6 +189,35 @@ static uint32_t encode_lines(void)
     return sum;
 }
 
+/* ---- blanks ---- */
+
+/* A record of the greatest length: a character, blanks, a character, blanks .. a character, as far
+   as whole runs fit. A step is one blank. */
+enum { GAPPED = 1000, GAPPED_SIZE = 132 };
+
+static uint8_t gapped[GAPPED_SIZE];
+static size_t gapped_size;
+
+static size_t prepare_gapped(void)
+{
+    const size_t runs = (GAPPED_SIZE - 1) / (blanks + 1);
+    gapped_size = runs * (blanks + 1) + 1;
+    memset(gapped, 0x40, gapped_size);
+    for (size_t i = 0; i < gapped_size; i += blanks + 1)
+        gapped[i] = 0xC1;
+    return GAPPED * runs * blanks;
+}
+
+static uint32_t encode_gapped(void)
+{
+    uint32_t sum = 0;
+    for (size_t i = 0; i < GAPPED; i++) {
+        size_t n = side_encode(gapped, gapped_size, buffer, LONGEST_CODE);
+        sum = mix_read(sum, (unsigned)n, n);
+    }
+    return sum;
+}
+
 /* ---- the listing ---- */
 
 static size_t prepare_list(void)
@@ -348,10 +378,14 @@ static uint32_t count_packed(void)
 
 /* One by each engine, about the same file. */
 #define BOTH(name, about, file, prepare, run)                          \
-    {name "-plain", about, &side_plain, file, prepare, run},           \
-    {name "-buffered", "the same, buffered", &side_buffered, file, prepare, run}
+    {name "-plain", about, &side_plain, file, 0, prepare, run},        \
+    {name "-buffered", "the same, buffered", &side_buffered, file, 0, prepare, run}
 /* One by no engine, about no file. */
-#define ALONE(name, about, prepare, run) {name, about, NULL, 0, prepare, run}
+#define ALONE(name, about, prepare, run) {name, about, NULL, 0, 0, prepare, run}
+/* Encoding a record with so many blanks between its characters. */
+#define BLANKS(n)                                                                      \
+    {"blanks-" #n, "encoding, " #n " blanks between characters: a step is one blank", \
+     NULL, 0, n, prepare_gapped, encode_gapped}
 
 const struct workload workloads[] = {
     BOTH("mount", "mounting 4,096 sectors, 18 full files", 0, prepare_mount, mount),
@@ -371,6 +405,11 @@ const struct workload workloads[] = {
          look_granules),
     ALONE("decode", "decoding 1,000 records of 80", prepare_codes, decode_lines),
     ALONE("encode", "encoding 1,000 records of 80", prepare_codes, encode_lines),
+    BLANKS(2),
+    BLANKS(10),
+    BLANKS(64),
+    BLANKS(127),
+    BLANKS(130),
     ALONE("list", "listing 180 sectors, 18 files", prepare_list, list_image),
     BOTH("refused", "1,000 reads of an open random file (7), 4 files", TABLES, prepare_refused,
          refuse_reads),
@@ -391,5 +430,6 @@ size_t prepare(const struct workload *w)
 {
     engine = w->engine;
     entry = w->entry;
+    blanks = w->blanks;
     return w->prepare();
 }

@@ -1,6 +1,7 @@
 -- The writer's runs: how long they are, that a blank run has blanks alone, and that what the writer keeps of a record is the record without its
 -- trailing blanks. Each by induction on the characters.
 use mathlib.Core.Path.{_≡_, refl, sym, ap₂, _∙_}
+use mathlib.Core.Logic.{_⊎_, inl, inr}
 use mathlib.Core.Bool.{Bool, true, false, not, _&&_, _||_, Bool·beq}
 use mathlib.Core.List.{List, [], _∷_, _++_, append-assoc, append-nil}
 use Prim.Native.Nat.{ℕ, zero, suc, _+_, _-_, _≤_}
@@ -19,6 +20,12 @@ same-self false = refl
 pub same-not : (b : Bool) → Bool·beq (not b) b ≡ false
 same-not true = refl
 same-not false = refl
+
+pub same-or-not : (a b : Bool) → (a ≡ b) ⊎ (a ≡ not b)
+same-or-not true true = inl refl
+same-or-not true false = inr refl
+same-or-not false true = inr refl
+same-or-not false false = inl refl
 
 same-is : (a b : Bool) → Bool·beq a b ≡ true → a ≡ b
 same-is true true h = refl

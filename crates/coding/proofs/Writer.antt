@@ -1,6 +1,6 @@
 -- The writer's definition at a place of the record, as the code goes through it: each law is one turn of a loop, or one way out.
 use mathlib.Core.Path.{_≡_, refl, sym, ap, _∙_}
-use mathlib.Core.Logic.{_≢_}
+use mathlib.Core.Logic.{_≢_, ⊎-elim}
 use mathlib.Core.Bool.{Bool, true, false, not, _||_, true≢false}
 use mathlib.Core.List.{List, [], _∷_, _++_}
 use Prim.Native.Nat.{ℕ, zero, suc, _+_, _-_, _*_, _≤_, _<_, min}
@@ -15,7 +15,7 @@ use borrow.Author.Tests.{ne-eqb}
 use Rattle.geometry.specs.Sizes.{blank}
 use Rattle.coding.specs.Encode.{keeps, inGap, gapAt, runLength, runCode, runsCode}
 use Rattle.geometry.proofs.Bytes.{sets-append}
-use Rattle.coding.proofs.Runs.{same-self, same-not, run-le, gap-blank, gap-first, keeps-le, keeps-front}
+use Rattle.coding.proofs.Runs.{same-self, same-not, same-or-not, run-le, gap-blank, gap-first, gap-second, keeps-le, keeps-front}
 
 -- ---- at the place i of x
 
@@ -45,7 +45,7 @@ module _ (x : List ℕ) (j : ℕ) where
   unfolding inGap
   gap-none n = rw (ne-eqb (getD x j 0) blank n)
 
-  pub gap-two : getD x j 0 ≡ blank → getD x (j + 1) 0 ≡ blank → true ≡ gapAt x j
+  gap-two : getD x j 0 ≡ blank → getD x (j + 1) 0 ≡ blank → true ≡ gapAt x j
   gap-two b d = sym (gap-first (Before x j) (getD x j 0) (drop (j + 1) x) b (next ∙ d))
 
   gap-last : getD x j 0 ≡ blank → getD x (j + 1) 0 ≢ blank → eqb (Before x j) blank ≡ gapAt x j
@@ -149,6 +149,9 @@ module _ (x : List ℕ) (i : ℕ) where
         let size = length-drop i x in
         (omega arith, most .0, omega arith)
 
+    pub none-seen : false ≡ gapAt x i → 0 ≡ min 2 (Length x 127 true i)
+    none-seen e = rw (other 126 true (sym e)) (omega arith)
+
     rest-skip : (p : ℕ) → runsCode p (getD x i 0) (drop (suc i) x) ≡ Rest x (i + suc p)
     rest-skip p = skip p (getD x i 0) (drop (suc i) x) ∙ rw (← drop-cons x i 0, getD-drop, drop-drop, suc-add, add-suc)
 
@@ -160,6 +163,16 @@ module _ (x : List ℕ) (i : ℕ) where
         let en′ : runLength 127 gap (Before x i) (getD x i 0 ∷ drop (suc i) x) ≡ n = rw (drop-cons x i 0) at (sym en) in
         let e1 : n ≡ suc (Length x 126 gap (i + 1)) = en ∙ more 126 gap eg in
         rw (drop-cons x i 0, eg′, en′) (ap (λ (l : List ℕ). runCode gap (take n (getD x i 0 ∷ drop (suc i) x)) ++ l) (rw (e1, sub-one) (rest-skip _)))
+
+-- a blank run of one, and one of two or more, by the character behind its first
+module _ (x : List ℕ) (i : ℕ) (h : i + 1 < length x) where
+  pub one-seen : gapAt x i ≡ true → getD x (i + 1) 0 ≢ blank → 1 ≡ min 2 (Length x 127 true i)
+  one-seen is n = rw (more x i (omega arith) 126 true is, other x (i + 1) h 125 true (sym (gap-none x (i + 1) n))) (omega arith)
+
+  pub two-seen : getD x i 0 ≡ blank → getD x (i + 1) 0 ≡ blank → 2 ≡ min 2 (Length x 127 true i)
+  two-seen b d =
+      let next : gapAt x (i + 1) ≡ true = gap-second (Before x (i + 1)) (getD x (i + 1) 0) (drop (i + 1 + 1) x) (rw add-one b) d in
+      rw (more x i (omega arith) 126 true (sym (gap-two x i b d)), more x (i + 1) h 125 true next) (omega arith)
 
 -- the run from i on is scanned for k characters: it is k longer than what follows of it
 abbrev pub Scanned : List ℕ → Bool → ℕ → ℕ → Type 0
@@ -191,6 +204,9 @@ module _ (x : List ℕ) (gap : Bool) (i k : ℕ) (scanned : Scanned x gap i k) w
         let f : k + Length x (127 - k) gap (i + k) ≡ k + 1 + Length x (127 - (k + 1)) gap (i + k + 1) = rw (less, more x (i + k) h (127 - (k + 1)) gap e) (omega arith) in
         rw a (scanned ∙ f)
 
+    scan-in : k < Length x 127 gap i → gapAt x (i + k) ≡ gap
+    scan-in some = ⊎-elim (λ e. e) (λ e. let out = scan-other e in absurd (omega arith)) (same-or-not (gapAt x (i + k)) gap)
+
 -- one more blank of a blank run: it is not the last character
 pub gap-more : (x : List ℕ) (i n : ℕ) → keeps (length x) x ≡ length x → n < 127 → i + n < length x → gapAt x (i + n) ≡ true → Scanned x true i n
     → (i + (n + 1) < length x) × (Before x (i + (n + 1)) ≡ blank) × Scanned x true i (n + 1)
@@ -199,6 +215,19 @@ gap-more x i n all l h is scanned =
     let next = behind x (i + n) all h b in
     let a : i + (n + 1) ≡ suc (i + n) = omega arith in
     (omega arith, rw a b, scan-more x true i n scanned l h is)
+
+-- what the first blanks that are seen say of the run
+module _ (x : List ℕ) (i : ℕ) (h : i < length x) where
+  pub seen-none : 0 ≡ min 2 (Length x 127 true i) → gapAt x i ≡ false
+  seen-none none = ⊎-elim (λ e. e) (λ e. let own = run-size x i h true e in absurd (omega arith)) (same-or-not (gapAt x i) false)
+
+  pub seen-some : 0 < Length x 127 true i → gapAt x i ≡ true
+  seen-some some = rw add-zero at (scan-in x true i 0 (scan-none x true i) (omega arith) (omega arith) some)
+
+  pub seen-two : keeps (length x) x ≡ length x → 1 < Length x 127 true i → (i + 2 < length x) × (Before x (i + 2) ≡ blank) × Scanned x true i 2
+  seen-two all some =
+      let one = gap-more x i 0 all (omega arith) (omega arith) (rw add-zero (seen-some (omega arith))) (scan-none x true i) in
+      gap-more x i 1 all (omega arith) (one .0) (scan-in x true i 1 (one .2) (omega arith) (one .0) some) (one .2)
 
 -- ---- what is put
 

@@ -3,32 +3,36 @@ use geometry::Geometry;
 use moving::least;
 use moving::put;
 ghost use mathlib.Core.Path.{_≡_};
-ghost use mathlib.Core.Bool.{false};
+ghost use mathlib.Core.Bool.{true, false};
 ghost use mathlib.Core.List.{_∷_};
-ghost use Prim.Native.Nat.{_+_, _-_, _<_, _^_};
+ghost use Prim.Native.Nat.{_+_, _-_, _<_, _^_, min};
 ghost use lib.ListN.{length, take, drop, getD};
 ghost use lib.Seq.{sets};
 ghost use Rattle.coding.specs.Encode.{gapAt, runLength, runsCode};
 ghost use Rattle.coding.specs.Encode as Encode;
 
-// Whether the character at the place j of x goes into a blank run: a blank with a blank beside it. No blank is the last character of x.
-fn in_gap(x: &[u8], j: usize) -> bool
+// How many blanks the blank run from the place j of x on has, two at the most: 0 if the character there goes into none. No blank is the last character
+// of x.
+fn first_blanks(x: &[u8], j: usize) -> usize
     requires { ⌜ (j < length (now x)) × (Encode.keeps (length (now x)) (now x) ≡ length (now x)) ⌝ }
-    ensures { λ r. ⌜ r ≡ gapAt (now (x .entry)) j ⌝ }
+    ensures { λ r. ⌜ r ≡ min 2 (runLength 127 true (getD (0 ∷ now (x .entry)) j 0) (drop j (now (x .entry)))) ⌝ }
 {
     if x[j] != Geometry::BLANK {
-        return false;
+        return 0;
     }
     if x[j + 1] == Geometry::BLANK {
-        return true;
+        return 2;
     }
     if j == 0 {
-        return false;
+        return 0;
     }
-    x[j - 1] == Geometry::BLANK
+    if x[j - 1] == Geometry::BLANK {
+        return 1;
+    }
+    0
 }
 
-// The same, where the character before it does not go into one.
+// Whether the character at the place j of x begins a blank run, where the one before it does not go into one.
 fn begins_gap(x: &[u8], j: usize) -> bool
     requires { ⌜ (0 < j) × (j < length (now x)) × (gapAt (now x) (j - 1) ≡ false) × (Encode.keeps (length (now x)) (now x) ≡ length (now x)) ⌝ }
     ensures { λ r. ⌜ r ≡ gapAt (now (x .entry)) j ⌝ }
@@ -63,6 +67,7 @@ fn put_characters(x: &[u8], i: usize, out: &mut [u8], at: usize) -> usize
 }
 
 // Puts the code of all of x, whose last character is no blank, into out, run by run, each as long as it can be, up to 127. Returns the code's length.
+// Of a blank run the first two characters are read by first_blanks and the others by the scan, each once.
 fn put_runs(x: &[u8], out: &mut [u8]) -> usize
     requires { ⌜ Encode.keeps (length (now x)) (now x) ≡ length (now x) ⌝ }
     ensures { λ r. ⌜ (r ≡ length (runsCode 0 0 (now (x .entry)))) × (now (out .exit) ≡ sets (now (out .entry)) 0 (runsCode 0 0 (now (x .entry)))) ⌝ }
@@ -70,17 +75,21 @@ fn put_runs(x: &[u8], out: &mut [u8]) -> usize
     let mut i = 0;
     let mut at = 0;
     while i < x.len() {
-        if in_gap(x, i) {
-            let mut k = 1;
-            let n = 'run: loop {
-                if k == 127 {
-                    break 'run k;
-                }
-                if x[i + k] != Geometry::BLANK {
-                    break 'run k;
-                }
-                k += 1;
-            };
+        let seen = first_blanks(x, i);
+        if seen > 0 {
+            let mut n = seen;
+            if seen == 2 {
+                let mut k = 2;
+                n = 'run: loop {
+                    if k == 127 {
+                        break 'run k;
+                    }
+                    if x[i + k] != Geometry::BLANK {
+                        break 'run k;
+                    }
+                    k += 1;
+                };
+            }
             put(out, at, (128 + n) as u8);
             i += n;
             at += 1;

@@ -1,10 +1,9 @@
 -- `coding::put_runs` meets its contract. The invariant: the code from i on, stored from at on, gives the whole code stored. That of the scan: k blanks
--- of the run are passed, and x does not end behind them.
+-- of the run are passed, the two that are seen already among them, and x does not end behind them.
 use mathlib.Core.Path.{_≡_, refl, sym, _∙_}
 use mathlib.Core.Logic.{⊎-elim}
 use mathlib.Core.Bool.{true, false}
 use Prim.Native.Nat.{_≤_, _<_, _+_, _-_, _*_}
-use native.Mathlib.Nat.{add-zero}
 use native.Mathlib.Omega.{arith}
 use lib.ListN.{length, getD, drop}
 use lib.Seq.{sets}
@@ -12,15 +11,15 @@ use borrow.Author.Needs.{needs}
 use Rattle.geometry.specs.Sizes.{blank}
 use Rattle.coding.specs.Encode.{gapAt, runLength, runsCode}
 use Rattle.coding.proofs.Runs.{gap-second}
-use Rattle.coding.proofs.Writer.{Before, Scanned, scan-none, scan-full, scan-other, gap-none, gap-more, Rest, rest-end, run-size, turn-gap, turn-characters}
+use Rattle.coding.proofs.Writer.{Before, Scanned, scan-full, scan-other, gap-none, gap-more, seen-none, seen-some, seen-two, Rest, rest-end, run-size, turn-gap, turn-characters}
 use Rattle.coding.proofs.put_runs.Statement.{statement}
 use Rattle.coding.proofs.put_runs.Tie as tie
 
 abbrev Inv-run : tie.InvT-run
-Inv-run x out i at k₀ k = (k ≤ 127) × (i + k < length x) × (Before x (i + k) ≡ blank) × Scanned x true i k
+Inv-run x out i at seen n k₀ k = (k ≤ 127) × (i + k < length x) × (Before x (i + k) ≡ blank) × Scanned x true i k
 
 abbrev μ-run : tie.MeasureT-run
-μ-run x out i at k₀ k = 127 - k
+μ-run x out i at seen n k₀ k = length x - k
 
 abbrev Inv-loop : tie.InvT-loop
 Inv-loop x out₀ i₀ at₀ out i at = (i ≤ length x) × (at ≤ 2 * i) × (length out ≡ length out₀) × (at + length (Rest x i) ≡ length (runsCode 0 0 x)) × (sets out at (Rest x i) ≡ sets out₀ 0 (runsCode 0 0 x))
@@ -31,28 +30,31 @@ abbrev μ-loop : tie.MeasureT-loop
 loop-holds : tie.Need-loop-holds Inv-run μ-run Inv-loop μ-loop
 loop-holds c = (omega arith, omega arith, refl, omega arith, refl)
 
-in-gap-requires : tie.Need-in-gap-requires Inv-run μ-run Inv-loop μ-loop
-in-gap-requires c κs = (omega arith, c .before .before .before .before .pre)
+first-blanks-requires : tie.Need-first-blanks-requires Inv-run μ-run Inv-loop μ-loop
+first-blanks-requires c κs = (omega arith, c .before .before .before .before .pre)
 
 -- ---- a run of blanks
 
 -- a blank run begins
 begun : (c : tie.Then1 Inv-run μ-run Inv-loop μ-loop) → let l = c .before .before .before in gapAt (l .before .before .before .args .x .now) (l .loop .i) ≡ true
-begun c = sym (c .before .in-gap .ensures) ∙ c .if1 .taken
+begun c =
+    let l = c .before .before .before in
+    let seen = c .before .first-blanks .ensures in
+    seen-some (l .before .before .before .args .x .now) (l .loop .i) (omega arith) (omega arith)
 
 run-holds : tie.Need-run-holds Inv-run μ-run Inv-loop μ-loop
 run-holds c =
-    let l = c .before .before .before in
+    let l = c .before .before .before .before in
     let t = l .before .before .before in
-    let x = t .args .x .now in
-    let m = gap-more x (l .loop .i) 0 (t .pre) (omega arith) (omega arith) (rw add-zero (begun c)) (scan-none x true (l .loop .i)) in
+    let seen = c .before .before .first-blanks .ensures in
+    let m = seen-two (t .args .x .now) (l .loop .i) (omega arith) (t .pre) (omega arith) in
     (omega arith, m .0, m .1, m .2)
 
-add-if3 : tie.Need-add-if3 Inv-run μ-run Inv-loop μ-loop
-add-if3 c = omega arith
+add-if4 : tie.Need-add-if4 Inv-run μ-run Inv-loop μ-loop
+add-if4 c = omega arith
 
-shared-slice-read-if3 : tie.Need-shared-slice-read-if3 Inv-run μ-run Inv-loop μ-loop
-shared-slice-read-if3 c = omega arith
+shared-slice-read-if4 : tie.Need-shared-slice-read-if4 Inv-run μ-run Inv-loop μ-loop
+shared-slice-read-if4 c = omega arith
 
 add-k : tie.Need-add-k Inv-run μ-run Inv-loop μ-loop
 add-k c = omega arith
@@ -63,37 +65,39 @@ run-less c = omega arith
 run-again : tie.Need-run-again Inv-run μ-run Inv-loop μ-loop
 run-again c =
     let r = c .before .before .before in
-    let l = r .before .before .before .before in
+    let l = r .before .before .before .before .before in
     let t = l .before .before .before in
     let x = t .args .x .now in
     let i = l .loop .i in
     let j = i + r .run .k in
-    let m = gap-more x i (r .run .k) (t .pre) (omega arith) (omega arith) (gap-second (Before x j) (getD x j 0) (drop (j + 1) x) (r .run .inv .2) (c .if3 .left)) (r .run .inv .3) in
+    let m = gap-more x i (r .run .k) (t .pre) (omega arith) (omega arith) (gap-second (Before x j) (getD x j 0) (drop (j + 1) x) (r .run .inv .2) (c .if4 .left)) (r .run .inv .3) in
     (omega arith, m .0, m .1, m .2)
 
--- the scan was left at the run's end
+-- the run is one blank, or the scan was left at its end
 scanned : (c : tie.Joined2 Inv-run μ-run Inv-loop μ-loop)
-    → let l = c .before .before .before .before .before in
+    → let l = c .before .before .before .before in
     let x = l .before .before .before .args .x .now in
     c .if2 .n ≡ runLength 127 true (Before x (l .loop .i)) (drop (l .loop .i) x)
 scanned c =
-    let r = c .before in
-    let l = r .before .before .before .before in
+    let l = c .before .before .before .before in
     let x = l .before .before .before .args .x .now in
     let i = l .loop .i in
+    let seen = c .before .before .first-blanks .ensures in
     ⊎-elim
-    (λ w. w .1 ∙ scan-full x true i (r .run .k) (r .run .inv .3) (omega (arith, w .0 .taken)))
-    (λ w. w .3 ∙ scan-other x true i (r .run .k) (r .run .inv .3) (omega (arith, w .0 .left)) (omega arith) (sym (gap-none x (i + r .run .k) (w .2 .taken))))
+    (λ w. w .3 ∙ scan-full x true i (w .1 .k) (w .1 .inv .3) (omega (arith, w .1 .inv, w .2 .taken)))
+    (⊎-elim
+    (λ w. w .5 ∙ scan-other x true i (w .1 .k) (w .1 .inv .3) (omega (arith, w .1 .inv, w .2 .left)) (w .1 .inv .1) (sym (gap-none x (i + w .1 .k) (w .4 .taken))))
+    (λ w. omega (arith, w .0 .left, w .1)))
     (c .if2 .came)
 
 blanks : (c : tie.Joined2 Inv-run μ-run Inv-loop μ-loop)
-    → let l = c .before .before .before .before .before in
+    → let l = c .before .before .before .before in
     let x = l .before .before .before .args .x .now in
     let n = c .if2 .n in
     (gapAt x (l .loop .i) ≡ true) × (0 < n) × (n ≤ 127) × (l .loop .i + n ≤ length x)
 blanks c =
-    let l = c .before .before .before .before .before in
-    let is = begun (c .before .before) in
+    let l = c .before .before .before .before in
+    let is = begun (c .before) in
     let e = scanned c in
     let s = run-size (l .before .before .before .args .x .now) (l .loop .i) (omega arith) true is in
     (is, omega arith, omega arith, omega arith)
@@ -119,20 +123,26 @@ loop-less c = let s = blanks (c .before .before .before .before .before) in omeg
 loop-again : tie.Need-loop-again Inv-run μ-run Inv-loop μ-loop
 loop-again c =
     let g = c .before .before .before .before .before in
-    let l = g .before .before .before .before .before in
+    let l = g .before .before .before .before in
     let p = c .before .before .put in
     let t = turn-gap (l .before .before .before .args .x .now) (l .loop .out) (l .loop .i) (l .loop .at) _ _ (omega arith) (l .loop .inv .1) (l .loop .inv .3) (l .loop .inv .4) (g .if2 .n) (p .last .0) (blanks g .0) (scanned g) (p .ensures) in
     (t .0, t .1, p .kept .0 ∙ l .loop .inv .2, t .2, t .3)
 
 -- ---- a run of characters
 
+-- none begins
+unbegun : (c : tie.Else1 Inv-run μ-run Inv-loop μ-loop) → let l = c .before .before .before in gapAt (l .before .before .before .args .x .now) (l .loop .i) ≡ false
+unbegun c =
+    let l = c .before .before .before in
+    let seen = c .before .first-blanks .ensures in
+    seen-none (l .before .before .before .args .x .now) (l .loop .i) (omega arith) (omega arith)
+
 add-put-characters : tie.Need-add-put-characters Inv-run μ-run Inv-loop μ-loop
 add-put-characters c = omega arith
 
 put-characters-requires : tie.Need-put-characters-requires Inv-run μ-run Inv-loop μ-loop
 put-characters-requires c κs =
-    let g = c .before .before in
-    (omega arith, sym (g .in-gap .ensures) ∙ c .before .if1 .left, g .before .before .before .before .before .pre, omega arith)
+    (omega arith, unbegun (c .before), c .before .before .before .before .before .before .before .pre, omega arith)
 
 characters : (c : tie.After-put-characters Inv-run μ-run Inv-loop μ-loop)
     → let l = c .before .before .before .before .before in
@@ -141,7 +151,7 @@ characters : (c : tie.After-put-characters Inv-run μ-run Inv-loop μ-loop)
     (gapAt x (l .loop .i) ≡ false) × (0 < n) × (n ≤ 127) × (l .loop .i + n ≤ length x)
 characters c =
     let l = c .before .before .before .before .before in
-    let is = sym (c .before .before .before .in-gap .ensures) ∙ c .before .before .if1 .left in
+    let is = unbegun (c .before .before) in
     let e = c .put-characters .ensures .0 in
     let s = run-size (l .before .before .before .args .x .now) (l .loop .i) (omega arith) false is in
     (is, omega arith, omega arith, omega arith)
@@ -201,10 +211,10 @@ put-runs-spec =
     Inv-loop
     μ-loop
     loop-holds
-    in-gap-requires
+    first-blanks-requires
     run-holds
-    add-if3
-    shared-slice-read-if3
+    add-if4
+    shared-slice-read-if4
     add-k
     run-less
     run-again
