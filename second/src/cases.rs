@@ -3,6 +3,7 @@
 use std::fs;
 use std::path::Path;
 
+use crate::blanks::blank_cases;
 use crate::coding::GO_ON;
 use crate::damage::{damaged_cases, disturb};
 use crate::directory::{BLOCKED, COMPRESSED, MARKED, UNBLOCKED};
@@ -78,12 +79,13 @@ impl Case {
 }
 
 /// All cases: the fixed ones, those too long to be committed, those of ADD and DELETE on sessions that are
-/// mounted, the damaged ones and `count` random scripts.
+/// mounted, those of blanks, the damaged ones and `count` random scripts.
 pub fn all_cases(seed: u64, count: usize) -> Vec<Case> {
     let mut random = Random::new(seed);
     let mut cases = fixed_cases();
     cases.extend(long_cases());
     cases.extend(edit_cases().into_iter().filter(Case::is_mounted));
+    cases.extend(blank_cases());
     cases.extend(foreign_cases(&mut random, 40));
     cases.extend(damaged_cases(&mut random));
     for number in 0..count {
@@ -288,11 +290,12 @@ pub fn random_case(seed: u64, number: usize, requests: usize, sort: Sort) -> Cas
     )
 }
 
-/// What the names of scripts with ADD and DELETE begin with.
+/// What the names of scripts with ADD and DELETE begin with, and of those of a wide run.
 fn prefix(sort: Sort) -> &'static str {
     match sort {
         Sort::First => "",
         Sort::All => "edit-",
+        Sort::Wide => "wide-",
     }
 }
 
@@ -300,16 +303,16 @@ fn shared_image(seed: u64, number: usize, sort: Sort) -> Vec<u8> {
     let mut random = numbered(seed, 2 * (number / SHARED));
     match sort {
         Sort::First => random_image(&mut random),
-        Sort::All => roomy_image(&mut random),
+        Sort::All | Sort::Wide => roomy_image(&mut random),
     }
 }
 
 /// Case `number` of a wide run: of four, one begins with a session that no mounting hands out.
 pub fn wide_case(seed: u64, number: usize, requests: usize) -> Case {
     if numbered(!seed, 2 * number).chance(25) {
-        session_case(seed, number, requests, Sort::All)
+        session_case(seed, number, requests, Sort::Wide)
     } else {
-        random_case(seed, number, requests, Sort::All)
+        random_case(seed, number, requests, Sort::Wide)
     }
 }
 
@@ -324,7 +327,7 @@ pub fn session_case(seed: u64, number: usize, requests: usize, sort: Sort) -> Ca
     }
     let made = match sort {
         Sort::First => strange_bytes(&mut random, &image, &session),
-        Sort::All => strange_bytes_and_refused(&mut random, &image, &session),
+        Sort::All | Sort::Wide => strange_bytes_and_refused(&mut random, &image, &session),
     };
     let session = read_session(made.buffered()).unwrap_or(session);
     let script = script_on(&mut random, &session, image.len() / SECTOR, requests, sort);

@@ -4,6 +4,7 @@
 use std::fs;
 use std::path::Path;
 
+use crate::blanks::blank_cases;
 use crate::bundle::{bundle, expected, MOST_BUNDLED};
 use crate::cases::{foreign_cases, random_case, session_case, Case};
 use crate::damage::damaged_cases;
@@ -29,7 +30,7 @@ const SESSIONS: usize = 20;
 const MOST_PATCHES: usize = 300;
 
 /// The committed cases, in order: the fixed ones, other writers' codes, damage, random scripts, then
-/// sessions of any origin; then those of ADD and DELETE, fixed and random.
+/// sessions of any origin; then those of ADD and DELETE, fixed and random; then those of blanks.
 pub fn committed_cases() -> Vec<Case> {
     let mut random = Random::new(SEED);
     let mut cases = fixed_cases();
@@ -43,6 +44,7 @@ pub fn committed_cases() -> Vec<Case> {
     cases.extend(edit_cases());
     cases.extend((0..EDITS).map(|number| random_case(SEED, number, 60, Sort::All)));
     cases.extend(small_session_scripts(Sort::All));
+    cases.extend(blank_cases());
     cases.retain(|case| case.image.len() <= MOST_BUNDLED);
     cases
 }

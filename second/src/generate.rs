@@ -256,16 +256,56 @@ fn grouped_text(random: &mut Random, length: usize) -> Vec<u8> {
     text
 }
 
+/// Groups of 1 to 130 blanks between characters, half of the time one at the front. Mostly the last byte
+/// is a character, so that the last group is no trailing one.
+pub fn blank_groups(random: &mut Random, length: usize) -> Vec<u8> {
+    let mut text = Vec::new();
+    if random.chance(50) {
+        put_characters(random, &mut text);
+    }
+    while text.len() < length {
+        let group = match random.between(0, 5) {
+            _ if text.len() > 100 => random.between(1, 3),
+            0 => random.between(1, 3),
+            1 => random.between(1, 130),
+            2 => random.between(62, 66),
+            _ => random.between(126, 130),
+        };
+        text.resize(text.len() + group, BLANK);
+        put_characters(random, &mut text);
+    }
+    text.truncate(length);
+    if random.chance(85) {
+        text.pop();
+        text.push(random.byte());
+    }
+    text.truncate(length);
+    text
+}
+
+/// Mostly some few characters of all bytes, seldom many, or about as many as a run takes.
+fn put_characters(random: &mut Random, text: &mut Vec<u8>) {
+    let number = match random.between(0, 9) {
+        0..=2 => 1,
+        3..=6 => random.between(1, 5),
+        7..=8 => random.between(124, 128),
+        _ => random.between(1, 130),
+    };
+    text.extend(random.bytes(number));
+}
+
 // ---------------------------------------------------------------------------------------------
 // Scripts.
 
-/// The requests that a random script has.
+/// The requests that a random script has, and what it writes.
 #[derive(Clone, Copy, Debug, PartialEq, Eq)]
 pub enum Sort {
     /// Those of document 01.
     First,
     /// Those, ADD and DELETE.
     All,
+    /// The same as all, and a part of the records written to compressed files is groups of blanks.
+    Wide,
 }
 
 /// A script of this many requests for an image: mostly phrases that make sense, refused requests
@@ -323,6 +363,9 @@ const MOST_R: usize = 3_700;
 /// How many in a hundred refused requests are left out.
 const REFUSED_LEFT_OUT: usize = 75;
 
+/// How many in a hundred records for compressed files are groups of blanks, in a wide run.
+const GROUPED: usize = 50;
+
 impl Maker<'_> {
     fn of_table(random: &mut Random, table: [Entry; ENTRIES], sort: Sort, n: usize) -> Maker<'_> {
         Maker {
@@ -366,7 +409,7 @@ impl Maker<'_> {
 
     /// The next few requests that belong together.
     fn phrase(&mut self) {
-        if self.sort == Sort::All && self.random.chance(EDITS) {
+        if self.sort != Sort::First && self.random.chance(EDITS) {
             return self.edit();
         }
         match self.random.between(0, 99) {
@@ -583,7 +626,15 @@ impl Maker<'_> {
             28..=84 if r > 132 => 2 * self.random.between(1, 30),
             _ => r,
         };
+        if self.writes_groups(number) && self.random.chance(GROUPED) {
+            return blank_groups(self.random, length);
+        }
         random_text(self.random, length)
+    }
+
+    fn writes_groups(&self, number: usize) -> bool {
+        let entry = self.table.get(number);
+        self.sort == Sort::Wide && entry.is_some_and(|entry| entry.kind == COMPRESSED)
     }
 
     /// Characters whose code fills its sector exactly, where there are such.

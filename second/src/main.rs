@@ -7,6 +7,7 @@
 #![forbid(unsafe_code)]
 
 mod answer;
+mod blanks;
 mod bundle;
 mod cases;
 mod coding;

@@ -11,7 +11,8 @@ use crate::editcheck::{check_edit, check_fresh_mounting};
 use crate::edits::edit_cases;
 use crate::engine::Order;
 use crate::generate::{
-    extent_mut, foreign_code, random_script, random_text, roomy_image, script_on, Sort,
+    blank_groups, extent_mut, foreign_code, random_script, random_text, roomy_image, script_on,
+    Sort,
 };
 use crate::image::{sector, sector_mut, BLANK, SECTOR};
 use crate::layout::{blocked_place, capacity, sectors_per_record, Place, MOST_RECORDS};
@@ -90,7 +91,7 @@ struct Before {
 
 fn check_script(random: &mut Random, requests: usize, tally: &mut Tally) -> Check {
     let image = roomy_image(random);
-    let script = random_script(random, &image, requests, Sort::All);
+    let script = random_script(random, &image, requests, Sort::Wide);
     check_run(&image, &script, tally)
 }
 
@@ -131,7 +132,11 @@ fn check_run(image: &[u8], script: &Script, tally: &mut Tally) -> Check {
 /// The coder and decoder against those of the tiny model, on good and on damaged codes.
 fn check_codes(random: &mut Random) -> Check {
     let r = 2 * random.between(1, 66);
-    let record = random_text(random, r);
+    let record = if random.chance(50) {
+        random_text(random, r)
+    } else {
+        blank_groups(random, r)
+    };
     let code = coding::encode(&record);
     must(code == hand_code(&record), "the model's code")?;
     must(code.len() <= r + 3, "at most R + 3 bytes")?;
@@ -565,7 +570,7 @@ fn check_strange(random: &mut Random, requests: usize, tally: &mut Tally) -> Che
     must(session.is_legal(&image), "a strange session is legal")?;
     check_illegal(random, &image, &session, tally)?;
     check_bytes(random, &image, &session, tally)?;
-    let script = random_script(random, &image, requests, Sort::All);
+    let script = random_script(random, &image, requests, Sort::Wide);
     let mut run = strange_run(image, session);
     for (number, (row, data)) in script.steps().into_iter().enumerate() {
         let answer = run
@@ -647,7 +652,7 @@ fn check_bytes(random: &mut Random, image: &[u8], session: &Session, tally: &mut
         return Ok(());
     };
     must(store(&session) == made.buffered(), "bytes come back")?;
-    let script = script_on(random, &session, image.len() / SECTOR, 20, Sort::All);
+    let script = script_on(random, &session, image.len() / SECTOR, 20, Sort::Wide);
     let mut side = Side {
         image: image.to_vec(),
         session,
@@ -674,7 +679,7 @@ fn check_illegal(random: &mut Random, image: &[u8], session: &Session, tally: &m
                 continue;
             }
             tally.illegal_sessions += 1;
-            let script = random_script(random, &image, 3, Sort::All);
+            let script = random_script(random, &image, 3, Sort::Wide);
             let mut side = Side {
                 image,
                 session: broken,

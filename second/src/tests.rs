@@ -3,6 +3,7 @@
 use std::collections::HashSet;
 
 use crate::answer::Answer::{self, *};
+use crate::blanks::blank_cases;
 use crate::bundle::{bundle, expected, unbundle};
 use crate::cases::{all_cases, random_case, wide_case, Case};
 use crate::coding::{decode, encode};
@@ -14,15 +15,16 @@ use crate::editing::{self, Asked};
 use crate::edits::{edit_cases, pictured};
 use crate::engine::{self, Order};
 use crate::generate::{empty_image, new_entry, put_entry, random_image, Sort};
-use crate::image::{sector, BLANK, SECTOR};
+use crate::image::{sector, words, BLANK, SECTOR};
 use crate::layout::{blocked_place, capacity, records_per_sector, unblocked_capacity, Place};
 use crate::listed::{images_of, listed_file, listed_images};
 use crate::listing::listing;
+use crate::model::hand_code;
 use crate::notation::script;
 use crate::patch::Patch;
-use crate::play::{patched_session, play};
+use crate::play::{patched_session, perform, play};
 use crate::random::Random;
-use crate::script::Script;
+use crate::script::{Code, Script};
 use crate::selfcheck::selfcheck;
 use crate::session::{mount, Buffer, Engine, OpenFile, Session};
 use crate::sessions::session_cases;
@@ -1487,4 +1489,110 @@ fn committed_cases_meet_the_answers() {
 #[test]
 fn small_selfcheck() {
     assert_eq!(selfcheck(7, 60, 80).map(|tally| tally.scripts), Ok(60));
+}
+
+// ---------------------------------------------------------------------------------------------
+// Blanks.
+
+/// Each row's code and what is told of it, of the plain engine: its answer and its sum.
+fn told(case: &Case) -> Vec<(Code, usize, u32)> {
+    let text = case.expected(Engine::Plain).text;
+    let lines = text.lines().skip(1);
+    let rows = case.script.rows.iter().zip(lines);
+    rows.map(|(row, line)| {
+        let numbers: Vec<u32> = line.split(' ').map_while(|n| n.parse().ok()).collect();
+        (row.code, numbers[1] as usize, numbers[2])
+    })
+    .collect()
+}
+
+/// The longest group of blanks in a record but for those at its end.
+fn longest_group(record: &[u8]) -> usize {
+    let groups = record.split(|&byte| byte != BLANK).map(<[u8]>::len);
+    let mut before: Vec<usize> = groups.collect();
+    before.pop();
+    before.into_iter().max().unwrap_or(0)
+}
+
+/// Every row is done, but where there is just no room.
+#[test]
+fn blank_cases_are_done() {
+    for case in blank_cases() {
+        let answers = told(&case).into_iter().map(|(_, answer, _)| answer);
+        let refused: Vec<usize> = answers.filter(|&answer| answer != 0).collect();
+        if case.name == "blanks-room" {
+            let no_room = refused.iter().filter(|&&answer| answer == 3).count();
+            assert_eq!(no_room, 19); // one of two in each file, and both in the one with no byte left
+        } else {
+            assert_eq!(refused, [], "{}", case.name);
+        }
+    }
+}
+
+/// The looks show sectors that the tiny model's codes fill, and no others.
+#[test]
+fn looks_at_codes() {
+    for case in blank_cases().iter().filter(|case| case.image[20] == 0) {
+        let r = table_of(&case.image)[0].r();
+        let mut sectors: Vec<Vec<u8>> = vec![Vec::new()];
+        for (row, data) in case.script.steps() {
+            if row.code == Code::Write {
+                let mut record = data.to_vec();
+                record.resize(r, BLANK);
+                let code = hand_code(&record);
+                if sectors[sectors.len() - 1].len() + code.len() > SECTOR {
+                    sectors.push(Vec::new());
+                }
+                let last = sectors.len() - 1;
+                sectors[last].extend(code);
+            }
+        }
+        for sector in &mut sectors {
+            sector.resize(SECTOR, 128);
+        }
+        let lengths = if case.name == "blanks-spelled" {
+            (2..=SECTOR).step_by(2).collect()
+        } else {
+            vec![SECTOR]
+        };
+        let sum = |bytes: &[u8]| words(bytes).sum::<u32>() % 65_535;
+        let wanted: Vec<u32> = lengths
+            .into_iter()
+            .flat_map(|length| sectors.iter().map(move |sector| sum(&sector[..length])))
+            .collect();
+        let looks = told(case).into_iter();
+        let looks = looks.filter(|&(code, _, _)| code == Code::GranuleLook);
+        let sums: Vec<u32> = looks.map(|(_, _, sum)| sum).collect();
+        assert_eq!(sums, wanted, "{}", case.name);
+    }
+}
+
+/// Of the writes to compressed files that are done in wide scripts: all, those with a group of two or more
+/// blanks that is no trailing one, of over 64, of over 126. `--nocapture` prints them for README.md.
+#[test]
+fn wide_cases_write_groups_of_blanks() {
+    let mut counts = [0; 4];
+    for number in 0..2_000 {
+        let case = wide_case(1, number, 100);
+        let patches = case.session_patches(Engine::Plain);
+        let (_, session) = patched_session(Engine::Plain, &case.image, patches);
+        let Some(mut session) = session else {
+            continue;
+        };
+        let mut image = case.image.clone();
+        for (row, data) in case.script.steps() {
+            let table = session.table;
+            let mut buffer = vec![0; usize::from(row.length)];
+            let done = perform(&mut image, &mut session, &row, data, &mut buffer).answer == Done;
+            if done && row.code == Code::Write && table[usize::from(row.entry)].kind == COMPRESSED {
+                let longest = longest_group(data);
+                for (count, least) in counts.iter_mut().zip([0, 2, 65, 127]) {
+                    *count += usize::from(longest >= least);
+                }
+            }
+        }
+    }
+    println!("{counts:?}");
+    let [all, groups, over_64, over_126] = counts;
+    assert!(groups * 2 > all && over_64 * 5 > all && over_126 * 25 > all);
 }
