@@ -179,21 +179,27 @@ static uint32_t decode_lines(void)
     return sum;
 }
 
-static uint32_t encode_lines(void)
+/* Encodes LINES records of one length, each so many bytes behind the one before it. */
+static uint32_t encode_records(const uint8_t *records, size_t apart, size_t length)
 {
     uint32_t sum = 0;
     for (size_t i = 0; i < LINES; i++) {
-        size_t n = side_encode(lines[i], 80, buffer, LONGEST_CODE);
+        size_t n = side_encode(records + apart * i, length, buffer, LONGEST_CODE);
         sum = mix_read(sum, (unsigned)n, n);
     }
     return sum;
+}
+
+static uint32_t encode_lines(void)
+{
+    return encode_records(lines[0], 80, 80);
 }
 
 /* ---- blanks ---- */
 
 /* A record of the greatest length: a character, blanks, a character, blanks .. a character, as far
    as whole runs fit. A step is one blank. */
-enum { GAPPED = 1000, GAPPED_SIZE = 132 };
+enum { GAPPED_SIZE = 132 };
 
 static uint8_t gapped[GAPPED_SIZE];
 static size_t gapped_size;
@@ -205,17 +211,12 @@ static size_t prepare_gapped(void)
     memset(gapped, 0x40, gapped_size);
     for (size_t i = 0; i < gapped_size; i += blanks + 1)
         gapped[i] = 0xC1;
-    return GAPPED * runs * blanks;
+    return LINES * runs * blanks;
 }
 
 static uint32_t encode_gapped(void)
 {
-    uint32_t sum = 0;
-    for (size_t i = 0; i < GAPPED; i++) {
-        size_t n = side_encode(gapped, gapped_size, buffer, LONGEST_CODE);
-        sum = mix_read(sum, (unsigned)n, n);
-    }
-    return sum;
+    return encode_records(gapped, 0, gapped_size);
 }
 
 /* ---- the listing ---- */
@@ -381,11 +382,11 @@ static uint32_t count_packed(void)
     {name "-plain", about, &side_plain, file, 0, prepare, run},        \
     {name "-buffered", "the same, buffered", &side_buffered, file, 0, prepare, run}
 /* One by no engine, about no file. */
-#define ALONE(name, about, prepare, run) {name, about, NULL, 0, 0, prepare, run}
+#define ALONE(name, about, blanks, prepare, run) {name, about, NULL, 0, blanks, prepare, run}
 /* Encoding a record with so many blanks between its characters. */
-#define BLANKS(n)                                                                      \
-    {"blanks-" #n, "encoding, " #n " blanks between characters: a step is one blank", \
-     NULL, 0, n, prepare_gapped, encode_gapped}
+#define BLANKS(n)                                                                          \
+    ALONE("blanks-" #n, "encoding, " #n " blanks between characters: a step is one blank", \
+          n, prepare_gapped, encode_gapped)
 
 const struct workload workloads[] = {
     BOTH("mount", "mounting 4,096 sectors, 18 full files", 0, prepare_mount, mount),
@@ -403,14 +404,14 @@ const struct workload workloads[] = {
          write_granules),
     BOTH("granule-look", "looking at 1,000 granules of 360", TABLES, prepare_granules,
          look_granules),
-    ALONE("decode", "decoding 1,000 records of 80", prepare_codes, decode_lines),
-    ALONE("encode", "encoding 1,000 records of 80", prepare_codes, encode_lines),
+    ALONE("decode", "decoding 1,000 records of 80", 0, prepare_codes, decode_lines),
+    ALONE("encode", "encoding 1,000 records of 80", 0, prepare_codes, encode_lines),
     BLANKS(2),
     BLANKS(10),
     BLANKS(64),
     BLANKS(127),
     BLANKS(130),
-    ALONE("list", "listing 180 sectors, 18 files", prepare_list, list_image),
+    ALONE("list", "listing 180 sectors, 18 files", 0, prepare_list, list_image),
     BOTH("refused", "1,000 reads of an open random file (7), 4 files", TABLES, prepare_refused,
          refuse_reads),
     BOTH("refused-full", "the same, 18 files and 4 of them open", FULL_TABLES, prepare_full,

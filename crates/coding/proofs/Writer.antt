@@ -149,8 +149,8 @@ module _ (x : List ℕ) (i : ℕ) where
         let size = length-drop i x in
         (omega arith, most .0, omega arith)
 
-    pub none-seen : false ≡ gapAt x i → 0 ≡ min 2 (Length x 127 true i)
-    none-seen e = rw (other 126 true (sym e)) (omega arith)
+    pub count-none : false ≡ gapAt x i → 0 ≡ min 2 (Length x 127 true i)
+    count-none e = rw (other 126 true (sym e)) (omega arith)
 
     rest-skip : (p : ℕ) → runsCode p (getD x i 0) (drop (suc i) x) ≡ Rest x (i + suc p)
     rest-skip p = skip p (getD x i 0) (drop (suc i) x) ∙ rw (← drop-cons x i 0, getD-drop, drop-drop, suc-add, add-suc)
@@ -166,11 +166,11 @@ module _ (x : List ℕ) (i : ℕ) where
 
 -- a blank run of one, and one of two or more, by the character behind its first
 module _ (x : List ℕ) (i : ℕ) (h : i + 1 < length x) where
-  pub one-seen : gapAt x i ≡ true → getD x (i + 1) 0 ≢ blank → 1 ≡ min 2 (Length x 127 true i)
-  one-seen is n = rw (more x i (omega arith) 126 true is, other x (i + 1) h 125 true (sym (gap-none x (i + 1) n))) (omega arith)
+  pub count-one : gapAt x i ≡ true → getD x (i + 1) 0 ≢ blank → 1 ≡ min 2 (Length x 127 true i)
+  count-one is n = rw (more x i (omega arith) 126 true is, other x (i + 1) h 125 true (sym (gap-none x (i + 1) n))) (omega arith)
 
-  pub two-seen : getD x i 0 ≡ blank → getD x (i + 1) 0 ≡ blank → 2 ≡ min 2 (Length x 127 true i)
-  two-seen b d =
+  pub count-two : getD x i 0 ≡ blank → getD x (i + 1) 0 ≡ blank → 2 ≡ min 2 (Length x 127 true i)
+  count-two b d =
       let next : gapAt x (i + 1) ≡ true = gap-second (Before x (i + 1)) (getD x (i + 1) 0) (drop (i + 1 + 1) x) (rw add-one b) d in
       rw (more x i (omega arith) 126 true (sym (gap-two x i b d)), more x (i + 1) h 125 true next) (omega arith)
 

@@ -75,10 +75,9 @@ fn put_runs(x: &[u8], out: &mut [u8]) -> usize
     let mut i = 0;
     let mut at = 0;
     while i < x.len() {
-        let seen = first_blanks(x, i);
-        if seen > 0 {
-            let mut n = seen;
-            if seen == 2 {
+        let mut n = first_blanks(x, i);
+        if n > 0 {
+            if n == 2 {
                 let mut k = 2;
                 n = 'run: loop {
                     if k == 127 {
@@ -94,7 +93,7 @@ fn put_runs(x: &[u8], out: &mut [u8]) -> usize
             i += n;
             at += 1;
         } else {
-            let n = put_characters(x, i, out, at + 1);
+            n = put_characters(x, i, out, at + 1);
             put(out, at, n as u8);
             i += n;
             at += 1 + n;

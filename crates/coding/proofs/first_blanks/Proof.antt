@@ -6,7 +6,7 @@ use lib.ListN.{getD}
 use borrow.Author.Needs.{needs}
 use borrow.Author.Tests.{ne-eqb, eq-eqb}
 use Rattle.geometry.specs.Sizes.{blank}
-use Rattle.coding.proofs.Writer.{gap-none, gap-first-last, gap-behind, behind, none-seen, one-seen, two-seen}
+use Rattle.coding.proofs.Writer.{gap-none, gap-first-last, gap-behind, behind, count-none, count-one, count-two}
 use Rattle.coding.proofs.first_blanks.Statement.{statement}
 use Rattle.coding.proofs.first_blanks.Tie as tie
 
@@ -16,7 +16,7 @@ shared-slice-read-if1 c = search needs
 returns : tie.Need-returns
 returns c =
     let t = c .before .before in
-    none-seen (t .args .x .now) (t .args .j) (t .pre .0) (gap-none (t .args .x .now) (t .args .j) (λ z. omega arith))
+    count-none (t .args .x .now) (t .args .j) (t .pre .0) (gap-none (t .args .x .now) (t .args .j) (λ z. omega arith))
 
 add-if2 : tie.Need-add-if2
 add-if2 c = search needs
@@ -32,14 +32,14 @@ returns-2 c =
     let t = c .before .before .before .before in
     let x = t .args .x .now in
     let j = t .args .j in
-    two-seen x j (behind x j (t .pre .1) (t .pre .0) (omega arith)) (omega arith) (omega arith)
+    count-two x j (behind x j (t .pre .1) (t .pre .0) (omega arith)) (omega arith) (omega arith)
 
 returns-3 : tie.Need-returns-3
 returns-3 c =
     let t = c .before .before .before .before .before in
     let x = t .args .x .now in
     let j = t .args .j in
-    none-seen x j (t .pre .0) (gap-first-last x j (omega arith) (λ z. omega arith) (omega arith))
+    count-none x j (t .pre .0) (gap-first-last x j (omega arith) (λ z. omega arith) (omega arith))
 
 sub-if4 : tie.Need-sub-if4
 sub-if4 c = search needs
@@ -52,14 +52,14 @@ returns-4 c =
     let t = c .before .before .before .before .before .before .before in
     let x = t .args .x .now in
     let j = t .args .j in
-    one-seen x j (behind x j (t .pre .1) (t .pre .0) (omega arith)) (sym (gap-behind x j (omega arith) (λ z. omega arith) (λ z. omega arith)) ∙ eq-eqb (getD x (j - 1) 0) blank (omega arith)) (λ z. omega arith)
+    count-one x j (behind x j (t .pre .1) (t .pre .0) (omega arith)) (sym (gap-behind x j (omega arith) (λ z. omega arith) (λ z. omega arith)) ∙ eq-eqb (getD x (j - 1) 0) blank (omega arith)) (λ z. omega arith)
 
 returns-5 : tie.Need-returns-5
 returns-5 c =
     let t = c .before .before .before .before .before .before .before in
     let x = t .args .x .now in
     let j = t .args .j in
-    none-seen x j (t .pre .0) (sym (ne-eqb (getD x (j - 1) 0) blank (λ z. omega arith)) ∙ gap-behind x j (omega arith) (λ z. omega arith) (λ z. omega arith))
+    count-none x j (t .pre .0) (sym (ne-eqb (getD x (j - 1) 0) blank (λ z. omega arith)) ∙ gap-behind x j (omega arith) (λ z. omega arith) (λ z. omega arith))
 
 pub first-blanks-spec : {M : Type 1} → statement M
 first-blanks-spec =

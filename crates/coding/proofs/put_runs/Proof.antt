@@ -16,10 +16,10 @@ use Rattle.coding.proofs.put_runs.Statement.{statement}
 use Rattle.coding.proofs.put_runs.Tie as tie
 
 abbrev Inv-run : tie.InvT-run
-Inv-run x out i at seen n k₀ k = (k ≤ 127) × (i + k < length x) × (Before x (i + k) ≡ blank) × Scanned x true i k
+Inv-run x out i at n k₀ k = (k ≤ 127) × (i + k < length x) × (Before x (i + k) ≡ blank) × Scanned x true i k
 
 abbrev μ-run : tie.MeasureT-run
-μ-run x out i at seen n k₀ k = length x - k
+μ-run x out i at n k₀ k = length x - k
 
 abbrev Inv-loop : tie.InvT-loop
 Inv-loop x out₀ i₀ at₀ out i at = (i ≤ length x) × (at ≤ 2 * i) × (length out ≡ length out₀) × (at + length (Rest x i) ≡ length (runsCode 0 0 x)) × (sets out at (Rest x i) ≡ sets out₀ 0 (runsCode 0 0 x))
