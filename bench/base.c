@@ -130,16 +130,22 @@ static uint32_t sectors_of(size_t size)
     return (uint32_t)(size / SECTOR);
 }
 
-/* Sectors of an unblocked record or a granule. */
+/* Sectors of a record or a granule that takes whole ones. */
 static uint32_t sectors_for(const struct entry *e)
 {
     return (e->length + SECTOR - 1u) / SECTOR;
 }
 
-/* Records of a blocked file in a sector. */
+/* Records or granules in a sector, where they share it. */
 static uint32_t per_sector(const struct entry *e)
 {
     return SECTOR / (uint32_t)e->length;
+}
+
+/* Whether a file's granules share sectors. */
+static bool granules_share(const struct entry *e)
+{
+    return e->kind == RANDOM && e->length <= LONGEST_SHARED;
 }
 
 /* Of kinds 1, 2 and 4. */
@@ -149,7 +155,16 @@ static uint32_t capacity(const struct entry *e)
         uint32_t n = per_sector(e) * e->sectors;
         return n < MOST_RECORDS ? n : MOST_RECORDS;
     }
-    return e->sectors / sectors_for(e);
+    return granules_share(e) ? per_sector(e) * e->sectors : e->sectors / sectors_for(e);
+}
+
+/* The byte of its extent at which a granule begins. */
+static uint32_t granule_at(const struct entry *e, uint32_t g)
+{
+    if (!granules_share(e))
+        return SECTOR * sectors_for(e) * g;
+    uint32_t q = per_sector(e);
+    return SECTOR * (g / q) + g % q * e->length;
 }
 
 static bool is_capital(uint8_t c)
@@ -368,13 +383,11 @@ static enum answer read_record(struct work *w, uint8_t *buffer, size_t buffer_si
     return DONE;
 }
 
-/* An unblocked record or a granule, as whole sectors. */
-static void store(struct work *w, uint32_t k, const uint8_t *given, size_t size)
+/* What is given, and zeros behind it, in all of so many bytes. */
+static void store(uint8_t *to, size_t all, const uint8_t *given, size_t size)
 {
-    uint32_t s = sectors_for(w->entry);
-    uint8_t *to = in_image(w, k * s);
     memcpy(to, given, size);
-    memset(to + size, 0, (size_t)SECTOR * s - size);
+    memset(to + size, 0, all - size);
 }
 
 static enum answer write_packed(struct work *w, const uint8_t *given, size_t size)
@@ -418,7 +431,8 @@ static enum answer write_unblocked(struct work *w, const uint8_t *given, size_t 
 {
     if (w->file->position >= capacity(w->entry))
         return NO_ROOM;
-    store(w, w->file->position, given, size);
+    uint32_t s = sectors_for(w->entry);
+    store(in_image(w, w->file->position * s), (size_t)SECTOR * s, given, size);
     return DONE;
 }
 
@@ -461,7 +475,7 @@ static enum answer read_granule(struct work *w, uint32_t g, uint8_t *buffer, siz
         return BAD_SIZE;
     if (g >= capacity(e))
         return NO_ROOM;
-    memcpy(buffer, in_image(w, g * sectors_for(e)), e->length);
+    memcpy(buffer, in_image(w, 0) + granule_at(e, g), e->length);
     return DONE;
 }
 
@@ -477,7 +491,8 @@ static enum answer write_granule(struct work *w, uint32_t g, const uint8_t *give
         return a;
     if (g >= capacity(e))
         return NO_ROOM;
-    store(w, g, given, size);
+    size_t all = granules_share(e) ? e->length : (size_t)SECTOR * sectors_for(e);
+    store(in_image(w, 0) + granule_at(e, g), all, given, size);
     return DONE;
 }
 
@@ -761,7 +776,7 @@ static struct part look(const struct desk *d, const uint8_t *image, size_t entry
     const struct entry *e = &d->table[entry];
     if (check_look(e, granule) != DONE)
         return none;
-    return (struct part){image + (size_t)SECTOR * (e->first + granule * sectors_for(e)), e->length};
+    return (struct part){image + (size_t)SECTOR * e->first + granule_at(e, granule), e->length};
 }
 
 static struct spot position(const struct desk *d, size_t entry)

@@ -15,6 +15,7 @@ enum {
     ENTRY_BYTES = 20,
     MOST_OPEN = 4,
     MOST_RECORDS = 65535,
+    LONGEST_SHARED = 180, /* of granules that share sectors */
     LONGEST_PACKED = 132,            /* characters of a compressed record */
     LONGEST_CODE = LONGEST_PACKED + 3 /* bytes of its code */
 };

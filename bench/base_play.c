@@ -1,7 +1,7 @@
 /* base_play plain|buffered IMAGE SCRIPT BYTES OUT: plays a script of requests on an image, and
    prints what the independent program prints for `second play` of the same. A row of the script is
-   eight words: code, entry, length (bytes of a write, buffer size of a read), granule, two that are
-   ignored, two zeros. Writes use up BYTES in order. OUT becomes the image at the end.
+   eight words: code, entry, length (bytes of a write, buffer size of a read), the granule's low
+   word, two that are ignored, the granule's high word, a zero. Writes use up BYTES in order. OUT becomes the image at the end.
    base_play list IMAGE: the listing. */
 #include "base.h"
 
@@ -67,6 +67,11 @@ static size_t row_uses(unsigned code, size_t length)
     return code == WRITE || code == GRANULE_WRITE || code == ADD_ROW ? length : 0;
 }
 
+static bool takes_granule(unsigned code)
+{
+    return code == GRANULE_READ || code == GRANULE_WRITE || code == GRANULE_LOOK;
+}
+
 /* Tests every row; prints why the first that is not in order is not. */
 static bool rows_are_good(struct bytes script, size_t left)
 {
@@ -77,8 +82,8 @@ static bool rows_are_good(struct bytes script, size_t left)
             return false;
         }
         unsigned code = word(b), length = word(b + 4);
-        if (word(b + 12) != 0 || word(b + 14) != 0) {
-            printf("ERROR row %zu: unknown shape (the last two words are not zero)\n", row);
+        if (word(b + 14) != 0 || (word(b + 12) != 0 && !takes_granule(code))) {
+            printf("ERROR row %zu: unknown shape (word 7 is not zero, or word 6 without a granule)\n", row);
             return false;
         }
         if (code < OPEN || code > DELETE_ROW) {
@@ -134,7 +139,7 @@ static void play(bool with_buffers, struct bytes image, struct bytes script, con
             given += row_uses(word(b), length);
             continue;
         }
-        uint32_t granule = word(b + 6);
+        uint32_t granule = (uint32_t)word(b + 12) << 16 | word(b + 6);
         struct part moved = {buffer, 0};
         memset(buffer, 0, length);
         if (code == GRANULE_LOOK)

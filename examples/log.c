@@ -1,6 +1,6 @@
 /* Logs one pass on an image: finds its files by name, writes frames into the blocked file TRACE and a line into the compressed
-   file PASSLOG, with the buffered engine; closes both, lists the directory, and reads the last line back. Then it adds a file
-   REMARKS and writes a line into it, and deletes NOTES.
+   file PASSLOG, with the buffered engine; closes both, lists the directory, and reads the last line back. It writes a granule
+   of CALIB and looks at it in place. Then it adds a file REMARKS and writes a line into it, and deletes NOTES.
 
        log IMAGE
 
@@ -11,7 +11,7 @@
 
 #include "../include/lleuadrys.h"
 
-enum { FRAME = 180, LINE = 80 };
+enum { FRAME = 180, LINE = 80, GRANULE = 60 };
 
 /* What the constants of the header are among themselves; is_as_linked sees that they are the library's. */
 _Static_assert(LLEUADRYS_ENTRIES * 20 == LLEUADRYS_SECTOR, "the directory fills a sector");
@@ -24,7 +24,7 @@ static size_t image_size;
 static uint8_t session[LLEUADRYS_BUFFERED_SESSION];
 
 /* The entries of the files. */
-static size_t passlog, curves, trace;
+static size_t passlog, curves, trace, calib;
 
 /* Room for what is read. */
 static uint8_t text[LLEUADRYS_LONGEST_RECORD];
@@ -52,9 +52,9 @@ static char to_ascii(uint8_t c)
 }
 
 /* A request that is given bytes: its answer. */
-static unsigned give(size_t entry, enum lleuadrys_code code, const uint8_t *given, size_t given_size)
+static unsigned give(size_t entry, enum lleuadrys_code code, uint32_t granule, const uint8_t *given, size_t given_size)
 {
-    return lleuadrys_request(image, image_size, session, sizeof session, entry, code, 0, given, given_size, text,
+    return lleuadrys_request(image, image_size, session, sizeof session, entry, code, granule, given, given_size, text,
                              sizeof text);
 }
 
@@ -62,7 +62,7 @@ static unsigned give(size_t entry, enum lleuadrys_code code, const uint8_t *give
 static unsigned read_next(size_t entry)
 {
     static const uint8_t nothing[1];
-    return give(entry, LLEUADRYS_READ, nothing, 0);
+    return give(entry, LLEUADRYS_READ, 0, nothing, 0);
 }
 
 /* A request that needs no bytes. */
@@ -112,7 +112,7 @@ static unsigned write_frame(unsigned k)
     frame[1] = (uint8_t)(k % 256);
     for (size_t i = 2; i < FRAME; i++)
         frame[i] = (uint8_t)(7 * i + k);
-    return give(trace, LLEUADRYS_WRITE, frame, FRAME);
+    return give(trace, LLEUADRYS_WRITE, 0, frame, FRAME);
 }
 
 static unsigned write_line(size_t entry, const char *line)
@@ -125,7 +125,7 @@ static unsigned write_line(size_t entry, const char *line)
     }
     if (n % 2 == 1)
         out[n++] = 0x40; /* a write takes an even number of bytes */
-    return give(entry, LLEUADRYS_WRITE, out, n);
+    return give(entry, LLEUADRYS_WRITE, 0, out, n);
 }
 
 static void print_record(size_t entry)
@@ -161,10 +161,12 @@ static int find_files(void)
     say("finding PASSLOG", find("PASSLOG", &passlog));
     say("finding CURVES", find("CURVES", &curves));
     say("finding TRACE", find("TRACE", &trace));
+    say("finding CALIB", find("CALIB", &calib));
     say("finding TRACES", find("TRACES", &none));
     return lleuadrys_field(session, sizeof session, passlog, LLEUADRYS_KIND) == LLEUADRYS_COMPRESSED
         && lleuadrys_field(session, sizeof session, curves, LLEUADRYS_KIND) == LLEUADRYS_RANDOM
-        && lleuadrys_field(session, sizeof session, trace, LLEUADRYS_RECORD) == FRAME;
+        && lleuadrys_field(session, sizeof session, trace, LLEUADRYS_RECORD) == FRAME
+        && lleuadrys_field(session, sizeof session, calib, LLEUADRYS_RECORD) == GRANULE;
 }
 
 /* Logs the pass on a mounted image. */
@@ -184,7 +186,7 @@ static void log_pass(void)
     printf("frames written: %u\n", k);
     say("one more", a);
     say("a line", write_line(passlog, "PASS 424   AOS 184694   LOS 185803   MAX EL 76   FRAMES 576"));
-    say("a granule of CURVES", give(curves, LLEUADRYS_GRANULE_WRITE, granule, sizeof granule));
+    say("a granule of CURVES", give(curves, LLEUADRYS_GRANULE_WRITE, 0, granule, sizeof granule));
     print_position("TRACE", trace);
     print_position("PASSLOG", passlog);
     say("a mark behind the frames", order(trace, LLEUADRYS_WRITE_MARK));
@@ -202,6 +204,27 @@ static void read_back(void)
         continue;
     print_record(passlog);
     say("closing PASSLOG", order(passlog, LLEUADRYS_REWIND_OFFLINE));
+}
+
+/* Looks at a granule of CALIB in place, and says where it lies and which two words it begins with. */
+static void print_granule(uint32_t granule)
+{
+    size_t at = 0, n = lleuadrys_look(image, image_size, session, sizeof session, calib, granule, &at);
+    const uint8_t *shown = image + at;
+    printf("granule %u: %zu bytes from byte %zu of sector %zu on, with %u and %u\n", (unsigned)granule, n,
+           at % LLEUADRYS_SECTOR, at / LLEUADRYS_SECTOR, shown[0] * 256u + shown[1], shown[2] * 256u + shown[3]);
+}
+
+/* Writes a granule of CALIB, in which six lie in a sector: the ones beside it are as they were. */
+static void calibrate(void)
+{
+    static const uint8_t points[2] = {0x01, 0x02};
+    say("opening CALIB", order(calib, LLEUADRYS_OPEN));
+    say("granule 7 of CALIB", give(calib, LLEUADRYS_GRANULE_WRITE, 7, points, sizeof points));
+    for (uint32_t granule = 6; granule <= 8; granule++)
+        print_granule(granule);
+    say("granule 12 of CALIB", give(calib, LLEUADRYS_GRANULE_WRITE, 12, points, sizeof points));
+    say("closing CALIB", order(calib, LLEUADRYS_REWIND_OFFLINE));
 }
 
 /* Adds REMARKS, writes a line into it, and deletes NOTES, whose sectors are then free. */
@@ -258,6 +281,7 @@ int main(int argc, char **argv)
     log_pass();
     print_listing();
     read_back();
+    calibrate();
     edit_directory();
     file = fopen(argv[1], "wb");
     if (file == NULL || fwrite(image, 1, image_size, file) != image_size || fclose(file) != 0) {

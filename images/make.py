@@ -1,5 +1,5 @@
 #!/usr/bin/env python3
-"""Makes the images that this repository ships, from document 01 alone: python3 images/make.py
+"""Makes the images that this repository ships, from documents 01 and 02 alone: python3 images/make.py
 
     images/station.img         a station's store: files of all four kinds
     crates/play/data/image     the same, for the script that docs/PLAY.md shows
@@ -59,7 +59,7 @@ def extent(kind, length, sectors, records):
     out = bytearray(SECTOR * sectors)
     place = 0
     for k, record in enumerate(records):
-        if kind == BLOCKED:
+        if kind == BLOCKED or kind == RANDOM and length <= 180:
             per_sector = SECTOR // length
             at = SECTOR * (k // per_sector) + k % per_sector * length
         elif kind == COMPRESSED:
@@ -138,13 +138,16 @@ def station():
     elements = [ebcdic(f"ORBIT ON DAY {103 + k} OF 1971   TILT 97.4 DEGREES   15.21 ROUNDS A DAY").ljust(400, b"\x40") for k in range(3)]
     # a calibration curve of 180 points for each channel
     curves = [b"".join(word(4096 - (p * p * (c + 1)) // 32 % 4096) for p in range(180)) for c in range(8)]
-    image = Image(40)
+    # a calibration of 30 points for each of a frame's words, its number first, with granules of 60 bytes, six to a sector
+    calibrations = [b"".join(word((97 * c + (128 + c) * p) % 4096) for p in range(30)) for c in range(12)]
+    image = Image(44)
     image.add("PASSLOG", COMPRESSED, 80, 6, log)
     image.add("NOTES", COMPRESSED, 132, 2, notes, MARKED)
     image.add("FRAMES", BLOCKED, 24, 8, frames, MARKED)
     image.add("ELEMENTS", UNBLOCKED, 400, 8, elements, gap=1)
     image.add("CURVES", RANDOM, 360, 8, curves, PROTECTED)
     image.add("TRACE", BLOCKED, 180, 4)
+    image.add("CALIB", RANDOM, 60, 2, calibrations)
     return image
 
 

@@ -25,6 +25,11 @@
              the same first number. Bytes that are no session are answered like a session that is not legal: 12. Bytes that
              are all zero are a session with no used entry.
    ENTRY     the number of a file in the directory, 0 to 17; any other is answered 8. lleuadrys_find gives it by name.
+   GRANULE   the number of a granule of a random file, from 0 on, in 32 bits. Granules of up to 180 bytes share sectors: as
+             many lie in each, one behind another from its byte 0 on, as fit in it whole, so that a file of n sectors with
+             granules of 60 bytes has 6 n of them, 0 to 6 n - 1. A longer granule begins a sector, and takes whole ones. A
+             write changes the granule's own bytes, and of a longer one all of its sectors: what is given, and zeros behind
+             it. Until version 3 a granule of any length began a sector; an image written then is read as is said here.
    CLOSING   A close (code 9) puts the file's buffer back in the image and writes its count and flags to its entry in the
              directory, where the old ones stand until then; lleuadrys_field has those of an open file. An image that is saved
              while a file is open has the old count beside records that are new already, or, with buffers, are still in the
@@ -62,8 +67,8 @@
 extern "C" {
 #endif
 
-/* 10,000 times the first number, 100 times the second, and the third: this is 2.0.0. */
-#define LLEUADRYS_VERSION 20000
+/* 10,000 times the first number, 100 times the second, and the third: this is 3.0.0. */
+#define LLEUADRYS_VERSION 30000
 
 /* What a request, a mounting, an adding and a deleting answer. */
 enum lleuadrys_answer {

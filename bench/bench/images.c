@@ -187,24 +187,29 @@ size_t make_full(uint8_t *image)
     return m.packed;
 }
 
-static size_t make_station_with(uint8_t *image, size_t packed)
+static size_t make_station_with(uint8_t *image, size_t packed, size_t granule)
 {
     struct making m = start(image, STATION_SECTORS);
     add_file(&m, "NOTES", UNBLOCKED, 720, 100, ALL, MARKED);
     add_file(&m, "BUSLOG", BLOCKED, 60, 1700, STREAM, MARKED);
     size_t count = add_file(&m, "PASSA", COMPRESSED, 80, 1900, packed, MARKED);
-    add_file(&m, "TABLES", RANDOM, 360, TABLES_GRANULES, 0, 0);
+    add_file(&m, "TABLES", RANDOM, granule, TABLES_GRANULES, 0, 0);
     return count;
 }
 
 void make_station(uint8_t *image)
 {
-    make_station_with(image, STREAM);
+    make_station_with(image, STREAM, 360);
+}
+
+void make_small_granules(uint8_t *image)
+{
+    make_station_with(image, STREAM, SMALL_GRANULE);
 }
 
 size_t make_full_station(uint8_t *image)
 {
-    return make_station_with(image, ALL);
+    return make_station_with(image, ALL, 360);
 }
 
 void make_listed(uint8_t *image)

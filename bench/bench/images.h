@@ -26,6 +26,9 @@ enum { STATION_SECTORS = 4096, STREAM = 10000 };
 enum { NOTES, BUSLOG, PASSA, TABLES }; /* entries: unblocked R 720, blocked R 60, compressed R 80, random R 360 */
 enum { TABLES_GRANULES = 395 };
 void make_station(uint8_t *image);
+/* The same, but with granules of 60 bytes in the random file, six to a sector. */
+enum { SMALL_GRANULE = 60, SMALL_GRANULES = 6 * TABLES_GRANULES };
+void make_small_granules(uint8_t *image);
 /* The same, but with as many records in the compressed file as fit. Returns their number. */
 size_t make_full_station(uint8_t *image);
 

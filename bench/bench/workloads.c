@@ -70,12 +70,18 @@ static uint32_t mount(void)
 
 /* ---- streams ---- */
 
-static size_t prepare_stream(void)
+/* Mounts the station's image, which is made already, and opens a file. */
+static void open_station(void)
 {
     size = (size_t)STATION_SECTORS * SECTOR;
-    make_station(image);
     must(engine->mount(image, size, &session));
     must(ask(entry, OPEN, NULL, 0, 0));
+}
+
+static size_t prepare_stream(void)
+{
+    make_station(image);
+    open_station();
     return STREAM;
 }
 
@@ -121,15 +127,32 @@ static uint32_t read_packed(void)
 
 enum { GRANULE_STEPS = 1000 };
 
+/* The granules of the random file: how many there are, and how long one is. */
+static size_t granules, granule_length;
+
+static size_t open_granules(size_t many, size_t length)
+{
+    granules = many;
+    granule_length = length;
+    open_station();
+    return GRANULE_STEPS;
+}
+
 static size_t prepare_granules(void)
 {
-    prepare_stream();
-    return GRANULE_STEPS;
+    make_station(image);
+    return open_granules(TABLES_GRANULES, SECTOR);
+}
+
+static size_t prepare_small_granules(void)
+{
+    make_small_granules(image);
+    return open_granules(SMALL_GRANULES, SMALL_GRANULE);
 }
 
 static uint32_t granule_of(size_t i)
 {
-    return (uint32_t)(i * 211 % TABLES_GRANULES);
+    return (uint32_t)(i * 211 % granules);
 }
 
 static uint32_t read_granules(void)
@@ -138,8 +161,8 @@ static uint32_t read_granules(void)
     for (size_t i = 0; i < GRANULE_STEPS; i++)
         sum = mix_read(sum,
                        engine->request(image, size, &session, entry, GRANULE_READ, granule_of(i),
-                                       NULL, 0, buffer, 360),
-                       360);
+                                       NULL, 0, buffer, granule_length),
+                       granule_length);
     return sum;
 }
 
@@ -148,7 +171,7 @@ static uint32_t write_granules(void)
     uint32_t sum = 0;
     for (size_t i = 0; i < GRANULE_STEPS; i++)
         sum = mix(sum, engine->request(image, size, &session, entry, GRANULE_WRITE, granule_of(i),
-                                       frames[0] + 60 * (i % (LINES - 6)), 360, NULL, 0));
+                                       frames[0] + 60 * (i % (LINES - 6)), granule_length, NULL, 0));
     return mix_image(sum);
 }
 
@@ -403,6 +426,12 @@ const struct workload workloads[] = {
     BOTH("granule-write", "writing 1,000 granules of 360", TABLES, prepare_granules,
          write_granules),
     BOTH("granule-look", "looking at 1,000 granules of 360", TABLES, prepare_granules,
+         look_granules),
+    BOTH("granule-read-60", "reading 1,000 granules of 60", TABLES, prepare_small_granules,
+         read_granules),
+    BOTH("granule-write-60", "writing 1,000 granules of 60", TABLES, prepare_small_granules,
+         write_granules),
+    BOTH("granule-look-60", "looking at 1,000 granules of 60", TABLES, prepare_small_granules,
          look_granules),
     ALONE("decode", "decoding 1,000 records of 80", 0, prepare_codes, decode_lines),
     ALONE("encode", "encoding 1,000 records of 80", 0, prepare_codes, encode_lines),

@@ -5,7 +5,8 @@
 //! What is read back does not tell how it was coded. So the files are deleted then, one random file is added
 //! in their sectors, a sector for a granule, and every granule is looked at: a line has the sum of the
 //! codes in each sector, and `IMAGE` the two sums of all bytes at their places. `blanks-spelled` has granules
-//! of 2, 4 and so on to 360 bytes: from one to the next its sums grow by a word, and so they tell each byte.
+//! of 2, 4 and so on to 360 bytes and looks at the first of each sector: from one to the next its sums grow by a
+//! word, and so they tell each byte.
 
 use crate::cases::Case;
 use crate::coding::{encode, place_for};
@@ -15,7 +16,7 @@ use crate::editing::Asked;
 use crate::engine::Order;
 use crate::generate::new_entry;
 use crate::image::{BLANK, SECTOR};
-use crate::layout::Place;
+use crate::layout::{records_per_sector, Place};
 use crate::script::Script;
 
 /// The sectors of every image here. Images of one length are told by some few patches of the first.
@@ -105,7 +106,7 @@ fn case_in(name: &str, rule: &'static str, files: &Files, sectors: &[usize]) -> 
     let mut script = written(files);
     let all = sectors.iter().sum();
     add_granules(&mut script, SECTOR, all);
-    look(&mut script, all);
+    look(&mut script, SECTOR, all);
     Case::new(name, rule, disk.image(), script)
 }
 
@@ -129,8 +130,7 @@ fn written(files: &Files) -> Script {
     script
 }
 
-/// Adds a random file of this many sectors, in entry 0 and from sector 1 on as nothing else is there. A
-/// granule is the front of a sector.
+/// Adds a random file of this many sectors, in entry 0 and from sector 1 on as nothing else is there.
 fn add_granules(script: &mut Script, length: usize, sectors: usize) {
     script.add(&Asked {
         name: &new_entry("SHOWN", RANDOM, 0, 0, 0).name,
@@ -140,11 +140,11 @@ fn add_granules(script: &mut Script, length: usize, sectors: usize) {
     });
 }
 
-/// Looks at every granule of the file in entry 0.
-fn look(script: &mut Script, granules: usize) {
+/// Looks at the front of every sector of the file in entry 0: the first granule that lies there.
+fn look(script: &mut Script, length: usize, sectors: usize) {
     script.open(0);
-    for granule in 0..granules {
-        script.granule_look(0, granule);
+    for sector in 0..sectors {
+        script.granule_look(0, sector * records_per_sector(length));
     }
     script.close(0);
 }
@@ -387,7 +387,7 @@ fn spelled() -> Vec<Case> {
     let mut script = written(&files);
     for words in 1..=SECTOR / 2 {
         add_granules(&mut script, 2 * words, sectors);
-        look(&mut script, sectors);
+        look(&mut script, 2 * words, sectors);
         script.delete(0);
     }
     let image = Disk::used(SECTORS).file(0, COMPRESSED, R, sectors).image();

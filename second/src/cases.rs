@@ -6,13 +6,14 @@ use std::path::Path;
 use crate::blanks::blank_cases;
 use crate::coding::GO_ON;
 use crate::damage::{damaged_cases, disturb};
-use crate::directory::{BLOCKED, COMPRESSED, MARKED, UNBLOCKED};
+use crate::directory::{BLOCKED, COMPRESSED, MARKED, RANDOM, UNBLOCKED};
 use crate::disk::Disk;
 use crate::edits::edit_cases;
 use crate::engine::Order;
 use crate::fixed::fixed_cases;
 use crate::generate::{empty_image, fill_compressed, new_entry, put_entry};
 use crate::generate::{random_image, random_script, random_text, roomy_image, script_on, Sort};
+use crate::granules::granule_cases;
 use crate::image::{BLANK, SECTOR};
 use crate::listing::listing;
 use crate::notation::script;
@@ -22,7 +23,8 @@ use crate::random::Random;
 use crate::script::Script;
 use crate::session::Engine;
 use crate::stored::read_session;
-use crate::strange::{strange_bytes, strange_bytes_and_refused, strange_session};
+use crate::strange::{strange_bytes, strange_bytes_and_refused};
+use crate::strange::{strange_session, strange_wide_session};
 
 /// A case: the rule of document 01 that it tries, an image, a script for it, and the patches of the
 /// plain and of the buffered engine's session behind the mounting.
@@ -79,13 +81,14 @@ impl Case {
 }
 
 /// All cases: the fixed ones, those too long to be committed, those of ADD and DELETE on sessions that are
-/// mounted, those of blanks, the damaged ones and `count` random scripts.
+/// mounted, those of blanks and of small granules, the damaged ones and `count` random scripts.
 pub fn all_cases(seed: u64, count: usize) -> Vec<Case> {
     let mut random = Random::new(seed);
     let mut cases = fixed_cases();
     cases.extend(long_cases());
     cases.extend(edit_cases().into_iter().filter(Case::is_mounted));
     cases.extend(blank_cases());
+    cases.extend(granule_cases().into_iter().filter(Case::is_mounted));
     cases.extend(foreign_cases(&mut random, 40));
     cases.extend(damaged_cases(&mut random));
     for number in 0..count {
@@ -199,7 +202,22 @@ fn long_cases() -> Vec<Case> {
         knocking_case(181),
         knocking_case(183),
         largest_added_case(),
+        granule_numbers_case(),
     ]
+}
+
+/// More granules than a word can number: 180 in each of 399 sectors.
+fn granule_numbers_case() -> Case {
+    let image = Disk::used(400).file(0, RANDOM, 2, 399).image();
+    let words = "open put:65541 look:65541 look:5 get:65541 put:5 look:65541 look:5 look:65535 look:65536 look:0
+        put:65536 look:65535 look:65536 look:0 put:71819 get:71819 look:71820 put:71820 get:71820 look:131077
+        look:6284 look:4294967295 close";
+    Case::new(
+        "long-granule-numbers",
+        "Capacity q·sectors has no limit of 65,535, so a granule's number takes 32 bits",
+        image,
+        script(2, words),
+    )
 }
 
 /// Files of the largest image that ADD makes.
@@ -302,8 +320,8 @@ fn prefix(sort: Sort) -> &'static str {
 fn shared_image(seed: u64, number: usize, sort: Sort) -> Vec<u8> {
     let mut random = numbered(seed, 2 * (number / SHARED));
     match sort {
-        Sort::First => random_image(&mut random),
-        Sort::All | Sort::Wide => roomy_image(&mut random),
+        Sort::First => random_image(&mut random, sort),
+        Sort::All | Sort::Wide => roomy_image(&mut random, sort),
     }
 }
 
@@ -321,7 +339,10 @@ pub fn session_case(seed: u64, number: usize, requests: usize, sort: Sort) -> Ca
     let mut image = shared_image(seed, number, sort);
     let mut random = numbered(!seed, 2 * number + 1);
     let mut disturbed = image.clone();
-    let session = strange_session(&mut random, &mut disturbed);
+    let session = match sort {
+        Sort::First | Sort::All => strange_session(&mut random, &mut disturbed),
+        Sort::Wide => strange_wide_session(&mut random, &mut disturbed),
+    };
     if random.chance(50) {
         image = disturbed;
     }

@@ -11,6 +11,7 @@ use crate::damage::damaged_cases;
 use crate::edits::edit_cases;
 use crate::fixed::fixed_cases;
 use crate::generate::Sort;
+use crate::granules::granule_cases;
 use crate::listed::{expected_listings, listed_file, listed_images};
 use crate::random::Random;
 use crate::sessions::session_cases;
@@ -25,12 +26,16 @@ const FOREIGN: usize = 20;
 /// How many random scripts with ADD and DELETE are committed.
 const EDITS: usize = 40;
 
+/// How many random scripts as those of a wide run are committed: they have small granules.
+const WIDE: usize = 40;
+
 /// How many random scripts on sessions of any origin are committed, and the most patches of one.
 const SESSIONS: usize = 20;
 const MOST_PATCHES: usize = 300;
 
 /// The committed cases, in order: the fixed ones, other writers' codes, damage, random scripts, then
-/// sessions of any origin; then those of ADD and DELETE, fixed and random; then those of blanks.
+/// sessions of any origin; then those of ADD and DELETE, fixed and random; then those of blanks; then those
+/// of small granules, fixed and random.
 pub fn committed_cases() -> Vec<Case> {
     let mut random = Random::new(SEED);
     let mut cases = fixed_cases();
@@ -45,6 +50,9 @@ pub fn committed_cases() -> Vec<Case> {
     cases.extend((0..EDITS).map(|number| random_case(SEED, number, 60, Sort::All)));
     cases.extend(small_session_scripts(Sort::All));
     cases.extend(blank_cases());
+    cases.extend(granule_cases());
+    cases.extend((0..WIDE).map(|number| random_case(SEED, number, 60, Sort::Wide)));
+    cases.extend(small_session_scripts(Sort::Wide));
     cases.retain(|case| case.image.len() <= MOST_BUNDLED);
     cases
 }

@@ -190,17 +190,23 @@ fn check_fresh(side: &Side, number: usize) -> Check {
     }
     let start = usize::from(entry.first) * 360;
     let extent = side.image[start..start + sectors * 360].to_vec();
-    let whole = r.div_ceil(360) * 360;
-    for (granule, lies_there) in extent.chunks(whole).enumerate() {
+    let granules = granules_in(&extent, r);
+    for (granule, lies_there) in granules.iter().chain(&[&[][..]]).enumerate() {
         let shown = engine::look(&side.image, &side.session, number, granule);
-        let wanted: &[u8] = if lies_there.len() == whole {
-            &lies_there[..r]
-        } else {
-            &[]
-        };
-        must(shown == wanted, "its granules are what lies there")?;
+        must(shown == *lies_there, "its granules are what lies there")?;
     }
     Ok(())
+}
+
+/// The parts of an extent that are granules, one behind another.
+fn granules_in(extent: &[u8], r: usize) -> Vec<&[u8]> {
+    if r > 180 {
+        let whole = extent.chunks_exact(r.div_ceil(360) * 360);
+        whole.map(|sectors| &sectors[..r]).collect()
+    } else {
+        let sectors = extent.chunks(360);
+        sectors.flat_map(|sector| sector.chunks_exact(r)).collect()
+    }
 }
 
 fn check_deleted(before: &Side, after: &Side, number: usize) -> Check {

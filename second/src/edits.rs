@@ -9,6 +9,7 @@ use crate::disk::Disk;
 use crate::editing::Asked;
 use crate::handmade::Handmade;
 use crate::image::{put_word, BLANK};
+use crate::layout::granule_capacity;
 use crate::notation::script;
 use crate::play::play;
 use crate::script::Script;
@@ -691,8 +692,12 @@ fn fresh_files() -> Vec<Case> {
         (RANDOM, 2),
         (RANDOM, 3_600),
     ]) {
+        let past = match kind {
+            RANDOM => granule_capacity(r, 2).max(2),
+            _ => 2,
+        };
         let words = format!(
-            "add:NEW:{kind}:{r}:2 @2 open read:4000 forward back file-forward file-back rewind look:0 look:1 look:2
+            "add:NEW:{kind}:{r}:2 @2 open read:4000 forward back file-forward file-back rewind look:0 look:1 look:{past}
              get:0:4000 put:1:{r} get:1:4000 write:{r} mixed:{r} chars:{r} write:1 write:{} read:4000 rewind
              read:{r}*4 mark read:4000 file-back write:2 close open read:4000*3 close
              @0 open read*2 @17 open read @1 open read @2 open @3 open @2 delete close delete open",
@@ -1057,7 +1062,7 @@ fn other_tables() -> Vec<Case> {
         (
             "extent-smaller",
             mounted.clone().word(0, 14, 2),
-            "add:NEW:4:80:2 @2 open look:0 look:1 close @0 delete",
+            "add:NEW:4:80:2 @2 open look:0 look:4 close @0 delete",
         ),
         (
             "extent-larger",

@@ -1,4 +1,5 @@
-//! The requests of document 01, for both engines. (`editing.rs` has ADD and DELETE.)
+//! The requests of document 01, for both engines, with the granules of document 02's item 3. (`editing.rs`
+//! has ADD and DELETE.)
 //!
 //! Every request tests in the order of document 01: "12, 8, 9, 10, 7 for kind, 4, 7 for beyond,
 //! 5, 6, then 11, 3, 1, 2 or 7 for the end." A refusal (`Err`) comes before any change.
@@ -7,8 +8,8 @@ use crate::answer::{settle, Answer, Outcome};
 use crate::coding::{self, GO_ON};
 use crate::directory::{end_place, Entry, BLOCKED, COMPRESSED, ENTRY_BYTES, MARKED, RANDOM};
 use crate::image::{put_word, sector, sector_mut, BLANK, SECTOR};
-use crate::layout::{blocked_place, capacity, sectors_per_record, unblocked_start};
-use crate::layout::{Place, MOST_RECORDS};
+use crate::layout::{blocked_place, capacity, granule_place, granules_share, sectors_per_record};
+use crate::layout::{unblocked_start, Place, MOST_RECORDS};
 use crate::session::{Buffer, OpenFile, Session};
 
 /// "a position order, which is one of seven"
@@ -54,8 +55,8 @@ pub fn granule_read(
     settle(try_granule_read(image, session, number, granule, buffer))
 }
 
-/// Granule write: "Short records and granules are padded with zero"; "Bytes behind R are written
-/// as zero."
+/// Granule write, for R up to 180: "A write then changes only its own R bytes, padding included." Above,
+/// "Bytes behind R are written as zero."
 pub fn granule_write(
     image: &mut [u8],
     session: &Session,
@@ -168,8 +169,8 @@ fn try_granule_write(
     }
     written_length_must_fit(data, entry.r())?; // 5, 6
     let start = granule_start(&entry, granule)?; // 3
-    let whole = whole_sectors(data, entry.r());
-    image[start..start + whole.len()].copy_from_slice(&whole);
+    let written = granule_bytes(data, entry.r());
+    image[start..start + written.len()].copy_from_slice(&written);
     Ok(Answer::Done)
 }
 
@@ -240,13 +241,26 @@ fn random_file(image: &[u8], session: &Session, number: usize) -> Result<Entry, 
     Ok(entry)
 }
 
-/// The image's byte where granule g begins: "granule g begins s·g sectors into the extent".
+/// The image's byte where granule g begins, maybe in the middle of its sector.
 /// 3 "granule number at or over capacity"
 fn granule_start(entry: &Entry, granule: usize) -> Result<usize, Answer> {
     if capacity(entry).is_none_or(|most| granule >= most) {
         return Err(Answer::NoRoom);
     }
-    Ok(entry.image_sector(unblocked_start(entry.r(), granule)) * SECTOR)
+    let place = granule_place(entry.r(), granule);
+    Ok(entry.image_sector(place.sector) * SECTOR + place.byte)
+}
+
+/// The bytes that a granule write puts: "Short records and granules are padded with zero", up to R where
+/// granules share a sector, else up to the last sector's end.
+fn granule_bytes(data: &[u8], r: usize) -> Vec<u8> {
+    if granules_share(r) {
+        let mut own = data.to_vec();
+        own.resize(r, 0);
+        own
+    } else {
+        whole_sectors(data, r)
+    }
 }
 
 /// A record or granule as its whole sectors: "Short records and granules are padded with zero";

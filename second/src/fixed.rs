@@ -123,8 +123,8 @@ fn some_count(kind: u16, r: usize) -> usize {
 
 /// Random files: R, sectors, flags and capacity.
 const RANDOM_FILES: [(usize, usize, u16, usize); 8] = [
-    (2, 3, 0, 3),
-    (80, 3, PROTECTED, 3),
+    (2, 3, 0, 540),
+    (80, 3, PROTECTED, 12),
     (360, 3, 0, 3),
     (362, 5, 0, 2),
     (720, 4, 0, 2),
@@ -134,8 +134,8 @@ const RANDOM_FILES: [(usize, usize, u16, usize); 8] = [
 ];
 
 fn granules() -> Vec<Case> {
-    let rule = "granule g begins s·g sectors into the extent; granule number at or \
-                over capacity: 3";
+    let rule = "for R up to 180, ... granule g in extent sector g/q rounded down at byte (g mod q)·R; \
+                above, granule g begins s·g sectors into the extent; granule number at or over capacity: 3";
     let mut cases = Vec::new();
     for (r, sectors, flags, capacity) in RANDOM_FILES {
         let image = Disk::used(2 + sectors)
@@ -363,7 +363,8 @@ fn ten_files() -> Vec<u8> {
 }
 
 /// Every request, in ways that break all rules that it can break.
-const ALL_WRONG: &str = "read:1 write:1 write:0 write:802 get:9:1 put:9:1 put:9:0 put:9:802 look:9
+const ALL_WRONG: &str =
+    "read:1 write:1 write:0 write:802 get:99:1 put:99:1 put:99:0 put:99:802 look:99
     mark rewind forward back file-forward file-back close";
 
 /// A name, the tests that apply at once, entries, and what is tried on each of them.
@@ -415,7 +416,7 @@ const ORDERS: [(&str, &str, &[usize], &str); 14] = [
         "4-granule",
         "4 before 5, 6 and 3: a protected random file",
         &[7],
-        "open put:3:1 put:3:0 put:3:82 put:3:2 put:0:2 put:0:1 get:3:79 get:3 get:2 look:3 look:2",
+        "open put:12:1 put:12:0 put:12:82 put:12:2 put:0:2 put:0:1 get:12:79 get:12 get:11 look:12 look:11",
     ),
     (
         "7-beyond",
@@ -442,7 +443,7 @@ const ORDERS: [(&str, &str, &[usize], &str); 14] = [
         "5-6-3-granule",
         "5 before 6, both before 3: granules",
         &[6],
-        "open put:2:1 put:2:81 put:2:0 put:2:82 put:2:80 get:2:79 get:2 get:1:79 look:2 look:1
+        "open put:8:1 put:8:81 put:8:0 put:8:82 put:8:80 get:8:79 get:8 get:7:79 look:8 look:7
          @9 open put:0:1 put:0:0 put:0:2 get:0:721 get:0:722 look:0",
     ),
     (

@@ -6,7 +6,7 @@ use crate::directory::{BLOCKED, COMPRESSED, MARKED, PROTECTED, RANDOM, UNBLOCKED
 use crate::editing::{self, Asked};
 use crate::engine::Order;
 use crate::image::{ebcdic, BLANK, SECTOR};
-use crate::layout::{capacity, Place};
+use crate::layout::{capacity, unblocked_capacity, Place, MOST_SHARING};
 use crate::model::Model;
 use crate::random::Random;
 use crate::script::{Code, Row, Script};
@@ -48,8 +48,9 @@ pub fn extent_mut<'a>(image: &'a mut [u8], entry: &Entry) -> &'a mut [u8] {
     &mut image[entry.image_sector(0) * SECTOR..entry.extent_end() * SECTOR]
 }
 
-/// A good image with some files of all kinds, empty, full or between, written by others too.
-pub fn random_image(random: &mut Random) -> Vec<u8> {
+/// A good image for a sort of script, with some files of all kinds, empty, full or between, written by
+/// others too.
+pub fn random_image(random: &mut Random, sort: Sort) -> Vec<u8> {
     let n = random.pick(&[1, 3, 5, 8, 8, 12, 12, 16, 16, 20, 20, 26, 26, 26]);
     let mut image = random.bytes(n * SECTOR);
     image[..SECTOR].fill(0);
@@ -62,7 +63,9 @@ pub fn random_image(random: &mut Random) -> Vec<u8> {
             continue;
         }
         next = first + sectors;
-        let mut entry = random_entry(random, file, first, sectors);
+        let mut entry = random_entry(random, file, sort);
+        entry.first = first as u16;
+        entry.sectors = sectors as u16;
         fill_file(random, &mut image, &mut entry);
         let number = numbers.pop().unwrap_or(0);
         put_entry(&mut image, number, &entry);
@@ -71,8 +74,8 @@ pub fn random_image(random: &mut Random) -> Vec<u8> {
 }
 
 /// The same, and most have free sectors behind the last file.
-pub fn roomy_image(random: &mut Random) -> Vec<u8> {
-    let mut image = random_image(random);
+pub fn roomy_image(random: &mut Random, sort: Sort) -> Vec<u8> {
+    let mut image = random_image(random, sort);
     let more = random.pick(&[0, 0, 1, 3, 8, 20, 30]);
     image.extend(random.bytes(more * SECTOR));
     image
@@ -87,11 +90,11 @@ fn shuffled_numbers(random: &mut Random) -> Vec<usize> {
     numbers
 }
 
-fn random_entry(random: &mut Random, file: usize, first: usize, sectors: usize) -> Entry {
-    let kind = random.pick(&[UNBLOCKED, BLOCKED, BLOCKED, COMPRESSED, COMPRESSED, RANDOM]);
-    let r = random_r(random, kind);
+fn random_entry(random: &mut Random, file: usize, sort: Sort) -> Entry {
+    let kind = random.pick(sort.kinds());
+    let r = random_r(random, kind, sort);
     let name = format!("F{file}{}", "ABCDEFG"[..random.between(0, 5)].to_owned());
-    let mut entry = new_entry(&name, kind, r, first, sectors);
+    let mut entry = new_entry(&name, kind, r, 0, 0);
     if random.chance(15) {
         entry.flags |= PROTECTED;
     }
@@ -101,9 +104,16 @@ fn random_entry(random: &mut Random, file: usize, first: usize, sectors: usize) 
     entry
 }
 
+/// Granule lengths at the edges: most of them share a sector.
+const GRANULE_EDGES: [usize; 11] = [2, 4, 60, 62, 120, 178, 180, 182, 358, 360, 362];
+
 /// A record or granule length, often one at an edge.
-fn random_r(random: &mut Random, kind: u16) -> usize {
+pub fn random_r(random: &mut Random, kind: u16, sort: Sort) -> usize {
     let (edges, most): (&[usize], usize) = match kind {
+        RANDOM if sort == Sort::Wide => {
+            let most = random.pick(&[MOST_SHARING, SECTOR, 3_600]);
+            (&GRANULE_EDGES, most)
+        }
         BLOCKED => (&[2, 36, 80, 100, 120, 122, 180, 182, 358, 360], 360),
         COMPRESSED => (&[2, 4, 80, 120, 128, 130, 132, 132], 132),
         _ => (&[2, 80, 120, 358, 360, 362, 720, 722, 3_600], 3_600),
@@ -304,8 +314,23 @@ pub enum Sort {
     First,
     /// Those, ADD and DELETE.
     All,
-    /// The same as all, and a part of the records written to compressed files is groups of blanks.
+    /// The same as all. A part of the records written to compressed files is groups of blanks, and there
+    /// are more random files, most of them with granules that share a sector.
     Wide,
+}
+
+impl Sort {
+    /// The kinds of files in an image, as often as they are to be met.
+    fn kinds(self) -> &'static [u16] {
+        match self {
+            Sort::First | Sort::All => {
+                &[UNBLOCKED, BLOCKED, BLOCKED, COMPRESSED, COMPRESSED, RANDOM]
+            }
+            Sort::Wide => &[
+                UNBLOCKED, BLOCKED, BLOCKED, COMPRESSED, COMPRESSED, RANDOM, RANDOM,
+            ],
+        }
+    }
 }
 
 /// A script of this many requests for an image: mostly phrases that make sense, refused requests
@@ -366,6 +391,9 @@ const REFUSED_LEFT_OUT: usize = 75;
 /// How many in a hundred records for compressed files are groups of blanks, in a wide run.
 const GROUPED: usize = 50;
 
+/// The largest number of a granule: it takes 32 bits.
+const LAST_GRANULE: usize = 0xFFFF_FFFF;
+
 impl Maker<'_> {
     fn of_table(random: &mut Random, table: [Entry; ENTRIES], sort: Sort, n: usize) -> Maker<'_> {
         Maker {
@@ -398,12 +426,33 @@ impl Maker<'_> {
     fn offer_often(&mut self, request: &Script, percent: usize) {
         for (row, data) in request.steps() {
             let answer = self.model.as_mut().map(|model| model.request(&row, data).0);
-            let refused = answer.is_some_and(|answer| answer >= 3);
+            let refused = answer.is_some_and(|answer| answer >= 3) || self.was_over_capacity(&row);
             if !refused || !self.random.chance(100 - percent) {
                 self.script.rows.push(row);
                 self.script.bytes.extend_from_slice(data);
                 self.follow(&row, data, refused);
             }
+        }
+    }
+
+    /// Scripts of the first two sorts are from before granules shared a sector. They stay as they were if a
+    /// granule over the capacity of then counts as a refused one.
+    fn was_over_capacity(&self, row: &Row) -> bool {
+        let entry = self.table.get(usize::from(row.entry));
+        self.sort != Sort::Wide
+            && self.model.is_some()
+            && row.code.takes_granule()
+            && entry.is_some_and(|entry| row.granule_number() >= self.granules(entry))
+    }
+
+    /// How many granules a random file has, as the sort of script sees it; the directory may be bad.
+    fn granules(&self, entry: &Entry) -> usize {
+        if entry.length == 0 {
+            0
+        } else if self.sort == Sort::Wide {
+            capacity(entry).unwrap_or(0)
+        } else {
+            unblocked_capacity(entry.r(), usize::from(entry.sectors))
         }
     }
 
@@ -566,13 +615,56 @@ impl Maker<'_> {
     }
 
     fn granule_phrase(&mut self, number: usize) {
-        let most = granules(&self.table[number]);
+        if self.sort == Sort::Wide {
+            return self.neighbours_phrase(number);
+        }
+        let most = self.granules(&self.table[number]);
         for _ in 0..self.random.between(1, 4) {
             let granule = self.random.between(0, most + 1);
             self.granule_request(number, granule);
         }
         if self.random.chance(10) {
             self.close_it(number);
+        }
+    }
+
+    /// Requests on a granule, on those beside it and on others.
+    fn neighbours_phrase(&mut self, number: usize) {
+        let centre = self.some_granule(number);
+        for _ in 0..self.random.between(2, 7) {
+            let granule = match self.random.between(0, 9) {
+                0..=2 => centre,
+                3..=4 => centre.saturating_sub(1),
+                5..=6 => (centre + 1).min(LAST_GRANULE),
+                _ => self.some_granule(number),
+            };
+            self.granule_request(number, granule);
+        }
+        if self.random.chance(10) {
+            self.close_it(number);
+        }
+    }
+
+    /// A granule's number: any of the file, one at a sector's end or beginning, one about the capacity, or a
+    /// good one and some 65,536 more.
+    fn some_granule(&mut self, number: usize) -> usize {
+        let entry = self.table[number];
+        let most = self.granules(&entry);
+        let last = most.saturating_sub(1);
+        let q = SECTOR.checked_div(entry.r()).unwrap_or(0).max(1);
+        let of_sector = q * self.random.between(0, last / q);
+        let any = self.random.between(0, last);
+        match self.random.between(0, 99) {
+            0..=29 => any,
+            30..=44 => (of_sector + q - 1).min(last),
+            45..=59 => of_sector,
+            60..=79 => last,
+            80..=87 => most,
+            88..=90 => most + 1,
+            91..=92 => most + self.random.between(0, 65_535),
+            93..=97 => 65_536 + any,
+            98 => 65_536 * self.random.between(1, 65_535) + any,
+            _ => LAST_GRANULE,
         }
     }
 
@@ -756,7 +848,7 @@ impl Maker<'_> {
         request.add(&Asked {
             name: &name,
             kind,
-            length: random_r(self.random, kind) as u16,
+            length: random_r(self.random, kind, self.sort) as u16,
             sectors: sectors.min(65_535) as u16,
         });
         self.offer_often(&request, 40);
@@ -834,7 +926,7 @@ impl Maker<'_> {
         let kind = self.some_kind();
         let mut name = self.some_name().to_vec();
         let mut asked_kind = kind;
-        let mut length = random_r(self.random, kind) as u16;
+        let mut length = random_r(self.random, kind, self.sort) as u16;
         let mut sectors = self.some_sectors().min(65_535) as u16;
         for _ in 0..self.random.pick(&[1, 1, 1, 2, 2, 3]) {
             match self.random.between(0, 9) {
@@ -894,18 +986,9 @@ impl Maker<'_> {
     }
 
     fn odd_length(&mut self, kind: u16) -> u16 {
-        let other = random_r(self.random, kind % 4 + 1) as u16;
+        let other = random_r(self.random, kind % 4 + 1, self.sort) as u16;
         let odd = 2 * self.random.between(0, 66) as u16 + 1;
         self.random
             .pick(&[0, 1, odd, 134, 132, 360, 362, 3_600, 3_602, 65_534, other])
-    }
-}
-
-/// How many granules a random file of a directory that may be bad has.
-fn granules(entry: &Entry) -> usize {
-    if entry.length == 0 {
-        0
-    } else {
-        capacity(entry).unwrap_or(0)
     }
 }

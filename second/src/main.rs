@@ -1,4 +1,4 @@
-//! A second, independent implementation of the file layer that document 01 specifies, with item 1 of
+//! A second, independent implementation of the file layer that document 01 specifies, with items 1 to 3 of
 //! document 02.
 //!
 //! Written from these documents alone, to be held against them: every rule stands beside the sentence
@@ -21,6 +21,8 @@ mod edits;
 mod engine;
 mod fixed;
 mod generate;
+mod granulecheck;
+mod granules;
 mod handmade;
 mod image;
 mod layout;

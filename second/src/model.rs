@@ -67,7 +67,7 @@ impl Model {
                 let stood = self.tapes.get(usize::from(row.entry)).cloned().flatten();
                 let (answer, moved) = self.tape_request(row, data);
                 if let (0, Some(tape)) = (answer, stood) {
-                    self.leave(&tape, usize::from(row.granule), data);
+                    self.leave(&tape, row.granule_number(), data);
                 }
                 (answer, moved, None)
             }
@@ -148,6 +148,14 @@ impl Model {
                 }
                 extent[sector * 360 + byte..][..code.len()].copy_from_slice(&code);
             }
+            4 if several_in_a_sector(stood.r) => {
+                let mut parts = extent
+                    .chunks_mut(360)
+                    .flat_map(|sector| sector.chunks_exact_mut(stood.r));
+                if let Some(part) = parts.nth(granule) {
+                    part.copy_from_slice(&record);
+                }
+            }
             kind => {
                 let whole = stood.r.div_ceil(360) * 360;
                 let part = &mut extent[whole * if kind == 4 { granule } else { p }..][..whole];
@@ -171,7 +179,7 @@ impl Model {
             return (8, Vec::new());
         };
         let random = tape.kind == 4;
-        let granule = usize::from(row.granule);
+        let granule = row.granule_number();
         let size = usize::from(row.length);
         match row.code {
             Code::GranuleRead | Code::GranuleWrite | Code::GranuleLook if !random => {
@@ -404,6 +412,11 @@ pub fn hand_decode(rest: &[u8], r: usize) -> Option<(Vec<u8>, usize)> {
     Some((record, at + 1))
 }
 
+/// Two granules and more find room in a sector.
+fn several_in_a_sector(r: usize) -> bool {
+    r + r <= 360
+}
+
 fn number(entry: &[u8], at: usize) -> usize {
     usize::from(entry[at]) * 256 + usize::from(entry[at + 1])
 }
@@ -427,6 +440,11 @@ fn tape_of(image: &[u8], entry: &[u8]) -> Option<Tape> {
             let records;
             (records, places) = expand(extent, r, count);
             (sectors, records)
+        }
+        4 if several_in_a_sector(r) => {
+            let in_sector = |sector| <[u8]>::chunks_exact(sector, r).map(<[u8]>::to_vec);
+            let all: Vec<Vec<u8>> = extent.chunks(360).flat_map(in_sector).collect();
+            (all.len(), all)
         }
         _ => {
             let all = extent.chunks_exact(stride).map(|s| s[..r].to_vec());

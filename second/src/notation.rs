@@ -7,7 +7,7 @@
 //! - `write:L`, `mixed:L`, `chars:L`, `blanks:L`: a write of L bytes that are of all sorts, groups
 //!   of blanks and characters, one character, blanks
 //! - `text:A..B`: a write of these characters, a point for a blank
-//! - `get:G:L`, `put:G:L`, `look:G`: granule G read, written, shown
+//! - `get:G:L`, `put:G:L`, `look:G`: granule G read, written, shown; G may be over 65,535
 //! - `add:NAME:KIND:L:S`: an adding of a file of L bytes a record and S sectors; blanks are put behind a
 //!   name of fewer than eight letters
 //! - `hex:BYTES:KIND:L:S`: the same, the bytes of the name in hex and no others

@@ -121,7 +121,7 @@ pub fn perform(
     buffer: &mut [u8],
 ) -> Performed {
     let entry = usize::from(row.entry);
-    let granule = usize::from(row.granule);
+    let granule = row.granule_number();
     let mut shown = Vec::new();
     let mut added = None;
     let answer = match row.code {

@@ -61,15 +61,24 @@ impl Code {
         }
     }
 
+    /// The rows that have a granule's number: codes 4, 5 and 6.
+    pub fn takes_granule(self) -> bool {
+        matches!(
+            self,
+            Code::GranuleRead | Code::GranuleWrite | Code::GranuleLook
+        )
+    }
+
     /// The rows that change the directory: codes 14 and 15.
     pub fn edits(self) -> bool {
         matches!(self, Code::Add | Code::Delete)
     }
 }
 
-/// One row: the request, its entry, the length (bytes of a write, buffer size of a read) and the
-/// granule number, and words 4 and 5. An adding has the kind for an entry, the number of name bytes for
-/// a length, R for a granule number and the sector count in word 4; nothing else looks at words 4 and 5.
+/// One row: the request, its entry, the length (bytes of a write, buffer size of a read) and the low word
+/// of the granule's number, words 4 and 5, and the high word of the granule's number. An adding has the
+/// kind for an entry, the number of name bytes for a length, R for a granule's low word and the sector
+/// count in word 4; nothing else looks at words 4 and 5.
 #[derive(Clone, Copy, Debug, PartialEq, Eq)]
 pub struct Row {
     pub code: Code,
@@ -77,22 +86,28 @@ pub struct Row {
     pub length: u16,
     pub granule: u16,
     pub more: [u16; 2],
+    pub high: u16,
 }
 
 impl Row {
-    /// Reads a row of 16 bytes. Words 6 and 7 must be zero.
+    /// Reads a row of 16 bytes. Word 7 must be zero, and word 6 where the request takes no granule.
     fn from_bytes(bytes: &[u8]) -> Result<Row, String> {
-        if word(bytes, 12) != 0 || word(bytes, 14) != 0 {
-            return Err("unknown shape (the last two words are not zero)".to_string());
-        }
         let number = word(bytes, 0);
-        let code = Code::from_number(number).ok_or(format!("unknown code {number}"))?;
+        let code = Code::from_number(number);
+        let takes_granule = code.is_some_and(Code::takes_granule);
+        if word(bytes, 14) != 0 || (word(bytes, 12) != 0 && !takes_granule) {
+            return Err(
+                "unknown shape (word 7 is not zero, or word 6 without a granule)".to_string(),
+            );
+        }
+        let code = code.ok_or(format!("unknown code {number}"))?;
         Ok(Row {
             code,
             entry: word(bytes, 2),
             length: word(bytes, 4),
             granule: word(bytes, 6),
             more: [word(bytes, 8), word(bytes, 10)],
+            high: word(bytes, 12),
         })
     }
 
@@ -104,7 +119,13 @@ impl Row {
         put_word(&mut bytes, 6, self.granule);
         put_word(&mut bytes, 8, self.more[0]);
         put_word(&mut bytes, 10, self.more[1]);
+        put_word(&mut bytes, 12, self.high);
         bytes
+    }
+
+    /// The granule's number: "g mod 65,536 in word 3 and g / 65,536, rounded down, in word 6".
+    pub fn granule_number(&self) -> usize {
+        usize::from(self.high) << 16 | usize::from(self.granule)
     }
 
     /// The bytes that this row uses up.
@@ -166,13 +187,14 @@ impl Script {
 
     // --- building ---
 
-    fn push(&mut self, code: Code, entry: u16, length: u16, granule: u16) -> &mut Script {
+    fn push(&mut self, code: Code, entry: u16, length: usize, granule: usize) -> &mut Script {
         self.rows.push(Row {
             code,
             entry,
-            length,
-            granule,
+            length: length as u16,
+            granule: granule as u16,
             more: [0; 2],
+            high: (granule >> 16) as u16,
         });
         self
     }
@@ -182,26 +204,25 @@ impl Script {
     }
 
     pub fn read(&mut self, entry: u16, size: usize) -> &mut Script {
-        self.push(Code::Read, entry, size as u16, 0)
+        self.push(Code::Read, entry, size, 0)
     }
 
     pub fn write(&mut self, entry: u16, data: &[u8]) -> &mut Script {
         self.bytes.extend_from_slice(data);
-        self.push(Code::Write, entry, data.len() as u16, 0)
+        self.push(Code::Write, entry, data.len(), 0)
     }
 
     pub fn granule_read(&mut self, entry: u16, granule: usize, size: usize) -> &mut Script {
-        self.push(Code::GranuleRead, entry, size as u16, granule as u16)
+        self.push(Code::GranuleRead, entry, size, granule)
     }
 
     pub fn granule_write(&mut self, entry: u16, granule: usize, data: &[u8]) -> &mut Script {
         self.bytes.extend_from_slice(data);
-        let length = data.len() as u16;
-        self.push(Code::GranuleWrite, entry, length, granule as u16)
+        self.push(Code::GranuleWrite, entry, data.len(), granule)
     }
 
     pub fn granule_look(&mut self, entry: u16, granule: usize) -> &mut Script {
-        self.push(Code::GranuleLook, entry, 0, granule as u16)
+        self.push(Code::GranuleLook, entry, 0, granule)
     }
 
     pub fn order(&mut self, entry: u16, order: Order) -> &mut Script {
@@ -220,6 +241,7 @@ impl Script {
             length: asked.name.len() as u16,
             granule: asked.length,
             more: [asked.sectors, 0],
+            high: 0,
         });
         self
     }

@@ -1,5 +1,6 @@
 //! Runs both engines and the tiny model side by side and holds them to document 01's promises, as document
-//! 02's item 1 has them. What ADD and DELETE must do is in `editcheck.rs`.
+//! 02's items 1 and 3 have them. What ADD and DELETE must do is in `editcheck.rs`, where granules lie in
+//! `granulecheck.rs`.
 
 use crate::answer::{Answer, ANSWERS};
 use crate::cases::all_cases;
@@ -14,6 +15,7 @@ use crate::generate::{
     blank_groups, extent_mut, foreign_code, random_script, random_text, roomy_image, script_on,
     Sort,
 };
+use crate::granulecheck::{check_granule, check_places};
 use crate::image::{sector, sector_mut, BLANK, SECTOR};
 use crate::layout::{blocked_place, capacity, sectors_per_record, Place, MOST_RECORDS};
 use crate::model::{hand_code, hand_decode, Model};
@@ -23,7 +25,7 @@ use crate::script::{Code, Row, Script};
 use crate::session::{mount, Buffer, Engine, OpenFile, Session};
 use crate::sessions::session_cases;
 use crate::stored::{read_session, store};
-use crate::strange::{strange_bytes_and_refused, strange_session};
+use crate::strange::{strange_bytes_and_refused, strange_wide_session};
 
 /// A promise that does not hold, or nothing.
 pub type Check = Result<(), String>;
@@ -52,6 +54,7 @@ pub struct Tally {
 /// sessions (legal, but made by hand) and illegal ones.
 pub fn selfcheck(seed: u64, count: usize, requests: usize) -> Result<Tally, String> {
     let mut tally = Tally::default();
+    check_places()?;
     check_cases(seed, &mut tally)?;
     check_session_cases(&mut tally)?;
     for script in 0..count {
@@ -90,7 +93,7 @@ struct Before {
 }
 
 fn check_script(random: &mut Random, requests: usize, tally: &mut Tally) -> Check {
-    let image = roomy_image(random);
+    let image = roomy_image(random, Sort::Wide);
     let script = random_script(random, &image, requests, Sort::Wide);
     check_run(&image, &script, tally)
 }
@@ -464,6 +467,7 @@ fn perform_checked(side: &mut Side, row: &Row, data: &[u8]) -> Result<Performed,
     let performed = perform(&mut side.image, &mut side.session, row, data, &mut buffer);
     let answer = performed.answer;
     check_edit(&before, side, row, data, (answer.number(), performed.added))?;
+    check_granule(&before, side, row, data, answer)?;
     if answer.is_refusal() {
         // ""Nothing changed" covers image, session and caller's buffer."
         must(before.image == side.image, "a refusal leaves the image")?;
@@ -508,9 +512,7 @@ fn check_plain(before: &Side, after: &Side, row: &Row, data: &[u8], answer: Answ
             .map(|slot| before.session.open[slot]);
         match (row.code, file) {
             (Code::Write, Some(file)) => write_by_hand(&mut expected, &entry, &file, data),
-            (Code::GranuleWrite, Some(_)) => {
-                write_whole(&mut expected, &entry, usize::from(row.granule), data);
-            }
+            (Code::GranuleWrite, _) => return Ok(()), // `granulecheck.rs`
             (Code::Order(Order::RewindOffLine), Some(_)) => {
                 let at = number * ENTRY_BYTES + 16;
                 expected[at..at + 2].copy_from_slice(&(entry.count as u16).to_be_bytes());
@@ -565,8 +567,8 @@ fn write_whole(image: &mut [u8], entry: &Entry, k: usize, data: &[u8]) {
 // over the one image give the other), and meet bad codes.
 
 fn check_strange(random: &mut Random, requests: usize, tally: &mut Tally) -> Check {
-    let mut image = roomy_image(random);
-    let session = strange_session(random, &mut image);
+    let mut image = roomy_image(random, Sort::Wide);
+    let session = strange_wide_session(random, &mut image);
     must(session.is_legal(&image), "a strange session is legal")?;
     check_illegal(random, &image, &session, tally)?;
     check_bytes(random, &image, &session, tally)?;

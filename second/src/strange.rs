@@ -1,8 +1,8 @@
 //! Strange sessions: legal ones that no mounting hands out, over extents of any bytes, and ones that
 //! are not legal, or no session at all.
 
-use crate::directory::{Entry, COMPRESSED, ENTRIES, MARKED};
-use crate::generate::{extent_mut, random_text};
+use crate::directory::{Entry, COMPRESSED, ENTRIES, MARKED, RANDOM};
+use crate::generate::{extent_mut, random_r, random_text, Sort};
 use crate::handmade::Handmade;
 use crate::image::{sector, SECTOR};
 use crate::layout::{capacity, Place, MOST_RECORDS};
@@ -23,6 +23,19 @@ pub fn strange_session(random: &mut Random, image: &mut [u8]) -> Session {
     disturb_extents(random, image, &session);
     disturb_table(random, &mut session);
     disturb_open_files(random, image, &mut session);
+    session
+}
+
+/// The same, and of some random files the table has another R than the directory: their granules lie
+/// elsewhere.
+pub fn strange_wide_session(random: &mut Random, image: &mut [u8]) -> Session {
+    let mut session = strange_session(random, image);
+    let files = session.table.iter_mut();
+    for entry in files.filter(|entry| entry.kind == RANDOM) {
+        if random.chance(30) {
+            entry.length = random_r(random, RANDOM, Sort::Wide) as u16;
+        }
+    }
     session
 }
 

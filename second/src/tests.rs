@@ -1,4 +1,5 @@
-//! Document 01's table of twelve rows, the listing's whole case, the easy errors, and some more.
+//! Document 01's table of twelve rows, the listing's whole case, the easy errors, and some more; ADD and DELETE,
+//! small granules.
 
 use std::collections::HashSet;
 
@@ -15,8 +16,10 @@ use crate::editing::{self, Asked};
 use crate::edits::{edit_cases, pictured};
 use crate::engine::{self, Order};
 use crate::generate::{empty_image, new_entry, put_entry, random_image, Sort};
+use crate::granules::granule_cases;
 use crate::image::{sector, words, BLANK, SECTOR};
-use crate::layout::{blocked_place, capacity, records_per_sector, unblocked_capacity, Place};
+use crate::layout::{blocked_place, capacity, granule_capacity, granule_place};
+use crate::layout::{records_per_sector, unblocked_capacity, Place};
 use crate::listed::{images_of, listed_file, listed_images};
 use crate::listing::listing;
 use crate::model::hand_code;
@@ -750,7 +753,7 @@ fn sessions_come_back() {
         assert_eq!(read_session(&store(&session)), Some(session));
     }
     for _ in 0..200 {
-        let mut image = random_image(&mut random);
+        let mut image = random_image(&mut random, Sort::Wide);
         let session = strange_session(&mut random, &mut image);
         assert_eq!(read_session(&store(&session)).as_ref(), Some(&session));
         let made = strange_bytes(&mut random, &image, &session);
@@ -1295,6 +1298,40 @@ fn rows_that_are_not_in_order() {
     );
 }
 
+/// Word 6 is "the high word of the granule's number, where the request takes one (codes 4, 5 and 6); else
+/// zero", word 7 is zero. The tests of a row in their order: cut short, shape, code, bytes.
+#[test]
+fn shapes_of_rows() {
+    const SHAPE: &str = "row 0: unknown shape (word 7 is not zero, or word 6 without a granule)";
+    let row = |words: [u16; 8]| words.map(u16::to_be_bytes).concat();
+    let why = |bytes: &[u8]| Script::parse(bytes, Vec::new()).err();
+    for code in 0..=17 {
+        for high in [1, 256, 65_535] {
+            let with_word_6 = row([code, 1, 0, 2, 0, 0, high, 0]);
+            if (4..=6).contains(&code) {
+                let script = Script::parse(&with_word_6, Vec::new()).unwrap_or_default();
+                let granule = script.rows[0].granule_number();
+                assert_eq!(granule, usize::from(high) * 65_536 + 2);
+                assert_eq!(script.row_bytes(), with_word_6);
+            } else {
+                assert_eq!(why(&with_word_6).as_deref(), Some(SHAPE), "code {code}");
+            }
+            let with_word_7 = row([code, 1, 0, 2, 0, 0, 0, high]);
+            assert_eq!(why(&with_word_7).as_deref(), Some(SHAPE), "code {code}");
+        }
+    }
+    let all_wrong = row([99, 0, 7, 0, 0, 0, 1, 1]);
+    let cut = "row 0: cut short at 15 of 16 bytes";
+    assert_eq!(why(&all_wrong[..15]).as_deref(), Some(cut));
+    assert_eq!(why(&all_wrong).as_deref(), Some(SHAPE));
+    assert_eq!(why(&row([3, 0, 7, 0, 0, 0, 1, 0])).as_deref(), Some(SHAPE));
+    let missing = "row 0: bytes are missing for its write of 7";
+    assert_eq!(
+        why(&row([5, 0, 7, 0, 0, 0, 1, 0])).as_deref(),
+        Some(missing)
+    );
+}
+
 #[test]
 fn play_text() {
     let mut script = Script::default();
@@ -1341,7 +1378,7 @@ fn cases_have_names_of_their_own_and_parse() {
 fn scripts_in_words() {
     let told = script(
         4,
-        "open @2 read:R+1 text:A..B put:7:2 forward*2 look:9 close add:AB:3:R+2:7 hex:00C1:4:2:1 delete",
+        "open @2 read:R+1 text:A..B put:7:2 forward*2 look:9 look:65545 close add:AB:3:R+2:7 hex:00C1:4:2:1 delete",
     );
     let mut wanted = Script::default();
     wanted.open(0).read(2, 5);
@@ -1349,11 +1386,12 @@ fn scripts_in_words() {
     wanted.granule_write(2, 7, &told.bytes[4..6]);
     wanted.order(2, Order::RecordForward);
     wanted.order(2, Order::RecordForward);
-    wanted.granule_look(2, 9).close(2);
+    wanted.granule_look(2, 9).granule_look(2, 65_545).close(2);
     let name = [0xC1, 0xC2, BLANK, BLANK, BLANK, BLANK, BLANK, BLANK];
     wanted.add(&asked(&name, COMPRESSED, 6, 7));
     wanted.add(&asked(&[0, 0xC1], RANDOM, 2, 1)).delete(2);
     assert_eq!(told.rows, wanted.rows);
+    assert_eq!((told.rows[7].granule, told.rows[7].high), (9, 1));
     assert_eq!(told.bytes, wanted.bytes);
 }
 
@@ -1595,4 +1633,300 @@ fn wide_cases_write_groups_of_blanks() {
     println!("{counts:?}");
     let [all, groups, over_64, over_126] = counts;
     assert!(groups * 2 > all && over_64 * 5 > all && over_126 * 25 > all);
+}
+
+// ---------------------------------------------------------------------------------------------
+// Small granules.
+
+impl Bench {
+    fn put(&mut self, granule: usize, data: &[u8]) -> Answer {
+        engine::granule_write(&mut self.image, &self.session, 0, granule, data)
+    }
+
+    fn look(&self, granule: usize) -> &[u8] {
+        engine::look(&self.image, &self.session, 0, granule)
+    }
+
+    fn look_answer(&self, granule: usize) -> Answer {
+        engine::look_answer(&self.image, &self.session, 0, granule)
+    }
+}
+
+/// "the station's calibration files have granules of 60 bytes, six to a sector ... granule g in extent sector
+/// g/q rounded down at byte (g mod q)·R"
+#[test]
+fn six_granules_of_60_bytes_lie_in_a_sector() {
+    for engine in BOTH {
+        let mut bench = Bench::with_file(engine, RANDOM, 60, 3);
+        assert_eq!(capacity(&bench.entry()), Some(18));
+        for granule in (0..18).rev() {
+            assert_eq!(bench.put(granule, &[granule as u8; 60]), Done);
+        }
+        let wanted: Vec<u8> = (0..18 * 60).map(|at| (at / 60) as u8).collect();
+        assert_eq!(bench.image[SECTOR..], wanted);
+        let mut buffer = [9; 62];
+        let answer = engine::granule_read(&bench.image, &bench.session, 0, 7, &mut buffer);
+        assert_eq!(answer, Done);
+        assert_eq!(buffer[..60], [7; 60]);
+        assert_eq!(buffer[60..], [9; 2]);
+        assert_eq!(bench.look_answer(17), Done);
+        assert_eq!(bench.look_answer(18), NoRoom);
+        assert_eq!(bench.look(18), []);
+    }
+}
+
+/// "A write then changes only its own R bytes, padding included": not the neighbours, and not "the 360 − q·R
+/// bytes at a sector's end".
+#[test]
+fn a_granule_write_changes_its_own_bytes() {
+    for engine in BOTH {
+        for (r, q) in [
+            (2, 180),
+            (4, 90),
+            (60, 6),
+            (62, 5),
+            (100, 3),
+            (178, 2),
+            (180, 2),
+        ] {
+            for granule in [0, 1, q - 1, q, 2 * q - 1] {
+                let mut bench = Bench::with_file(engine, RANDOM, r, 2);
+                let mut wanted = bench.image.clone();
+                let start = SECTOR * (1 + granule / q) + granule % q * r;
+                wanted[start..start + r].fill(0);
+                wanted[start..start + 2].copy_from_slice(&[0xC1, 0xC2]);
+                assert_eq!(bench.put(granule, &[0xC1, 0xC2]), Done);
+                assert_eq!(bench.image, wanted, "R {r} granule {granule}");
+                assert_eq!(bench.put(2 * q, &[0xC1, 0xC2]), NoRoom);
+                assert_eq!(bench.image, wanted, "R {r} granule {granule}");
+            }
+        }
+    }
+}
+
+/// "Above 180 the old rule holds, zero behind R to the last sector's end included"
+#[test]
+fn larger_granules_keep_the_old_rule() {
+    for engine in BOTH {
+        for (r, s) in [(182, 1), (358, 1), (360, 1), (362, 2), (722, 3)] {
+            let mut bench = Bench::with_file(engine, RANDOM, r, 7);
+            assert_eq!(capacity(&bench.entry()), Some(7 / s));
+            let mut wanted = bench.image.clone();
+            let part = &mut wanted[SECTOR * (1 + s)..SECTOR * (1 + 2 * s)];
+            part.fill(0);
+            part[..2].copy_from_slice(&[0xC1, 0xC2]);
+            assert_eq!(bench.put(1, &[0xC1, 0xC2]), Done);
+            assert_eq!(bench.image, wanted, "R {r}");
+            assert_eq!(bench.look(1).len(), r);
+        }
+    }
+}
+
+/// "3 uses the new capacity, q·sectors"; it "has no limit of 65,535".
+#[test]
+fn capacities_of_granules() {
+    for (r, sectors, most) in [
+        (2, 1, 180),
+        (2, 364, 65_520),
+        (2, 365, 65_700),
+        (2, 4_095, 737_100),
+        (4, 3, 270),
+        (60, 1, 6),
+        (62, 2, 10),
+        (120, 5, 15),
+        (122, 5, 10),
+        (178, 3, 6),
+        (180, 3, 6),
+        (182, 3, 3),
+        (360, 3, 3),
+        (362, 5, 2),
+        (3_600, 9, 0),
+    ] {
+        assert_eq!(granule_capacity(r, sectors), most, "R {r}");
+        let entry = new_entry("FILE", RANDOM, r, 1, sectors);
+        assert_eq!(capacity(&entry), Some(most), "R {r}");
+    }
+    assert_eq!(
+        granule_place(62, 9),
+        Place {
+            sector: 1,
+            byte: 248
+        }
+    );
+    assert_eq!(
+        granule_place(180, 3),
+        Place {
+            sector: 1,
+            byte: 180
+        }
+    );
+    assert_eq!(granule_place(182, 3), Place { sector: 3, byte: 0 });
+    assert_eq!(
+        granule_place(2, 65_541),
+        Place {
+            sector: 364,
+            byte: 42
+        }
+    );
+}
+
+/// "Unblocked files keep their rule", for R up to 180 too.
+#[test]
+fn small_unblocked_records_have_a_sector_each() {
+    for engine in BOTH {
+        for r in [2, 60, 180] {
+            let mut bench = Bench::with_file(engine, UNBLOCKED, r, 3);
+            assert_eq!(capacity(&bench.entry()), Some(3));
+            assert_eq!(bench.write(&vec![1; r]), Done);
+            assert_eq!(bench.write(&[2, 2]), Done);
+            let second = sector(&bench.image, 2);
+            assert_eq!(second[..2], [2, 2]);
+            assert_eq!(second[2..], [0; SECTOR - 2]);
+            assert_eq!(bench.write(&[3, 3]), Done);
+            assert_eq!(bench.write(&[4, 4]), NoRoom);
+        }
+    }
+}
+
+/// "The look shows the part in the middle of its sector", in place.
+#[test]
+fn a_look_shows_the_part_in_the_middle_of_its_sector() {
+    let bench = Bench::with_file(Engine::Plain, RANDOM, 60, 2);
+    let part = &bench.image[2 * SECTOR + 120..2 * SECTOR + 180];
+    assert_eq!(bench.look(8).as_ptr_range(), part.as_ptr_range());
+}
+
+/// "Old images are read under the new rule": what was a granule at each sector's start is granule q·k.
+#[test]
+fn old_images_are_read_under_the_new_rule() {
+    for engine in BOTH {
+        let mut image = empty_image(4);
+        put_entry(&mut image, 0, &new_entry("OLD", RANDOM, 100, 1, 3));
+        for number in 1..4 {
+            image[number * SECTOR..number * SECTOR + 100].fill(number as u8);
+        }
+        let mut bench = Bench::new(engine, image);
+        assert_eq!(bench.open(0), Done);
+        let shown: Vec<u8> = (0..9).map(|granule| bench.look(granule)[0]).collect();
+        assert_eq!(shown, [1, 0, 0, 2, 0, 0, 3, 0, 0]);
+    }
+}
+
+/// The number of a granule takes 32 bits: 71,820 granules of 2 bytes in 399 sectors, in the rows of a script.
+#[test]
+fn granule_numbers_over_a_word() {
+    let mut image = empty_image(400);
+    put_entry(&mut image, 0, &new_entry("MANY", RANDOM, 2, 1, 399));
+    image[SECTOR + 10..SECTOR + 12].copy_from_slice(&[0, 5]);
+    let rows: [[u16; 8]; 10] = [
+        [1, 0, 0, 0, 0, 0, 0, 0],
+        [5, 0, 2, 5, 0, 0, 1, 0],     // granule 65,541
+        [4, 0, 2, 5, 0, 0, 1, 0],     // is read back,
+        [6, 0, 0, 5, 0, 0, 1, 0],     // and shown;
+        [6, 0, 0, 5, 0, 0, 0, 0],     // 5 is not touched
+        [5, 0, 2, 6_284, 0, 0, 1, 0], // 71,820 is the capacity,
+        [5, 0, 2, 6_283, 0, 0, 1, 0], // 71,819 the last
+        [6, 0, 0, 6_283, 0, 0, 1, 0],
+        [6, 0, 0, 5, 0, 0, 2, 0],
+        [6, 0, 0, 65_535, 0, 0, 65_535, 0],
+    ];
+    let rows: Vec<u8> = rows
+        .concat()
+        .into_iter()
+        .flat_map(u16::to_be_bytes)
+        .collect();
+    let script = Script::parse(&rows, vec![0, 1, 0, 2, 0, 3]).unwrap_or_default();
+    for engine in BOTH {
+        let played = play(engine, image.clone(), &[], &script);
+        let told: Vec<&str> = played.text.lines().skip(1).collect();
+        let wanted = [
+            "0 0 0 0 0",
+            "1 0 1 0 0",
+            "2 0 1 0 0",
+            "3 0 1 0 0",
+            "4 0 5 0 0",
+            "5 3 0 0 0",
+            "6 0 3 0 0",
+            "7 0 3 0 0",
+            "8 3 0 0 0",
+            "9 3 0 0 0",
+        ];
+        assert_eq!(told, wanted);
+        let mut left = image.clone();
+        left[365 * SECTOR + 43] = 1;
+        left[400 * SECTOR - 1] = 3;
+        assert_eq!(played.image, left);
+    }
+}
+
+/// What is refused in the cases of small granules: nothing where places and padding are shown, and else what is
+/// over the capacity.
+#[test]
+fn granule_cases_are_as_told() {
+    for case in granule_cases() {
+        let has = |front: &str| case.name.starts_with(front);
+        let all_done = has("granule-places") || has("granule-left-over") || has("granule-spelled");
+        let only_room = has("granule-capacity") || has("granule-high-word") || has("granule-each");
+        let r = table_of(&case.image)[3].r();
+        for ((code, answer, _), row) in told(&case).into_iter().zip(&case.script.rows) {
+            assert!(!all_done || answer == 0, "{}", case.name);
+            assert!(!only_room || [0, 3].contains(&answer), "{}", case.name);
+            if has("granule-capacity") && code.takes_granule() {
+                let sectors = usize::from(table_of(&case.image)[3].sectors);
+                let most = if r > 180 {
+                    sectors / r.div_ceil(360)
+                } else {
+                    360 / r * sectors
+                };
+                assert_eq!(answer == 0, row.granule_number() < most, "{}", case.name);
+            }
+        }
+    }
+}
+
+/// Of the granule requests in wide scripts, for random files of R up to 180 and above: those that the plain engine
+/// does, and those answered 3; and how many of the latter have a high word. `--nocapture` prints them for
+/// README.md.
+#[test]
+fn wide_cases_use_small_granules() {
+    let mut done = [[0; 3]; 2];
+    let mut no_room = [0; 2];
+    let mut high_words = 0;
+    for number in 0..2_000 {
+        let case = wide_case(1, number, 100);
+        let patches = case.session_patches(Engine::Plain);
+        let (_, session) = patched_session(Engine::Plain, &case.image, patches);
+        let Some(mut session) = session else {
+            continue;
+        };
+        let mut image = case.image.clone();
+        for (row, data) in case.script.steps() {
+            let table = session.table;
+            let mut buffer = vec![0; usize::from(row.length)];
+            let answer = perform(&mut image, &mut session, &row, data, &mut buffer).answer;
+            let request = match row.code {
+                Code::GranuleRead => 0,
+                Code::GranuleWrite => 1,
+                Code::GranuleLook => 2,
+                _ => continue,
+            };
+            let above = |entry: &Entry| usize::from(entry.r() > 180);
+            match answer {
+                Done => done[above(&table[usize::from(row.entry)])][request] += 1,
+                NoRoom => {
+                    no_room[above(&table[usize::from(row.entry)])] += 1;
+                    high_words += usize::from(row.high > 0);
+                }
+                _ => {}
+            }
+        }
+    }
+    println!(
+        "reads, writes, looks: {done:?}, answered 3: {no_room:?}, with a high word: {high_words}"
+    );
+    let [small, large] = done;
+    assert!(
+        small.iter().all(|&number| number > 3_000) && large.iter().all(|&number| number > 1_000)
+    );
+    assert!(no_room.iter().all(|&number| number > 500) && high_words > 500);
 }

@@ -42,7 +42,7 @@ isWhole w = eqb (length (w .file .buffer)) sector
 unfoldable pub canDo : Scene → Effect → Bench → Bool
 canDo c (hold k) w = isWhole w && isThere (c .entry) k (length (w .image))
 canDo c (change x) w = isWhole w && isThere (c .entry) (x .place .sector) (length (w .image))
-canDo c (store k xs) w = true
+canDo c (store x) w = true
 canDo c (stamp xs) w = ltb (c .number) entries
 canDo c putBack w = isWhole w
 

@@ -17,10 +17,11 @@ use Rattle.demands.specs.Engine.{Engine, Standing, answered, stepOf, editOf, mo
 use Rattle.demands.specs.Demand1.{Proper, ProperEdit, Orderly, Passes, Passing}
 use Rattle.demands.specs.Demand2.{closing, Faithful, CountsStored}
 use Rattle.promises.specs.Buffer.{deskAt, Buffered, Buffering}
+use Rattle.promises.specs.Granules.{GranuleWrites}
 use Rattle.promises.specs.Writes.{plainCount, bufferedCount, inRun, allDone, Counted, Writing}
 use Rattle.demands.proofs.Sound.{sound-image}
 use Rattle.callers.specs.Lent.{engineOf, readBy, storedBy, lentEngine}
-use Rattle.callers.proofs.Kept.{orderly, passing, faithful, counts, same, starts, meets, edit-goes}
+use Rattle.callers.proofs.Kept.{orderly, passing, faithful, counts, granules, same, starts, meets, edit-goes}
 use Rattle.callers.proofs.Runs.{opened, read-left, opened-then, read-edited, opened-edit, run-sum, run-done, then-reports, then-heard, then-models, then-answer, then-image-of}
 use Rattle.requests.specs.declared.Edit.{Edit}
 use Rattle.requests.specs.declared.Request.{Request}
@@ -141,6 +142,15 @@ module _ (u : Bool) where
         let p = counts u .stored image ok asked i fit m (ap (λ (ms : List Model). modelAt ms i) (sym (then-models u image asked fit)) ∙ here) (sym (then-answer u image asked fit (closing i)) ∙ done) in
         let e = then-image-of u image asked fit (closing i) in
         (ap (λ (x : List ℕ). entryAt (tableOf x) i .count) e ∙ p .0, ap (λ (x : List ℕ). entryAt (tableOf x) i .flags) e ∙ p .1);
+  }
+
+  -- ---- granules
+
+  pub lent-granules : GranuleWrites E
+  unfolding lentAfter
+  lent-granules = record {
+    small = λ image b i g given buffer. granules u .small image (readBy u b) i g given buffer;
+    large = λ image b i g given buffer. granules u .large image (readBy u b) i g given buffer;
   }
 
   -- ---- the blocking buffer

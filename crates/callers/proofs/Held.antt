@@ -101,7 +101,7 @@ module _ (c : Scene) (few : c .entry .sectors ≤ mostSectors) where
   unfolding bufferedDo working
   do-held (hold k) s w h = take-held k (s .1) w
   do-held (change x) s w h = take-held (x .place .sector) (s .1) w
-  do-held (store k xs) s w h = h
+  do-held (store x) s w h = h
   do-held (stamp xs) s w h = h
   do-held putBack s w h = back-cases (λ (v : Bench). fits 4 (v .file .held) ≡ true) c w (λ z. rw (put-held w) h) (λ z. h)
 

@@ -18,6 +18,8 @@ use Rattle.demands.proofs.Counts.{plain-counts}
 use Rattle.demands.proofs.Plain.{plain-faithful}
 use Rattle.demands.proofs.Orderly.{plain-orderly, buffered-orderly}
 use Rattle.demands.proofs.Passing.{plain-passing, buffered-passing}
+use Rattle.promises.specs.Granules.{GranuleWrites}
+use Rattle.promises.proofs.Granules.{plain-granules, buffered-granules}
 use Rattle.callers.specs.Lent.{engineOf, readBy, storedBy}
 use Rattle.editing.proofs.Fits.{plain-edited-fits, edited-fits}
 use Rattle.callers.proofs.Held.{bare-fits, fits-sound, step-fits, step-met-fits}
@@ -48,6 +50,10 @@ faithful false = plain-faithful
 pub counts : (u : Bool) → CountsStored (engineOf u)
 counts true = buffered-counts
 counts false = plain-counts
+
+pub granules : (u : Bool) → GranuleWrites (engineOf u)
+granules true = buffered-granules
+granules false = plain-granules
 
 -- ---- what is read
 

@@ -1,17 +1,20 @@
 -- Demand 3's agreement: the buffered engine's run, settled, is the plain engine's, which serves the tapes and rows; what is held lies in the
 -- extents of open files, and where none is open nothing is held.
 use mathlib.Core.Path.{_≡_, refl, sym, ap, subst, _∙_}
-use mathlib.Core.Bool.{true, not}
+use mathlib.Core.Logic.{_⊎_, inl, inr}
+use mathlib.Core.Bool.{true, false, not}
 use mathlib.Core.List.{List}
-use Prim.Native.Nat.{ℕ, _*_, _<_}
+use Prim.Native.Nat.{ℕ, _*_, _%_, _≤_, _<_}
 use native.Mathlib.Omega.{arith}
 use lib.ListN.{length, getD}
 use Rattle.geometry.specs.Lists.{every}
-use Rattle.geometry.specs.Sizes.{sector, lawfulLength}
+use Rattle.geometry.specs.Places.{smallGranules, reachOf}
+use Rattle.geometry.specs.Sizes.{sector, random, lawfulLength}
 use Rattle.geometry.specs.Bytes.{part, lay}
 use Rattle.geometry.proofs.Bytes.{Apart, length-part, part-lay-same}
-use Rattle.geometry.proofs.Tests.{both-ways, chosen}
-use Rattle.directory.specs.Entries.{tableOf, entryAt}
+use Rattle.geometry.proofs.Places.{reach-whole}
+use Rattle.geometry.proofs.Tests.{either, both-ways, and-left, chosen}
+use Rattle.directory.specs.Entries.{tableOf, entryAt, isKind}
 use Rattle.sessions.specs.Session.{bare, isOf, fileOf, hasBuffer, holdsOne, extent, extentWith, bufferedLegal}
 use Rattle.sessions.proofs.Held.{holds-one}
 use Rattle.sessions.proofs.Files.{is-of, Finds, opened, closed, finds}
@@ -29,6 +32,7 @@ use Rattle.settling.proofs.Bench.{length-all}
 use Rattle.settling.proofs.Kept.{Kept, entry-room, settle-elsewhere, settle-table}
 use Rattle.settling.proofs.Scene.{same-bytes}
 use Rattle.steps.proofs.Edited.{outside-edit}
+use Rattle.steps.proofs.Inside.{no-buffer}
 use Rattle.settling.proofs.Step.{Agrees}
 use Rattle.demands.proofs.Heard.{Alike, same-heard}
 use Rattle.demands.specs.Engine.{plainEngine, bufferedEngine, Standing, answered, stepOf, run, heard, mounted, modelsThen}
@@ -107,14 +111,23 @@ module _ (image : List ℕ) (ok : mounts image ≡ true) (asked : List Asking) w
   unfolding bare
   elsewhere j h =
       let m = mounted-spared image ok asked j (ap (every (λ t. not (belongs j t))) (sym (mounted-heard image ok asked .2)) ∙ h) in
-      sym (settle-elsewhere (w .image) (w .session) kept j (λ k u. away (m .1) (heldAt (w .session) k .file .entry) (in-use k u)))
+      sym (settle-elsewhere (w .image) (w .session) kept j (λ k u b. away (m .1) (heldAt (w .session) k .file .entry) (in-use k u) b))
       ∙ ap (λ (x : Standing Session). getD (x .image) j 0) same
       ∙ m .0
     where
-      away : Spared j v → (i : ℕ) → fileOf (v .session .files) i .used ≡ true
+      -- a file that has a buffer may write every byte of its extent
+      apart : (e : Entry) → hasBuffer e ≡ true → Apart j 1 (sector * e .first) (sector * e .sectors) ⊎ (reachOf (e .kind) (e .length) ≤ j % sector)
+          → Apart j 1 (sector * e .first) (sector * e .sectors)
+      apart e b (inl a) = a
+      apart e b (inr h) = either (smallGranules (e .kind) (e .length))
+          (λ (g : smallGranules (e .kind) (e .length) ≡ true). both-ways (hasBuffer e) b (no-buffer e (and-left (isKind random e) _ g)))
+          (λ (g : smallGranules (e .kind) (e .length) ≡ false). absurd (omega (arith, reach-whole (e .kind) (e .length) g)))
+
+      away : Spared j v → (i : ℕ) → fileOf (v .session .files) i .used ≡ true → hasBuffer (entryAt (w .session .table) i) ≡ true
           → Apart j 1 (sector * entryAt (w .session .table) i .first) (sector * entryAt (w .session .table) i .sectors)
       away p i u =
-          subst (λ (x : Standing Session). Apart j 1 (sector * entryAt (x .session .table) i .first) (sector * entryAt (x .session .table) i .sectors)) (sym same) (far j v p i u .1)
+          subst (λ (x : Standing Session). hasBuffer (entryAt (x .session .table) i) ≡ true → Apart j 1 (sector * entryAt (x .session .table) i .first) (sector * entryAt (x .session .table) i .sectors)) (sym same)
+          (λ b. apart (entryAt (v .session .table) i) b (far j v p i u .1))
 
   -- the held sector's bytes, as the plain engine has them in its image
   module _ (i : ℕ) (kind : hasBuffer (entryAt (w .session .table) i) ≡ true) (h : heldOf (w .session) i .holds ≡ true) where

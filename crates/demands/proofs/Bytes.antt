@@ -118,7 +118,7 @@ code-bytes R given h =
 abbrev pub InBytes : Effect → Type 0
 InBytes (hold k) = record {}
 InBytes (change x) = Bytes (x .bytes)
-InBytes (store k xs) = Bytes xs
+InBytes (store x) = Bytes (x .bytes)
 InBytes (stamp xs) = Bytes xs
 InBytes putBack = record {}
 
@@ -198,6 +198,6 @@ plain-bytes c (x ∷ xs) h image b = plain-bytes c xs (h .1) (plainDo c x image)
     one : (x : Effect) → InBytes x → Bytes (plainDo c x image)
     one (hold k) h = unfold plainDo in b
     one (change x) h = unfold plainDo in lay-bytes image _ (x .bytes) b h
-    one (store k xs) h = unfold plainDo in lay-bytes image _ xs b h
+    one (store x) h = unfold plainDo in lay-bytes image _ (x .bytes) b h
     one (stamp xs) h = unfold plainDo in lay-bytes image _ xs b h
     one putBack h = unfold plainDo in b

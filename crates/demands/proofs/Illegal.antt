@@ -7,7 +7,7 @@ use Prim.Native.Nat.{ℕ}
 use lib.ListN.{length, replicate, set}
 use Rattle.geometry.specs.Bytes.{part, padded, wordAt, word}
 use Rattle.geometry.specs.Lists.{all, every, pairwise, howMany, same}
-use Rattle.geometry.specs.Places.{origin, sectorsFor, perSector, capacity}
+use Rattle.geometry.specs.Places.{origin, sectorsFor, perSector, shares, capacity}
 use Rattle.geometry.specs.Sizes.{sectorsOf, lawfulLength}
 use Rattle.names.specs.Names.{capital, digit, restOfName, isName}
 use Rattle.directory.specs.Entries.{entryFrom, entryBytes, entriesFrom, tableOf, freeEntry, entryAt, isMarked}
@@ -47,7 +47,7 @@ module _ (E : Engine) (orderly : Orderly E) (image : List ℕ) (s : E .Session) 
 
 -- legality, with what it computes by
 isLegal : List ℕ → BufferedSession → Bool
-unfolding part padded wordAt word all every pairwise howMany same sectorsFor perSector capacity sectorsOf lawfulLength entryFrom entryBytes entriesFrom tableOf isMarked kindKnown freeIsZero capital digit restOfName isName nameGood namesDiffer extentInside extentsApart flagsKnown longest lengthGood countGood randomBare tableRules tableGood bare isOf openFiles ofUsedEntry ofOther positionGood beyondGood placeGood placesGood heldGood sayingGood sessionRules legal bufferedLegal
+unfolding part padded wordAt word all every pairwise howMany same sectorsFor perSector shares capacity sectorsOf lawfulLength entryFrom entryBytes entriesFrom tableOf isMarked kindKnown freeIsZero capital digit restOfName isName nameGood namesDiffer extentInside extentsApart flagsKnown longest lengthGood countGood randomBare tableRules tableGood bare isOf openFiles ofUsedEntry ofOther positionGood beyondGood placeGood placesGood heldGood sayingGood sessionRules legal bufferedLegal
 isLegal image s = bufferedLegal image s
 
 -- four sectors: entry 0 a blocked file of R 180, one record, marked; entry 1 a compressed file with no record; entry 2 a random file; one sector each

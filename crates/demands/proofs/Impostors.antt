@@ -9,7 +9,7 @@ use native.Mathlib.Omega.{arith}
 use lib.ListN.{length, take, replicate, getD, set}
 use Rattle.geometry.specs.Bytes.{part, lay, wordAt, word, padded}
 use Rattle.geometry.specs.Lists.{all, every, pairwise, firstWith, howMany}
-use Rattle.geometry.specs.Places.{origin, perSector, capacity, placeOf}
+use Rattle.geometry.specs.Places.{origin, perSector, shares, capacity, placeOf}
 use Rattle.geometry.specs.Sizes.{sectorsOf, lawfulLength}
 use Rattle.names.specs.Names.{capital, digit, restOfName, isName}
 use Rattle.directory.specs.Entries.{entryFrom, entryBytes, entriesFrom, tableOf, entryAt, isMarked, isProtected}
@@ -44,7 +44,7 @@ use Rattle.sessions.specs.declared.Session.{Session}
 -- ---- what the runs are computed by: to unfold one of these five is to unfold all that its line names
 
 directory : Unit {0}
-unfolding part lay wordAt word padded all every pairwise firstWith howMany perSector capacity placeOf sectorsOf lawfulLength entryFrom entryBytes entriesFrom tableOf isMarked isProtected kindKnown freeIsZero capital digit restOfName isName nameGood namesDiffer extentInside extentsApart flagsKnown longest lengthGood countGood randomBare tableRules tableGood countDecodes mounts
+unfolding part lay wordAt word padded all every pairwise firstWith howMany perSector shares capacity placeOf sectorsOf lawfulLength entryFrom entryBytes entriesFrom tableOf isMarked isProtected kindKnown freeIsZero capital digit restOfName isName nameGood namesDiffer extentInside extentsApart flagsKnown longest lengthGood countGood randomBare tableRules tableGood countDecodes mounts
 directory = tt
 
 judging : Unit {0}

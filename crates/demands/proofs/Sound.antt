@@ -154,7 +154,7 @@ module _ (c : Scene) where
   unfolding bufferedDo plainDo
   do-sound (hold k) s h w b = takes (c .entry) k (s .1) w b
   do-sound (change x) s h w b = works (c .entry) (x .place .byte) (x .bytes) h _ (takes (c .entry) (x .place .sector) (s .1) w b)
-  do-sound (store k xs) s h w b = straight (c .entry) _ xs h w b
+  do-sound (store x) s h w b = straight (c .entry) _ (x .bytes) h w b
   do-sound (stamp xs) s h w b = straight (c .entry) _ xs h w b
   do-sound putBack s h w b = back-cases (SoundBench (c .entry)) c w (λ z. puts (c .entry) w b) (λ z. b)
 

@@ -4,11 +4,12 @@ use mathlib.Core.Path.{_≡_, refl, sym, ap, _∙_}
 use mathlib.Core.Logic.{_⊎_, inl, inr}
 use mathlib.Core.Bool.{Bool, true, false, _&&_, _||_, not, false≢true}
 use mathlib.Core.List.{List, [], _∷_}
-use Prim.Native.Nat.{ℕ, _+_, _*_}
+use Prim.Native.Nat.{ℕ, _+_, _*_, _%_, _≤_}
 use native.Mathlib.Omega.{arith}
 use lib.ListN.{length, getD}
-use borrow.Author.Tests.{not-true}
+use borrow.Author.Tests.{not-true, ltb-false}
 use Rattle.geometry.specs.Lists.{every}
+use Rattle.geometry.specs.Places.{reachOf}
 use Rattle.geometry.specs.Sizes.{sector, entrySize, random}
 use Rattle.geometry.proofs.Bytes.{Apart}
 use Rattle.geometry.proofs.Tests.{either, both-ways, and-left, and-right}
@@ -48,23 +49,27 @@ use Rattle.sessions.specs.declared.Session.{Session}
 
 -- ---- a byte that does not belong to a file
 
+not-both : {P : Type 0} (a b : Bool) → (a && b) ≡ false → (a ≡ false → P) → (b ≡ false → P) → P
+not-both true b e f g = g e
+not-both false b e f g = f e
+
 neither : (a b : Bool) → (a || b) ≡ false → (a ≡ false) × (b ≡ false)
 neither true b e = absurd (false≢true (sym e))
 neither false b e = (refl, e)
 
--- a byte that does not belong to a file lies beside its entry and its extent
-beside : (j i first sectors : ℕ) → belongs j (record { entry = i; first = first; sectors = sectors }) ≡ false
-    → Apart j 1 (entrySize * i) entrySize × Apart j 1 (sector * first) (sector * sectors)
+-- a byte that does not belong to a file lies beside its entry and its extent, or at a sector's end behind its granules
+beside : (j i first sectors reach : ℕ) → belongs j (record { entry = i; first = first; sectors = sectors; reach = reach }) ≡ false
+    → Apart j 1 (entrySize * i) entrySize × (Apart j 1 (sector * first) (sector * sectors) ⊎ (reach ≤ j % sector))
 unfolding belongs
-beside j i first sectors none =
+beside j i first sectors reach none =
     let sum : sector * (first + sectors) ≡ sector * first + sector * sectors = omega arith in
     let k = neither _ _ none in
-    (apart j (entrySize * i) entrySize (k .0), apart j (sector * first) (sector * sectors) (rw sum at (k .1)))
+    (apart j (entrySize * i) entrySize (k .0), not-both _ _ (rw sum at (k .1)) (λ h. inl (apart j (sector * first) (sector * sectors) h)) (λ h. inr (ltb-false _ _ h)))
 
 -- ---- where the file of an entry lies
 
 abbrev siteAt : ℕ → Entry → Site
-siteAt i e = record { entry = i; first = e .first; sectors = e .sectors }
+siteAt i e = record { entry = i; first = e .first; sectors = e .sectors; reach = reachOf (e .kind) (e .length) }
 
 site-shows : (i : ℕ) (e : Entry) (f : OpenFile) (bytes : List ℕ) → isFree e ≡ false → siteOf i (shows e f bytes) ≡ siteAt i e
 unfolding shows siteOf ofShape shapeOf
@@ -105,13 +110,15 @@ module _ (j : ℕ) where
     pub stands : Stands (w .image) (w .session)
     pub none : (k : ℕ) → isOpenModel (modelAt (view (w .image) (w .session)) k) ≡ true → belongs j (siteOf k (modelAt (view (w .image) (w .session)) k)) ≡ false
 
-  -- an open file's byte is none of its own
+  -- the byte is none that an open file may write
   pub far : (w : Standing Session) → Spared w → (k : ℕ) → fileOf (w .session .files) k .used ≡ true
-      → Apart j 1 (entrySize * k) entrySize × Apart j 1 (sector * entryAt (w .session .table) k .first) (sector * entryAt (w .session .table) k .sectors)
+      → Apart j 1 (entrySize * k) entrySize
+      × (Apart j 1 (sector * entryAt (w .session .table) k .first) (sector * entryAt (w .session .table) k .sectors)
+      ⊎ (reachOf (entryAt (w .session .table) k .kind) (entryAt (w .session .table) k .length) ≤ j % sector))
   far w p k u =
       let o : isOpenModel (modelAt (view (w .image) (w .session)) k) ≡ true = open-file w (p .stands) k ∙ u in
       let e : Entry = entryAt (w .session .table) k in
-      beside j k (e .first) (e .sectors) (ap (belongs j) (sym (site-view w (p .stands) k (open-used w (p .stands) k o))) ∙ p .none k o)
+      beside j k (e .first) (e .sectors) (reachOf (e .kind) (e .length)) (ap (belongs j) (sym (site-view w (p .stands) k (open-used w (p .stands) k o))) ∙ p .none k o)
 
   -- a request
   module _ (w : Standing Session) (p : Spared w) (a : Asked)

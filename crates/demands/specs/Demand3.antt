@@ -1,10 +1,11 @@
 -- Demand 3: "Two engines, one with a blocking buffer for each open file and one with none, give the same answers, bytes and positions for any
 -- requests from the same mounted image; with no file open the images are equal, and every byte outside the entries and extents of opened
--- files is as mounted." Document 02, item 1: "From then on demand 3's list of files opened reads opened, added or deleted". As statements over engines.
+-- files is as mounted." Document 02, item 1: "From then on demand 3's list of files opened reads opened, added or deleted". Item 3: "A write then changes only its own
+-- R bytes", so the bytes at a sector's end behind its granules are as mounted too. As statements over engines.
 use mathlib.Core.Path.{_≡_}
 use mathlib.Core.Bool.{Bool, true, _&&_, _||_, not}
 use mathlib.Core.List.{List}
-use Prim.Native.Nat.{ℕ, _+_, _*_}
+use Prim.Native.Nat.{ℕ, _+_, _*_, _%_}
 use lib.ListN.{length, getD}
 use lib.Dec.{leb, ltb}
 use Rattle.geometry.specs.Bytes.{part}
@@ -21,11 +22,12 @@ use Rattle.demands.specs.Demand2.{Faithful}
 use Rattle.directory.specs.declared.Entry.{Entry}
 use Rattle.sessions.specs.declared.BufferedFile.{BufferedFile}
 
--- byte j lies in a file's entry or in its extent, as they were when it was opened, added or deleted
+-- byte j lies in a file's entry or in its extent, as they were when it was opened, added or deleted; and not among the 360 − q·R bytes at a sector's end that
+-- belong to no granule
 unfoldable pub belongs : ℕ → Site → Bool
 belongs j t =
     (leb (entrySize * t .entry) j && ltb j (entrySize * t .entry + entrySize))
-    || (leb (sector * t .first) j && ltb j (sector * (t .first + t .sectors)))
+    || ((leb (sector * t .first) j && ltb j (sector * (t .first + t .sectors))) && ltb (j % sector) (t .reach))
 
 -- byte j lies "outside the entries and extents of" files "opened, added or deleted"
 abbrev pub Outside : (E : Engine) → List ℕ → List Asking → ℕ → Type 0

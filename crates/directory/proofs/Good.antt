@@ -17,7 +17,7 @@ use Rattle.directory.specs.Entries.{isFree, isKind, isMarked, entryAt, f
 use Rattle.directory.specs.Rules.{kindKnown, nameGood, extentInside, extentsApart, flagsKnown, longest, lengthGood, countGood, randomBare, tableRules, tableGood}
 use Rattle.geometry.proofs.Bytes.{Apart}
 use Rattle.geometry.proofs.Places.{capacity-word}
-use Rattle.geometry.proofs.Tests.{and-left, and-right, all-getD, every-getD, pairwise-getD}
+use Rattle.geometry.proofs.Tests.{and-left, and-right, or-either, all-getD, every-getD, pairwise-getD}
 
 -- what a used entry keeps, in an image of N sectors
 pub record Lies (N : ℕ) (e : Entry) : Type 0 where
@@ -67,11 +67,15 @@ module _ (N : ℕ) (e : Entry) (used : ¬ (e .kind ≡ 0)) where
 
   count-most : e .sectors ≤ mostRecords → countGood e ≡ true → e .count ≤ mostRecords
   unfolding countGood
-  count-most l h = go (isKind unblocked e || isKind blocked e) h
+  count-most l h = go (isKind unblocked e || isKind blocked e) refl h
     where
-      go : (b : Bool) → elim b [ true ↦ leb (e .count) (capacity (e .kind) (e .length) (e .sectors)) | false ↦ leb (e .count) mostRecords ] ≡ true → e .count ≤ mostRecords
-      go true q = omega (arith, leb-true (e .count) (capacity (e .kind) (e .length) (e .sectors)) q, capacity-word (e .kind) (e .length) (e .sectors) l)
-      go false q = leb-true (e .count) mostRecords q
+      tape : (isKind unblocked e || isKind blocked e) ≡ true → ¬ (e .kind ≡ random)
+      tape t r = or-either _ _ t (λ p. absurd (omega (arith, eqb-true (e .kind) unblocked p))) (λ p. absurd (omega (arith, eqb-true (e .kind) blocked p)))
+
+      go : (b : Bool) → (isKind unblocked e || isKind blocked e) ≡ b
+          → elim b [ true ↦ leb (e .count) (capacity (e .kind) (e .length) (e .sectors)) | false ↦ leb (e .count) mostRecords ] ≡ true → e .count ≤ mostRecords
+      go true t q = omega (arith, leb-true (e .count) (capacity (e .kind) (e .length) (e .sectors)) q, capacity-word (e .kind) (e .length) (e .sectors) (tape t) l)
+      go false t q = leb-true (e .count) mostRecords q
 
   bareness : e .kind ≡ random → randomBare e ≡ true → (eqb (e .count) 0 && not (isMarked e)) ≡ true
   unfolding randomBare

@@ -9,7 +9,7 @@ use native.Mathlib.Decide.{ℕ-discrete}
 use lib.Dec.{leb, eqb}
 use borrow.Author.Tests.{le-leb, lt-leb, leb-true, eq-eqb, ne-eqb}
 use Rattle.geometry.specs.Lists.{all, every, pairwise}
-use Rattle.geometry.specs.Places.{sectorsFor, capacity}
+use Rattle.geometry.specs.Places.{sectorsFor, shares, capacity}
 use Rattle.geometry.specs.Sizes.{unblocked, blocked, compressed, random, mostRecords}
 use Rattle.geometry.proofs.Tests.{alike, and-left, and-right, or-either, every-and, pairwise-and}
 use Rattle.names.specs.Names.{isName}
@@ -100,7 +100,7 @@ module _ (e : Entry) where
 
   -- as many records as the count take no more sectors than there are
   pub sizes-unblocked : e .kind ≡ unblocked → lengthUpTo 3600 e ≡ true → leb (e .count * sectorsFor (e .length)) (e .sectors) ≡ sizesGood e
-  unfolding sizesGood longest countGood randomBare capacity
+  unfolding sizesGood longest countGood randomBare shares capacity
   sizes-unblocked k h =
       let some : 0 < sectorsFor (e .length) = sectors-some (e .length) (leb-true 2 (e .length) (and-left (leb 2 (e .length)) _ (and-right (eqb (e .length % 2) 0) _ h))) in
       let each = le-div-iff-mul-le {x = e .count} {y = e .sectors} some in

@@ -28,6 +28,10 @@ mostOpen = 4
 abbrev pub mostRecords : ℕ
 mostRecords = 65535
 
+-- document 02, item 3: "for R up to 180" granules share a sector
+abbrev pub mostShared : ℕ
+mostShared = 180
+
 -- "kind: 1 unblocked, 2 blocked, 3 compressed, 4 random; 0 free"
 abbrev pub free : ℕ
 free = 0

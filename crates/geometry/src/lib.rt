@@ -3,7 +3,7 @@
 ghost use mathlib.Core.Path.{_≡_};
 ghost use Prim.Native.Nat.{_/_, _%_};
 ghost use Rattle.geometry.specs.Sizes.{sectorsOf, lawfulLength};
-ghost use Rattle.geometry.specs.Places.{sectorsFor, perSector, placeOf};
+ghost use Rattle.geometry.specs.Places.{sectorsFor, perSector, placeOf, bytesFor};
 ghost use Rattle.geometry.specs.Places as Places;
 
 // A place in an extent: one of its sectors, from 0 on, and a byte 0 to 360 of that sector.
@@ -54,6 +54,8 @@ impl Geometry {
     pub const LONGEST_COMPRESSED: u16 = 132;
 
     pub const LONGEST_CODE: usize = 135;
+    // The longest granule that shares its sector.
+    pub const LONGEST_SHARED: u16 = 180;
     // The control byte that says: go on in the next sector.
     pub const GO_ON: u8 = 128;
     // A blank in EBCDIC.
@@ -91,48 +93,67 @@ impl Geometry {
         ((length as usize + 359) / Geometry::SECTOR) as u32
     }
 
-    // The blocked records of that length in a sector.
+    // The records or granules of that length in a sector, where they share it.
     pub fn per_sector(length: u16) -> u32
         ensures { λ r. ⌜ r ≡ perSector length ⌝ }
     {
         quotient(Geometry::SECTOR as u32, length as u32)
     }
 
+    // Whether records or granules of that kind and length share sectors.
+    fn shares(kind: u16, length: u16) -> bool
+        ensures { λ r. ⌜ r ≡ Places.shares kind length ⌝ }
+    {
+        (kind == Geometry::BLOCKED)
+            | ((kind == Geometry::RANDOM) & (length <= Geometry::LONGEST_SHARED))
+    }
+
     // The records or granules that an extent holds.
     pub fn capacity(kind: u16, length: u16, sectors: u16) -> u32
         ensures { λ r. ⌜ r ≡ Places.capacity kind length sectors ⌝ }
     {
-        if kind == Geometry::BLOCKED {
+        if Geometry::shares(kind, length) {
             let all = Geometry::per_sector(length) * (sectors as u32);
-            if all <= Geometry::MOST_RECORDS {
-                all
-            } else {
+            if (kind == Geometry::BLOCKED) & (Geometry::MOST_RECORDS < all) {
                 Geometry::MOST_RECORDS
+            } else {
+                all
             }
         } else {
             quotient(sectors as u32, Geometry::sectors_for(length))
         }
     }
 
-    // The sector of the extent that record k begins in.
+    // The sector of the extent that record or granule k begins in.
     pub fn sector_of_record(kind: u16, length: u16, k: u32) -> usize
         ensures { λ r. ⌜ r ≡ placeOf kind length k .sector ⌝ }
     {
-        if kind == Geometry::BLOCKED {
+        if Geometry::shares(kind, length) {
             quotient(k, Geometry::per_sector(length)) as usize
         } else {
             (Geometry::sectors_for(length) as usize) * (k as usize)
         }
     }
 
-    // The byte of that sector that record k begins at.
+    // The byte of that sector that it begins at.
     pub fn byte_of_record(kind: u16, length: u16, k: u32) -> usize
         ensures { λ r. ⌜ r ≡ placeOf kind length k .byte ⌝ }
     {
-        if kind == Geometry::BLOCKED {
+        if Geometry::shares(kind, length) {
             (remainder(k, Geometry::per_sector(length)) as usize) * (length as usize)
         } else {
             0
+        }
+    }
+
+    // The bytes that a record or granule takes where it is written straight in the image.
+    pub fn bytes_for(kind: u16, length: u16) -> usize
+        ensures { λ r. ⌜ r ≡ bytesFor kind length ⌝ }
+    {
+        if Geometry::shares(kind, length) {
+            length as usize
+        } else {
+            Geometry::SECTOR * (Geometry::sectors_for(length) as usize)
         }
     }
 }

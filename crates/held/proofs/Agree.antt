@@ -57,7 +57,7 @@ length-do : (c : Scene) (x : Effect) (w : Bench) → length (bufferedDo c x w .i
 unfolding bufferedDo working plainDo
 length-do c (hold k) w = length-take (c .entry) w k
 length-do c (change x) w = length-take (c .entry) w (x .place .sector)
-length-do c (store k xs) w = length-lay _ _ _
+length-do c (store x) w = length-lay _ _ _
 length-do c (stamp xs) w = length-lay _ _ _
 length-do c putBack w = back-cases (λ (v : Bench). length (v .image) ≡ length (w .image)) c w (λ h. length-put (c .entry) w) (λ h. refl)
 
@@ -71,7 +71,7 @@ whole-do : (c : Scene) (x : Effect) (w : Bench) → sector * (c .entry .first + 
 unfolding bufferedDo working
 whole-do c (hold k) w s h l = whole-take (c .entry) w k (inside (c .entry) k _ (h .1) s) l
 whole-do c (change x) w s h l = length-lay _ _ _ ∙ whole-take (c .entry) w (x .place .sector) (inside (c .entry) (x .place .sector) _ (h .1) s) l
-whole-do c (store k xs) w s h l = l
+whole-do c (store x) w s h l = l
 whole-do c (stamp xs) w s h l = l
 whole-do c putBack w s h l = back-cases (λ (v : Bench). length (v .file .buffer) ≡ sector) c w (λ b. ap length (whole-put (c .entry) w) ∙ l) (λ b. l)
 
@@ -84,7 +84,7 @@ can : (c : Scene) (x : Effect) (w : Bench) → c .number < entries → sector * 
 unfolding canDo
 can c (hold k) w i s l h = and-both _ _ (eq-eqb _ _ l) (there (c .entry) k (length (w .image)) (h .1) s)
 can c (change x) w i s l h = and-both _ _ (eq-eqb _ _ l) (there (c .entry) (x .place .sector) (length (w .image)) (h .1) s)
-can c (store k xs) w i s l h = refl
+can c (store x) w i s l h = refl
 can c (stamp xs) w i s l h = lt-ltb (c .number) entries i
 can c putBack w i s l h = eq-eqb _ _ l
 
@@ -104,7 +104,7 @@ unfolding heldAll heldDo canDo bufferedDo plainDo
 held-same c i [] u w = refl
 held-same c i (hold k ∷ xs) u w = held-same c i xs u _
 held-same c i (change x ∷ xs) u w = held-same c i xs u _
-held-same c i (store k ys ∷ xs) u w = held-same c i xs u _
+held-same c i (store y ∷ xs) u w = held-same c i xs u _
 held-same c i (stamp ys ∷ xs) (inl p) w = rw p (held-same c (c .number) xs (inl refl) _)
 held-same c i (stamp ys ∷ xs) (inr u) w = absurd u
 held-same c i (putBack ∷ xs) u w = held-same c i xs u _

@@ -11,7 +11,7 @@ use Rattle.geometry.specs.Bytes.{part, lay}
 use Rattle.geometry.specs.Sizes.{sector, blocked}
 use Rattle.geometry.specs.Places.{placeOf, byteOf}
 use Rattle.geometry.proofs.Bytes.{Apart, length-part, part-part, part-lay-apart, part-lay-inside}
-use Rattle.geometry.proofs.Places.{byte-blocked, record-inside, sector-below}
+use Rattle.geometry.proofs.Places.{blocked-shares, byte-shared, record-inside, sector-below}
 use Rattle.geometry.proofs.Tests.{either, and-left, and-right}
 use Rattle.directory.specs.Entries.{isKind}
 use Rattle.packing.specs.Reading.{overlaid}
@@ -50,7 +50,7 @@ module _ (e : Entry) (k : ℕ) (bytes over : List ℕ) (held : ℕ) (x : Fixed e
   below = sector-below (e .kind) (e .length) (x .some) (x .short) k (e .sectors) (x .there)
 
   ends-sector : isKind blocked e ≡ true → p .byte + e .length ≤ sector
-  ends-sector b = byte-blocked (e .kind) (e .length) (x .some) (x .short) (eqb-true (e .kind) blocked b) k
+  ends-sector b = byte-shared (e .kind) (e .length) (x .some) (x .short) (blocked-shares (e .kind) (e .length) (eqb-true (e .kind) blocked b)) k
 
   blocked-is : isKind blocked e ≡ true → blockedBytes e bytes held over ≡ overlaid bytes held over
   unfolding blockedBytes

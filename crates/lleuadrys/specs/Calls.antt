@@ -34,4 +34,4 @@ Edits w n image session = (n ≡ numberOf (w .answer)) × (image ≡ w .image) �
 
 -- 2.0.0, as one number
 unfoldable pub version : ℕ
-version = 10000 * 2 + 100 * 0 + 0
+version = 10000 * 3 + 100 * 0 + 0

@@ -162,7 +162,7 @@ pub extern "C" fn lleuadrys_delete(image: &mut [u8], session: &mut [u8], entry: 
 pub extern "C" fn lleuadrys_version() -> u32
     ensures { λ r. ⌜ r ≡ version ⌝ }
 {
-    20000
+    30000
 }
 
 // Puts the words of an answer's number, as far as there is room; the number of bytes put there.

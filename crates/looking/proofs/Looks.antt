@@ -1,5 +1,4 @@
--- A look is judged by whether the session is legal, the entry and its state, and these are the same with nothing held: so one look serves both engines. And a
--- granule's sector is at most 183 times its number.
+-- A look is judged by whether the session is legal, the entry and its state, and these are the same with nothing held: so one look serves both engines.
 use mathlib.Core.Path.{_≡_, refl, sym, ap, _∙_}
 use mathlib.Core.Bool.{Bool, true, false, _&&_, and-true}
 use mathlib.Core.Logic.{_≢_}
@@ -31,19 +30,6 @@ use Rattle.storing.proofs.Illegal.{none-legal, none-legal-bare}
 use Rattle.storing.proofs.Read.{session-is}
 use Rattle.finding.proofs.Lent.{plain-good}
 use Rattle.looking.specs.Looking.{lookIn, lookAnswerIn, placeBy, lookPlace}
-
-module _ (R g : ℕ) where
-  whole : placeOf random R g ≡ record { sector = sectorsFor R * g; byte = 0 }
-  whole = place-whole random R g (λ (h : random ≡ 2). absurd (omega arith))
-
-  pub granule-place : (first : ℕ) → sector * (first + placeOf random R g .sector) ≡ sector * first + byteOf (placeOf random R g)
-  granule-place first = rw whole (omega arith)
-
-  pub granule-bound : R < 65536 → placeOf random R g .sector ≤ 183 * g
-  unfolding sectorsFor
-  granule-bound h =
-      let k : sectorsFor R ≤ 183 = omega arith in
-      rw whole (mul-le-mul-right g k)
 
 -- a session that holds nothing is legal as it is without buffers
 pub plain-legal : (image b : List ℕ) → bufferedLegal image (sessionIn false b) ≡ legal image (plainIn b)

@@ -6,13 +6,10 @@ use finding::Seen;
 use finding::find_in;
 use geometry::Geometry;
 use moving::part;
+use placing::record_at;
 use requests::Answer;
 use requests::number;
 ghost use mathlib.Core.Path.{_≡_};
-ghost use Prim.Native.Nat.{_+_, _*_};
-ghost use Rattle.geometry.specs.Places.{placeOf, byteOf};
-ghost use Rattle.geometry.specs.Sizes.{random};
-ghost use Rattle.geometry.specs.Sizes as Sizes;
 ghost use Rattle.directory.specs.Entries.{entryAt};
 ghost use Rattle.steps.specs.Look.{bufferedLookAnswer};
 ghost use Rattle.storing.specs.Stored.{lentSession};
@@ -46,14 +43,6 @@ fn look_in(image: &[u8], session: &[u8], i: usize, g: u32) -> Looked
     look_seen(find_in(image, session, i), g)
 }
 
-// Where granule g of an entry begins in the image.
-pub fn granule_at(e: Entry, g: u32) -> usize
-    ensures { λ r. ⌜ r ≡ Sizes.sector * e .first + byteOf (placeOf random (e .length) g) ⌝ }
-{
-    let k = Geometry::sector_of_record(Geometry::RANDOM, e.length, g);
-    Geometry::SECTOR * ((e.first as usize) + k)
-}
-
 // The part of the image that is granule g of entry i, and the byte that it begins at goes into at; an empty part, and at as it was, where the
 // look is refused.
 pub fn look<'a>(image: &'a [u8], session: &[u8], i: usize, g: u32, at: &mut usize) -> &'a [u8]
@@ -64,7 +53,7 @@ pub fn look<'a>(image: &'a [u8], session: &[u8], i: usize, g: u32, at: &mut usiz
     let a = seen.answer;
     let e = seen.entry;
     if number(a) == 0 {
-        let place = granule_at(e, g);
+        let place = record_at(e, Geometry::RANDOM, g);
         *at = place;
         part(image, place, e.length as usize)
     } else {

@@ -36,7 +36,7 @@ unfolding plainAll plainDo
 same-all c f given [] u image = refl
 same-all c f given (hold k ∷ xs) u image = same-all c f given xs u image
 same-all c f given (change x ∷ xs) u image = same-all c f given xs u _
-same-all c f given (store k ys ∷ xs) u image = same-all c f given xs u _
+same-all c f given (store y ∷ xs) u image = same-all c f given xs u _
 same-all c f given (stamp ys ∷ xs) u image = absurd u
 same-all c f given (putBack ∷ xs) u image = same-all c f given xs u image
 

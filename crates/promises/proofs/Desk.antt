@@ -126,7 +126,7 @@ module _ (c : Scene) (inTable : c .number < entries) where
   unfolding bufferedDo plainDo
   ready-do (hold k) s w r = take-ready (c .entry) k (s .1) w r
   ready-do (change x) s w r = work-ready c x s w r
-  ready-do (store k xs) s w r = record { room = rw (length-lay (w .image) (sectorAt (c .entry) k) xs) (r .room); size = r .size; inside = r .inside }
+  ready-do (store x) s w r = record { room = rw (length-lay (w .image) (sectorAt (c .entry) (x .place .sector) + x .place .byte) (x .bytes)) (r .room); size = r .size; inside = r .inside }
   ready-do (stamp xs) s w r = record { room = rw (length-lay (w .image) (entrySize * c .number + 16) xs) (r .room); size = r .size; inside = r .inside }
   ready-do putBack s w r = back-cases (Ready (c .entry)) c w (λ z. back-ready (c .entry) w r) (λ z. r)
 
@@ -150,7 +150,7 @@ module _ (c : Scene) (inTable : c .number < entries) where
     unfolding bufferedDo plainDo working
     same-do (hold k) s w r = same-take k w r
     same-do (change x) s w r = same-take (x .place .sector) w r
-    same-do (store k xs) s w r = part-lay-apart (w .image) (sectorAt (c .entry) k) xs at n (omega (arith, far .0, s .1))
+    same-do (store x) s w r = part-lay-apart (w .image) (sectorAt (c .entry) (x .place .sector) + x .place .byte) (x .bytes) at n (omega (arith, far .0, s .1))
     same-do (stamp xs) s w r = part-lay-apart (w .image) (entrySize * c .number + 16) xs at n (omega (arith, far .1))
     same-do putBack s w r = back-cases (λ (v : Bench). part (v .image) at n ≡ part (w .image) at n) c w (λ z. same-back w r) (λ z. refl)
 

@@ -17,7 +17,7 @@ use Rattle.geometry.specs.Lists.{every}
 use Rattle.geometry.specs.Places.{perSector, placeOf, sectorsFor}
 use Rattle.geometry.specs.Sizes.{blocked}
 use Rattle.geometry.proofs.Bytes.{lay-nil}
-use Rattle.geometry.proofs.Places.{place-blocked}
+use Rattle.geometry.proofs.Places.{blocked-shares, place-shared}
 use Rattle.geometry.proofs.Tests.{either, chosen, and-left, and-right, and-both}
 use Rattle.directory.specs.Entries.{entryAt, freeEntry, isFree, isKind}
 use Rattle.directory.proofs.Free.{every-append}
@@ -69,7 +69,7 @@ module _ (c : Scene) where
   unfolding plainWrites plainDo
   plain-none (hold k) image h = refl
   plain-none (change x) image h = absurd (omega arith)
-  plain-none (store k xs) image h = store-none image _ xs h
+  plain-none (store x) image h = store-none image _ (x .bytes) h
   plain-none (stamp xs) image h = absurd (omega arith)
   plain-none putBack image h = refl
 
@@ -98,7 +98,7 @@ module _ (c : Scene) where
   unfolding bufferedWrites bufferedDo working
   buffered-none (hold k) w h = take-none k w h
   buffered-none (change x) w h = take-none (x .place .sector) w h
-  buffered-none (store k xs) w h = plain-none (store k xs) (w .image) h
+  buffered-none (store x) w h = plain-none (store x) (w .image) h
   buffered-none (stamp xs) w h = plain-none (stamp xs) (w .image) h
   buffered-none putBack w h = back-cases (λ (v : Bench). v .image ≡ w .image) c w (λ b. back-none w (sym (chosen (hasBuffer (c .entry)) (backWrites w) 0 b) ∙ h)) (λ b. refl)
 
@@ -231,7 +231,7 @@ module _ (w : Standing BufferedSession) (fine : sound (w .image) (w .session) �
 
   -- the record's sector
   place-is : placeOf blocked (entryAt (s .table) i .length) (fileOf (bare s .files) i .position) .sector ≡ p / q
-  place-is = rw (place-blocked blocked (entryAt (s .table) i .length) (fileOf (bare s .files) i .position) refl, at .position, at .many)
+  place-is = rw (place-shared blocked (entryAt (s .table) i .length) (fileOf (bare s .files) i .position) (blocked-shares blocked _ refl), at .position, at .many)
 
   write-count : count w (writing i given) ≡ takeWrites (p / q) found
   unfolding bufferedCount effectsOf bufferedSum bufferedWrites blockedEffect bufferedScene

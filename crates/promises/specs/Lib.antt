@@ -1,3 +1,4 @@
 pub mod Buffer
 pub mod Writes
+pub mod Granules
 pub mod Edits

@@ -31,7 +31,7 @@ use Rattle.sessions.specs.declared.BufferedSession.{BufferedSession}
 unfoldable pub plainWrites : Effect → ℕ
 plainWrites (hold k) = 0
 plainWrites (change x) = 1
-plainWrites (store k xs) = sectorsFor (length xs)
+plainWrites (store x) = sectorsFor (length (x .bytes))
 plainWrites (stamp xs) = 1
 plainWrites putBack = 0
 
@@ -47,7 +47,7 @@ takeWrites k w = elim (w .file .holds && eqb (w .file .held) k) [ true ↦ 0 | f
 unfoldable pub bufferedWrites : Entry → Effect → Bench → ℕ
 bufferedWrites e (hold k) w = takeWrites k w
 bufferedWrites e (change x) w = takeWrites (x .place .sector) w
-bufferedWrites e (store k xs) w = plainWrites (store k xs)
+bufferedWrites e (store x) w = plainWrites (store x)
 bufferedWrites e (stamp xs) w = plainWrites (stamp xs)
 bufferedWrites e putBack w = elim (hasBuffer e) [ true ↦ backWrites w | false ↦ 0 ]
 

@@ -27,7 +27,7 @@ imageLine s = spaced (spelled "IMAGE" ∷ decimal (s .words) ∷ decimal (s .run
 -- of a row that is not in order
 unfoldable pub faultWords : Fault → List ℕ
 faultWords (Cut k) = spelled " cut short at " ++ (decimal k ++ (32 ∷ spelled "of 16 bytes\n"))
-faultWords Shape = spelled " unknown shape (the last two words are not zero)\n"
+faultWords Shape = spelled " unknown shape (word 7 is not zero, or word 6 without a granule)\n"
 faultWords (Code k) = spelled " unknown code " ++ (decimal k ++ (10 ∷ []))
 faultWords (Missing k) = spelled " bytes are missing for its write of " ++ (decimal k ++ (10 ∷ []))
 faultWords (NoName k) = spelled " bytes are missing for its name of " ++ (decimal k ++ (10 ∷ []))

@@ -71,7 +71,7 @@ fn put_fault(out: &mut [u8], at: usize, f: Fault) -> usize
         Fault::Shape => put_all(
             out,
             at,
-            b" unknown shape (the last two words are not zero)\n",
+            b" unknown shape (word 7 is not zero, or word 6 without a granule)\n",
         ),
         Fault::Code(k) => put_count(out, at, b" unknown code ", k),
         Fault::Missing(k) => put_count(out, at, b" bytes are missing for its write of ", k),

@@ -1,6 +1,6 @@
 -- A row read, test by test: each is the definition's own equation.
 use mathlib.Core.Path.{_≡_, sym, ap, _∙_}
-use mathlib.Core.Bool.{true, false, _||_, not}
+use mathlib.Core.Bool.{true, false, _||_}
 use mathlib.Core.Logic.{_≢_}
 use mathlib.Core.List.{List}
 use Prim.Native.Nat.{ℕ, _≤_, _<_}
@@ -13,7 +13,7 @@ use Rattle.requests.specs.Codes.{askedFor}
 use Rattle.requests.specs.declared.Asked.{Asked}
 use Rattle.requests.specs.declared.Asked.the-variants.{For, Unknown}
 use Rattle.requests.specs.declared.Request.{Request}
-use Rattle.scripts.specs.Script.{isEdit, usedBy, rowIn, rowFor, rowOf, missingFor}
+use Rattle.scripts.specs.Script.{isEdit, usedBy, rowIn, rowFor, isMisshapen, rowOf, missingFor}
 use Rattle.scripts.specs.declared.Fault.the-variants.{Cut, Shape, Code, Missing, NoName}
 use Rattle.scripts.specs.declared.Found.the-variants.{InOrder, Wrong}
 use Rattle.scripts.specs.declared.Row.{Row}
@@ -32,12 +32,12 @@ module _ (b : List ℕ) where
   cut h = rw (rowOf, lt-ltb (length b) 16 h)
 
   module _ (h : 16 ≤ length b) where
-    pub shape : (not (eqb (wordAt b 12) 0) || not (eqb (wordAt b 14) 0)) ≡ true → Wrong Shape ≡ rowOf b
+    pub shape : isMisshapen b ≡ true → Wrong Shape ≡ rowOf b
     unfolding rowOf
     shape z = rw (rowOf, le-ltb (length b) 16 h, z)
 
     -- the code of a row of that shape names a request, or it adds or deletes, or it is unknown
-    module _ (z : (not (eqb (wordAt b 12) 0) || not (eqb (wordAt b 14) 0)) ≡ false) (row : Row) (k : row ≡ rowIn b) (x : Asked) (e : x ≡ askedFor (row .code) (row .granule)) where
+    module _ (z : isMisshapen b ≡ false) (row : Row) (k : row ≡ rowIn b) (x : Asked) (e : x ≡ askedFor (row .code) (row .granule)) where
       by-code : rowFor b x ≡ rowOf b
       unfolding rowOf rowIn
       by-code = rw (rowOf, le-ltb (length b) 16 h, z, e, k)

@@ -1,7 +1,7 @@
 -- A script: rows of eight words, high byte first. Definitions only.
-use mathlib.Core.Bool.{Bool, true, false, _||_, not}
+use mathlib.Core.Bool.{Bool, true, false, _&&_, _||_, not}
 use mathlib.Core.List.{List}
-use Prim.Native.Nat.{ℕ}
+use Prim.Native.Nat.{ℕ, _+_, _*_}
 use lib.Dec.{eqb, ltb}
 use lib.ListN as list
 use Rattle.geometry.specs.Bytes.{wordAt}
@@ -22,13 +22,21 @@ isEdit code = eqb code 14 || eqb code 15
 unfoldable pub usedBy : ℕ → ℕ → ℕ
 usedBy code length = elim (eqb code 3 || (eqb code 5 || eqb code 14)) [ true ↦ length | false ↦ 0 ]
 
--- the words of a row: code, entry, length, granule number, and an adding's sectors; one that is not looked at, and two zeros. An adding has its kind, the
--- bytes of its name and its record length in words 1, 2 and 3
+-- a granule is read, written or looked at
+unfoldable pub takesGranule : ℕ → Bool
+takesGranule code = eqb code 4 || (eqb code 5 || eqb code 6)
+
+-- its number: the low word is word 3, the high word is word 6
+unfoldable pub granuleIn : List ℕ → ℕ
+granuleIn b = 65536 * wordAt b 12 + wordAt b 6
+
+-- the words of a row: code, entry, length, the granule's low word, and an adding's sectors; one that is not looked at, the granule's high word, and a zero. An
+-- adding has its kind, the bytes of its name and its record length in words 1, 2 and 3
 unfoldable pub rowIn : List ℕ → Row
 rowIn b = record {
   code = wordAt b 0;
   entry = wordAt b 2;
-  granule = wordAt b 6;
+  granule = granuleIn b;
   length = wordAt b 4;
   sectors = wordAt b 8;
   uses = usedBy (wordAt b 0) (wordAt b 4);
@@ -39,15 +47,19 @@ unfoldable pub rowFor : List ℕ → Asked → Found
 rowFor b (For q) = InOrder (rowIn b)
 rowFor b Unknown = elim (isEdit (wordAt b 0)) [ true ↦ InOrder (rowIn b) | false ↦ Wrong (Code (wordAt b 0)) ]
 
--- a row has 16 bytes, its last two words are zero, and its code is one of 1 to 15; what is told is the first of these that fails
+-- word 7 is not zero, or word 6 is not in a row that takes no granule
+unfoldable pub isMisshapen : List ℕ → Bool
+isMisshapen b = not (eqb (wordAt b 14) 0) || (not (eqb (wordAt b 12) 0) && not (takesGranule (wordAt b 0)))
+
+-- a row has 16 bytes, its unused words 6 and 7 are zero, and its code is one of 1 to 15; what is told is the first of these that fails
 unfoldable pub rowOf : List ℕ → Found
 rowOf b =
     elim (ltb (list.length b) 16) [
       | true ↦ Wrong (Cut (list.length b))
       | false ↦
-          elim (not (eqb (wordAt b 12) 0) || not (eqb (wordAt b 14) 0)) [
+          elim (isMisshapen b) [
             | true ↦ Wrong Shape
-            | false ↦ rowFor b (askedFor (wordAt b 0) (wordAt b 6))
+            | false ↦ rowFor b (askedFor (wordAt b 0) (granuleIn b))
           ]
     ]
 

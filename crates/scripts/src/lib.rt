@@ -3,7 +3,7 @@ use moving::word_at;
 use requests::Asked;
 use requests::by_code;
 ghost use mathlib.Core.Path.{_≡_};
-ghost use Rattle.scripts.specs.Script.{isEdit, usedBy, rowIn, rowOf, missingFor};
+ghost use Rattle.scripts.specs.Script.{isEdit, usedBy, takesGranule, granuleIn, rowIn, isMisshapen, rowOf, missingFor};
 ghost use Rattle.scripts.specs.Sums.{sumsOf};
 
 // ---- rows
@@ -21,7 +21,7 @@ pub struct Row {
 // Why a row is not in order.
 pub enum Fault {
     Cut(u32), // only so many of its bytes are there
-    Shape, // its last two words are not zero
+    Shape, // word 7 is not zero, or word 6 where no granule is taken
     Code(u16), // there is no request of this code
     Missing(u16), // it is a write of so many bytes, and fewer are left
     NoName(u16), // it adds a file whose name has so many bytes, and fewer are left
@@ -52,6 +52,31 @@ pub fn is_edit(code: u16) -> bool
     (code == 14) | (code == 15)
 }
 
+// Whether a code asks for a granule.
+fn takes_granule(code: u16) -> bool
+    ensures { λ r. ⌜ r ≡ takesGranule code ⌝ }
+{
+    (code == 4) | ((code == 5) | (code == 6))
+}
+
+// Whether a word of a row that is not used is not zero.
+fn is_misshapen(bytes: &[u8]) -> bool
+    ensures { λ r. ⌜ r ≡ isMisshapen (now (bytes .entry)) ⌝ }
+{
+    let six = word_at(bytes, 12);
+    let seven = word_at(bytes, 14);
+    (seven != 0) | ((six != 0) & !takes_granule(word_at(bytes, 0)))
+}
+
+// The number of a row's granule, in two words.
+fn granule_in(bytes: &[u8]) -> u32
+    ensures { λ r. ⌜ r ≡ granuleIn (now (bytes .entry)) ⌝ }
+{
+    let high = word_at(bytes, 12);
+    let low = word_at(bytes, 6);
+    65536 * (high as u32) + (low as u32)
+}
+
 // The words of a row.
 fn row_in(bytes: &[u8]) -> Row
     ensures { λ r. ⌜ r ≡ rowIn (now (bytes .entry)) ⌝ }
@@ -61,7 +86,7 @@ fn row_in(bytes: &[u8]) -> Row
     Row {
         code: code,
         entry: word_at(bytes, 2),
-        granule: word_at(bytes, 6) as u32,
+        granule: granule_in(bytes),
         length: length,
         sectors: word_at(bytes, 8),
         uses: used_by(code, length),
@@ -75,7 +100,7 @@ pub fn row_of(bytes: &[u8]) -> Found
     if bytes.len() < 16 {
         return Found::Wrong(Fault::Cut(bytes.len() as u32));
     }
-    if (word_at(bytes, 12) != 0) | (word_at(bytes, 14) != 0) {
+    if is_misshapen(bytes) {
         return Found::Wrong(Fault::Shape);
     }
     let row = row_in(bytes);

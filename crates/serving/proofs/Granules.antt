@@ -1,4 +1,5 @@
--- A file of kind 4 is its row of granules: granule g is the R bytes at its place, in sectors of its own, so a write of it changes no other.
+-- A file of kind 4 is its row of granules: granule g is the R bytes at its place, and what a write of it changes are its own bytes or sectors, so it changes no
+-- other granule.
 use mathlib.Core.Path.{_≡_, refl, sym, ap, _∙_, subst, subst₂}
 use mathlib.Core.Logic.{_≢_}
 use mathlib.Core.Bool.{true, false, false≢true}

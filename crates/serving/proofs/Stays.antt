@@ -184,7 +184,7 @@ unfolding ownAll ownDo
 own-length [] bytes = refl
 own-length (hold k ∷ xs) bytes = own-length xs bytes
 own-length (change x ∷ xs) bytes = own-length xs (lay bytes (byteOf (x .place)) (x .bytes)) ∙ length-lay bytes (byteOf (x .place)) (x .bytes)
-own-length (store k ys ∷ xs) bytes = own-length xs (lay bytes (sector * k) ys) ∙ length-lay bytes (sector * k) ys
+own-length (store y ∷ xs) bytes = own-length xs (lay bytes (byteOf (y .place)) (y .bytes)) ∙ length-lay bytes (byteOf (y .place)) (y .bytes)
 own-length (stamp ys ∷ xs) bytes = own-length xs bytes
 own-length (putBack ∷ xs) bytes = own-length xs bytes
 

@@ -25,8 +25,8 @@ use Rattle.steps.specs.Effects.{effects, plainAll}
 use Rattle.steps.specs.Look.{shown, plainLookAnswer, plainLook}
 use Rattle.steps.specs.Step.{After, plainScene, plainAnswer, plainAfter, plainStep}
 use Rattle.steps.specs.Verdict.{entryNext, fileNext}
-use Rattle.steps.proofs.Frame.{Elsewhere, elsewhere-plain}
-use Rattle.steps.proofs.Inside.{lawful, inside}
+use Rattle.steps.proofs.Frame.{Beside, beside-plain}
+use Rattle.steps.proofs.Inside.{lawful, suit}
 use Rattle.steps.proofs.Lawful.{Lawful}
 use Rattle.serving.proofs.Stays.{same-next}
 use Rattle.tapes.specs.Tape.{Tape, tapeFacts}
@@ -154,14 +154,14 @@ module _ (image : List ℕ) (s : Session) (v : Stands image s) (i : ℕ) (given 
 
     -- ---- the bytes that are not
 
-    -- a byte that is none of the file's own stays, and so does every byte where the file is not open
-    pub untouched-step : (j : ℕ) → (fileOf (s .files) i .used ≡ true → Elsewhere c j) → getD (plainStep image s i q given buffer .image) j 0 ≡ getD image j 0
+    -- a byte that the file may not write stays, and so does every byte where the file is not open
+    pub untouched-step : (j : ℕ) → (fileOf (s .files) i .used ≡ true → Beside c j) → getD (plainStep image s i q given buffer .image) j 0 ≡ getD image j 0
     unfolding plainStep plainScene plainAfter
     untouched-step j far = go (plainAnswer image s i q given (length buffer)) (sym by-itself)
       where
         inside-own : (q : Request) → soloAnswer n (length buffer) q c ≡ Done → Live (factsOf true n (length buffer) q c) → getD (plainAll c (effects q c) image) j 0 ≡ getD image j 0
         inside-own q e l =
-            elsewhere-plain c (effects q c) (inside n (length buffer) q c (lawful image s (v .ok) i (unfold factsOf in l .used)) e) image j (far (unfold factsOf in l .opened))
+            beside-plain c (effects q c) (suit n (length buffer) q c (lawful image s (v .ok) i (unfold factsOf in l .used)) e) image j (far (unfold factsOf in l .opened))
 
         alive : (q : Request) → soloAnswer n (length buffer) q c ≡ Done → Alive q (factsOf true n (length buffer) q c) → getD (plainAll c (effects q c) image) j 0 ≡ getD image j 0
         alive Open e l = unfold effects plainAll in refl

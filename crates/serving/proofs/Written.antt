@@ -1,5 +1,5 @@
--- A record or granule of R bytes written where it lies: it reads back padded with zero, and so do those before it, since places stand in order;
--- where each has sectors of its own, every other one too.
+-- A record or granule of R bytes written where it lies: it reads back padded with zero, and those before it are as they were, since places stand in order;
+-- where it is written straight, in bytes of its own, so is every other one.
 use mathlib.Core.Path.{_≡_, sym, ap, _∙_}
 use mathlib.Core.Logic.{_≢_}
 use mathlib.Core.Bool.{true, false}
@@ -10,10 +10,10 @@ use lib.ListN.{length}
 use borrow.Author.Tests.{eqb-true, eqb-false}
 use Rattle.geometry.specs.Bytes.{part, lay, padded}
 use Rattle.geometry.specs.Sizes.{sector, blocked, compressed}
-use Rattle.geometry.specs.Places.{capacity, placeOf, byteOf, sectorsFor}
+use Rattle.geometry.specs.Places.{capacity, placeOf, byteOf}
 use Rattle.geometry.proofs.Bytes.{part-lay-inside, part-lay-apart, part-padded, length-padded}
 use Rattle.geometry.proofs.Tests.{either}
-use Rattle.geometry.proofs.Places.{spanOf, span-blocked, span-whole, place-whole, span-holds, span-inside, earlier-apart, spans-apart}
+use Rattle.geometry.proofs.Places.{spanOf, span-blocked, span-straight, span-holds, span-inside, earlier-apart, spans-apart}
 use Rattle.directory.specs.Entries.{isKind}
 use Rattle.steps.specs.Next.{Scene}
 use Rattle.steps.specs.Effects.{storeEffect, blockedEffect, writeEffects}
@@ -24,13 +24,11 @@ use Rattle.steps.proofs.Lawful.{ownDo, ownAll}
 abbrev pub written : ℕ → ℕ → List ℕ → ℕ → List ℕ → List ℕ
 written kind R bytes k given = lay bytes (byteOf (placeOf kind R k)) (padded 0 (spanOf kind R k) given)
 
--- whole sectors: a granule's, an unblocked record's
+-- the bytes that it takes: a granule's, an unblocked record's
 pub own-store : (c : Scene) (k : ℕ) → isKind blocked (c .entry) ≡ false → ownDo (storeEffect c k) (c .bytes) ≡ written (c .entry .kind) (c .entry .length) (c .bytes) k (c .given)
 unfolding ownDo storeEffect
 own-store c k n =
-    let m : ¬ (c .entry .kind ≡ blocked) = eqb-false (c .entry .kind) blocked n in
-    let z : sector * (sectorsFor (c .entry .length) * k) + 0 ≡ sector * (sectorsFor (c .entry .length) * k) = omega arith in
-    rw (span-whole (c .entry .kind) (c .entry .length) k m, place-whole (c .entry .kind) (c .entry .length) k m, z)
+    rw (span-straight (c .entry .kind) (c .entry .length) k (eqb-false (c .entry .kind) blocked n))
 
 -- a blocked record's sector from its first byte on
 own-blocked : (c : Scene) → isKind blocked (c .entry) ≡ true
@@ -69,8 +67,8 @@ module _ (kind R sectors : ℕ) (pos : 0 < R) (small : kind ≡ blocked → R �
       part-lay-apart bytes (byteOf (placeOf kind R p)) (padded 0 (spanOf kind R p) given) (byteOf (placeOf kind R k)) R
       (rw laid-length (earlier-apart kind R pos small k p h))
 
-  -- whole sectors: all others are
+  -- written straight: all others are
   pub written-other : ¬ (kind ≡ blocked) → (k : ℕ) → k ≢ p → part (written kind R bytes p given) (byteOf (placeOf kind R k)) R ≡ part bytes (byteOf (placeOf kind R k)) R
   written-other n k d =
       part-lay-apart bytes (byteOf (placeOf kind R p)) (padded 0 (spanOf kind R p) given) (byteOf (placeOf kind R k)) R
-      (rw laid-length (omega (arith, spans-apart kind R k p n d, span-holds kind R pos small k)))
+      (rw laid-length (omega (arith, spans-apart kind R pos small k p n d, span-holds kind R pos small k)))

@@ -123,12 +123,12 @@ then-does e w v u k m image d g q = record {
 
 -- what lies apart from the extent lies apart from the held sector
 pub held-off : (e : Entry) (b : BufferedFile) (a n : ℕ) → length (b .buffer) ≡ sector → Within e b
-    → Apart a n (sector * e .first) (sector * e .sectors) → Off a n (heldBy e b)
+    → (hasBuffer e ≡ true → Apart a n (sector * e .first) (sector * e .sectors)) → Off a n (heldBy e b)
 unfolding heldBy
 held-off e b a n l r x = either (holdsOne e b)
     (λ (h : holdsOne e b ≡ true).
     let q : b .held < e .sectors = r (one-holds e b h) in
-    rw (h, heldBy) (omega arith))
+    rw (h, heldBy) (omega (arith, x (one-buffer e b h))))
     (λ (h : holdsOne e b ≡ false). rw (h, heldBy) (omega arith))
 
 -- a sector is taken: what is seen does not change
@@ -209,25 +209,27 @@ module _ (c : Scene) (inTable : c .number < entries) where
     where
       changed-at : (m image : List ℕ) (i j : ℕ) → m ≡ image → i ≡ j → lay m (sectorAt (c .entry) i + x .place .byte) (x .bytes) ≡ lay image (sectorAt (c .entry) j + x .place .byte) (x .bytes)
       changed-at m image i j p q = rw (p, q)
-  does (store k xs) s w f = stores (no-buffer-none (c .entry) (w .file) (s .0))
+  does (store y) s w f = stores (sectorAt (c .entry) (y .place .sector) + y .place .byte) (omega arith) (omega (arith, s .1)) (no-buffer-none (c .entry) (w .file) (s .0))
     where
-      stores : holdsOne (c .entry) (w .file) ≡ false → Does (c .entry) w (record { image = lay (w .image) (sectorAt (c .entry) k) xs; file = w .file }) (lay (own (c .entry) w) (sectorAt (c .entry) k) xs)
-      stores h = record {
-        same = own-none (c .entry) (record { image = lay (w .image) (sectorAt (c .entry) k) xs; file = w .file }) h ∙ ap (λ (z : List ℕ). lay z (sectorAt (c .entry) k) xs) (sym (own-none (c .entry) w h));
+      -- the bytes lie in the extent
+      stores : (at : ℕ) → sector * c .entry .first ≤ at → at + length (y .bytes) ≤ sector * (c .entry .first + c .entry .sectors) → holdsOne (c .entry) (w .file) ≡ false
+          → Does (c .entry) w (record { image = lay (w .image) at (y .bytes); file = w .file }) (lay (own (c .entry) w) at (y .bytes))
+      stores at low high h = record {
+        same = own-none (c .entry) (record { image = lay (w .image) at (y .bytes); file = w .file }) h ∙ ap (λ (z : List ℕ). lay z at (y .bytes)) (sym (own-none (c .entry) w h));
         fits = record {
           starts = f .starts;
-          room = omega (arith, f .room, length-lay (w .image) (sectorAt (c .entry) k) xs);
+          room = omega (arith, f .room, length-lay (w .image) at (y .bytes));
           size = f .size;
           within = f .within;
           unchanged = λ q z. both-ways (holdsOne (c .entry) (w .file)) q h;
         };
         state = refl;
-        size = length-lay (w .image) (sectorAt (c .entry) k) xs;
-        others = λ a n x. part-lay-apart (w .image) (sectorAt (c .entry) k) xs a n (omega (arith, x .0, s .1));
+        size = length-lay (w .image) at (y .bytes);
+        others = λ a n x. part-lay-apart (w .image) at (y .bytes) a n (omega (arith, x .0));
       }
   does (stamp xs) s w f = record {
     same = lay-lay-apart (w .image) stampAt xs (heldBy (c .entry) (w .file) .at) (heldBy (c .entry) (w .file) .bytes)
-        (held-off (c .entry) (w .file) stampAt (length xs) (f .size) (f .within) (omega (arith, f .starts)));
+        (held-off (c .entry) (w .file) stampAt (length xs) (f .size) (f .within) (λ h. omega (arith, f .starts)));
     fits = record {
       starts = f .starts;
       room = omega (arith, f .room, length-lay (w .image) stampAt xs);
@@ -259,7 +261,7 @@ module _ (c : Scene) (inTable : c .number < entries) where
   unfolding plainDo
   back-plain hs o (hold k) s image = refl
   back-plain hs o (change x) s image = back-lay hs image (sectorAt (c .entry) (x .place .sector) + x .place .byte) (x .bytes) (λ j. omega (arith, o j .0, s .1, s .2))
-  back-plain hs o (store k xs) s image = back-lay hs image (sectorAt (c .entry) k) xs (λ j. omega (arith, o j .0, s .1))
+  back-plain hs o (store x) s image = back-lay hs image (sectorAt (c .entry) (x .place .sector) + x .place .byte) (x .bytes) (λ j. omega (arith, o j .0, s .1))
   back-plain hs o (stamp xs) s image = back-lay hs image stampAt xs (λ j. omega (arith, o j .1))
   back-plain hs o putBack s image = refl
 
@@ -294,7 +296,7 @@ module _ (c : Scene) where
   unfolding bufferedDo working
   within-do (hold k) s w r h = rw (takes-held (c .entry) k w .1) (s .1)
   within-do (change x) s w r h = rw (takes-held (c .entry) (x .place .sector) w .1) (s .1)
-  within-do (store k xs) s w r h = r h
+  within-do (store x) s w r h = r h
   within-do (stamp xs) s w r h = r h
   within-do putBack s w r h =
       back-cases (λ (v : Bench). Within (c .entry) (v .file)) c w (λ b k. rw (back-file (c .entry) w .1) (r (sym (back-file (c .entry) w .0) ∙ k))) (λ b. r) h
@@ -308,7 +310,7 @@ module _ (c : Scene) where
   unfolding bufferedDo working plainDo
   length-do (hold k) w = length-taking (c .entry) k w
   length-do (change x) w = length-taking (c .entry) (x .place .sector) w
-  length-do (store k xs) w = length-lay (w .image) _ xs
+  length-do (store x) w = length-lay (w .image) _ (x .bytes)
   length-do (stamp xs) w = length-lay (w .image) _ xs
   length-do putBack w = back-cases (λ (v : Bench). length (v .image) ≡ length (w .image)) c w (λ b. length-putting (c .entry) w) (λ b. refl)
 

@@ -18,7 +18,7 @@ use Rattle.directory.specs.Entries.{tableOf, entryAt, freeEntry, isFree}
 use Rattle.directory.specs.Rules.{tableGood}
 use Rattle.directory.proofs.Table.{table-part}
 use Rattle.directory.proofs.Good.{Lies, lies, extents-apart}
-use Rattle.sessions.specs.Session.{idle, fresh, bare, holdsOne, legal, bufferedLegal, typed}
+use Rattle.sessions.specs.Session.{idle, fresh, bare, hasBuffer, holdsOne, legal, bufferedLegal, typed}
 use Rattle.sessions.proofs.Legal.{lawful-length, good-table, entry-inside, entry-used, bare-legal, held-inside}
 use Rattle.steps.specs.Effects.{sectorAt}
 use Rattle.steps.proofs.Standing.{heldAt, bare-at}
@@ -140,9 +140,10 @@ module _ (image : List ℕ) (s : BufferedSession) (kept : Kept image s) where
       record { starts = r .0; room = r .1; size = buffer-length s (kept .isTyped) k; within = held-below k u; unchanged = kept .inStep k u } in
       subst (λ (x : Entry). Fits x (record { image = image; file = heldAt s k })) q f
 
-  -- what lies apart from an open file's extent lies off what it holds
+  -- what lies apart from the extent of an open file that has a buffer lies off what it holds
   hold-off : (j a n : ℕ)
-      → (heldAt s j .file .used ≡ true → Apart a n (sector * entryAt (s .table) (heldAt s j .file .entry) .first) (sector * entryAt (s .table) (heldAt s j .file .entry) .sectors))
+      → (heldAt s j .file .used ≡ true → hasBuffer (entryAt (s .table) (heldAt s j .file .entry)) ≡ true
+      → Apart a n (sector * entryAt (s .table) (heldAt s j .file .entry) .first) (sector * entryAt (s .table) (heldAt s j .file .entry) .sectors))
       → Off a n (holdAt (holds s) j)
   hold-off j a n x = either (heldAt s j .file .used)
       (λ (u : heldAt s j .file .used ≡ true).
@@ -152,12 +153,12 @@ module _ (image : List ℕ) (s : BufferedSession) (kept : Kept image s) where
 
   -- the directory is held by no file
   pub holds-behind : (j : ℕ) → Off 0 sector (holdAt (holds s) j)
-  holds-behind j = hold-off j 0 sector (λ u. omega (arith, entry-room (heldAt s j .file .entry) (used-entry j u .1) .0))
+  holds-behind j = hold-off j 0 sector (λ u h. omega (arith, entry-room (heldAt s j .file .entry) (used-entry j u .1) .0))
 
   -- what another file holds
   pub clear : (i : ℕ) → isFree (entryAt (s .table) i) ≡ false → (j : ℕ) → (heldAt s j .file .used ≡ true → ¬ (heldAt s j .file .entry ≡ i))
       → Clear (entryAt (s .table) i) (holdAt (holds s) j)
-  clear i v j d = (hold-off j (sector * entryAt (s .table) i .first) (sector * entryAt (s .table) i .sectors) apart, holds-behind j)
+  clear i v j d = (hold-off j (sector * entryAt (s .table) i .first) (sector * entryAt (s .table) i .sectors) (λ u h. apart u), holds-behind j)
     where
       good : tableGood N (s .table) ≡ true
       good = unfold bare in good-table image (bare s) is-legal
@@ -169,9 +170,10 @@ module _ (image : List ℕ) (s : BufferedSession) (kept : Kept image s) where
           (eqb-false (entryAt (s .table) (heldAt s j .file .entry) .kind) 0 (used-entry j u .1)) in
           omega arith
 
-  -- a byte outside the extents of open files is in no hold
+  -- a byte outside the extents of open files that have buffers is in no hold
   pub settle-elsewhere : (a : ℕ)
-      → ((j : ℕ) → heldAt s j .file .used ≡ true → Apart a 1 (sector * entryAt (s .table) (heldAt s j .file .entry) .first) (sector * entryAt (s .table) (heldAt s j .file .entry) .sectors))
+      → ((j : ℕ) → heldAt s j .file .used ≡ true → hasBuffer (entryAt (s .table) (heldAt s j .file .entry)) ≡ true
+      → Apart a 1 (sector * entryAt (s .table) (heldAt s j .file .entry) .first) (sector * entryAt (s .table) (heldAt s j .file .entry) .sectors))
       → getD (settle image s) a 0 ≡ getD image a 0
   unfolding settle
   settle-elsewhere a x = back-getD (holds s) image a (λ j. hold-off j a 1 (x j))
@@ -181,7 +183,7 @@ module _ (image : List ℕ) (s : BufferedSession) (kept : Kept image s) where
       → ((j : ℕ) → heldAt s j .file .used ≡ true → Apart a m (sector * entryAt (s .table) (heldAt s j .file .entry) .first) (sector * entryAt (s .table) (heldAt s j .file .entry) .sectors))
       → part (settle image s) a m ≡ part image a m
   unfolding settle
-  settle-part a m x = back-part (holds s) image a m (λ j. hold-off j a m (x j))
+  settle-part a m x = back-part (holds s) image a m (λ j. hold-off j a m (λ u h. x j u))
 
   pub settle-table : tableOf (settle image s) ≡ tableOf image
   unfolding settle

@@ -46,7 +46,7 @@ does : (f : OpenFile) (c : Scene) (x : Effect) (w : Bench) → bufferedDo c x (o
 unfolding bufferedDo working
 does f c (hold k) w = takes f (c .entry) w k
 does f c (change x) w = ap (working (x .place .byte) (x .bytes)) (takes f (c .entry) w (x .place .sector))
-does f c (store k xs) w = refl
+does f c (store x) w = refl
 does f c (stamp xs) w = refl
 does f c putBack w = backs f (c .entry) w (hasBuffer (c .entry))
 

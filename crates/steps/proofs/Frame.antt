@@ -4,21 +4,25 @@ use mathlib.Core.Path.{_≡_, refl, ap, _∙_}
 use mathlib.Core.Logic.{_⊎_, inl, inr}
 use mathlib.Core.List.{List, [], _∷_, map}
 use mathlib.Core.Bool.{Bool, true, false, _&&_}
-use Prim.Native.Nat.{ℕ, _+_, _*_, _≤_, _<_, min, max}
+use Prim.Native.Nat.{ℕ, _+_, _*_, _%_, _≤_, _<_, min, max}
 use native.Mathlib.Omega.{arith}
 use lib.Dec.{ltb}
 use lib.ListN.{length, getD}
-use Rattle.geometry.specs.Sizes.{sector, entries, entrySize, blocked, compressed}
-use Rattle.geometry.specs.Places.{byteOf}
+use Rattle.geometry.specs.Sizes.{sector, entries, entrySize, blocked, compressed, random}
+use Rattle.geometry.specs.Bytes.{lay}
+use Rattle.geometry.specs.Places.{perSector, smallGranules, reachOf, byteOf}
 use Rattle.geometry.proofs.Bytes.{Apart, length-lay, getD-lay-out, part-lay-apart, part-lay-within, same-parts}
+use Rattle.geometry.proofs.Places.{reach-small, reach-whole}
+use Rattle.geometry.proofs.Tests.{either, both-ways, and-left}
 use Rattle.coding.specs.Encode.{codeOf}
 use Rattle.directory.specs.Entries.{tableOf, isKind}
 use Rattle.directory.proofs.Table.{table-lay}
 use Rattle.packing.specs.Placing.{Change, changes}
 use Rattle.packing.specs.Reading.{goesOn}
-use Rattle.sessions.specs.Session.{extent}
+use Rattle.sessions.specs.Session.{hasBuffer, extent}
 use Rattle.steps.specs.Effects.{Effect, hold, change, store, stamp, putBack, sectorAt, readEffects, storeEffect, blockedEffect, writeEffects, effects, plainDo, plainAll}
 use Rattle.steps.specs.Next.{Scene}
+use Rattle.steps.proofs.Inside.{Before, Suits, AllSuit, suits-inside, no-buffer}
 use Rattle.steps.proofs.Lawful.{ownDo, ownAll, Inside, AllInside, none, and}
 use Rattle.directory.specs.declared.Entry.{Entry}
 use Rattle.requests.specs.declared.Order.the-variants.{WriteMark, RewindOnline, RewindOffline, RecordForward, RecordBack, FileForward, FileBack}
@@ -35,7 +39,7 @@ module _ (c : Scene) where
   unfolding plainDo
   one-length (hold k) image = refl
   one-length (change x) image = length-lay image _ (x .bytes)
-  one-length (store k xs) image = length-lay image _ xs
+  one-length (store x) image = length-lay image _ (x .bytes)
   one-length (stamp xs) image = length-lay image _ xs
   one-length putBack image = refl
 
@@ -55,7 +59,7 @@ module _ (c : Scene) where
   unfolding plainDo
   one-elsewhere (hold k) h image j o = refl
   one-elsewhere (change x) h image j o = getD-lay-out image _ (x .bytes) j 0 (omega (arith, o .extent))
-  one-elsewhere (store k xs) h image j o = getD-lay-out image _ xs j 0 (omega (arith, o .extent))
+  one-elsewhere (store x) h image j o = getD-lay-out image _ (x .bytes) j 0 (omega (arith, o .extent))
   one-elsewhere (stamp xs) h image j o = getD-lay-out image _ xs j 0 (omega (arith, o .entry))
   one-elsewhere putBack h image j o = refl
 
@@ -63,6 +67,38 @@ module _ (c : Scene) where
   unfolding plainAll
   elsewhere-plain xs none image j o = refl
   elsewhere-plain xs (and {x = y} {xs = ys} h t) image j o = elsewhere-plain ys t (plainDo c y image) j o ∙ one-elsewhere y h image j o
+
+  -- the same, or byte j is one of those at a sector's end that belong to no granule
+  pub record Beside (j : ℕ) : Type 0 where
+    pub entry : Apart j 1 (entrySize * c .number + 16) 4
+    pub extent : Apart j 1 (sector * e .first) (sector * e .sectors) ⊎ (reachOf (e .kind) (e .length) ≤ j % sector)
+
+  -- a small granule lies before such a byte, or in another sector
+  granule-off : (x : Change) → Before e x → smallGranules (e .kind) (e .length) ≡ true → (j : ℕ) → reachOf (e .kind) (e .length) ≤ j % sector
+      → Apart j 1 (sectorAt e (x .place .sector) + x .place .byte) (length (x .bytes))
+  granule-off x b s j h =
+      let l : perSector (e .length) * e .length ≤ j % sector = rw (reach-small (e .kind) (e .length) s) at h in
+      omega (arith, b s)
+
+  one-beside : (x : Effect) → Suits e x → (image : List ℕ) (j : ℕ) → Beside j → getD (plainDo c x image) j 0 ≡ getD image j 0
+  one-beside x s image j o = go (o .extent)
+    where
+      small : (x : Effect) → Suits e x → smallGranules (e .kind) (e .length) ≡ true → reachOf (e .kind) (e .length) ≤ j % sector → getD (plainDo c x image) j 0 ≡ getD image j 0
+      small (hold k) s g h = unfold plainDo in refl
+      small (change x) s g h = both-ways (hasBuffer e) (s .0) (no-buffer e (and-left (isKind random e) _ g))
+      small (store x) s g h = unfold plainDo in getD-lay-out image _ (x .bytes) j 0 (granule-off x (s .2) g j h)
+      small (stamp xs) s g h = unfold plainDo in getD-lay-out image _ xs j 0 (omega (arith, o .entry))
+      small putBack s g h = unfold plainDo in refl
+
+      go : Apart j 1 (sector * e .first) (sector * e .sectors) ⊎ (reachOf (e .kind) (e .length) ≤ j % sector) → getD (plainDo c x image) j 0 ≡ getD image j 0
+      go (inl a) = one-elsewhere x (suits-inside e x s) image j (record { entry = o .entry; extent = a })
+      go (inr h) = either (smallGranules (e .kind) (e .length)) (λ g. small x s g h)
+          (λ (g : smallGranules (e .kind) (e .length) ≡ false). absurd (omega (arith, reach-whole (e .kind) (e .length) g)))
+
+  pub beside-plain : (xs : List Effect) → AllSuit e xs → (image : List ℕ) (j : ℕ) → Beside j → getD (plainAll c xs image) j 0 ≡ getD image j 0
+  unfolding plainAll
+  beside-plain [] s image j o = refl
+  beside-plain (x ∷ xs) s image j o = beside-plain xs (s .1) (plainDo c x image) j o ∙ one-beside x (s .0) image j o
 
   -- another extent, behind the directory
   pub other-plain : (xs : List Effect) → AllInside (e .sectors) xs → c .number < entries → (d : Entry) → 1 ≤ d .first
@@ -74,15 +110,18 @@ module _ (c : Scene) where
   -- ---- the extent
 
   module _ (few : c .number < entries) (low : 1 ≤ e .first) where
+    laid-own : (x : Change) → byteOf (x .place) + length (x .bytes) ≤ sector * e .sectors → (image : List ℕ)
+        → extent e (lay image (sectorAt e (x .place .sector) + x .place .byte) (x .bytes)) ≡ lay (extent e image) (byteOf (x .place)) (x .bytes)
+    unfolding extent
+    laid-own x h image =
+        let z : sectorAt e (x .place .sector) + x .place .byte ≡ sector * e .first + byteOf (x .place) = omega arith in
+        rw z (part-lay-within image (sector * e .first) (sector * e .sectors) (byteOf (x .place)) (x .bytes) h)
+
     one-own : (x : Effect) → Inside (e .sectors) x → (image : List ℕ) → extent e (plainDo c x image) ≡ ownDo x (extent e image)
     unfolding plainDo ownDo extent
     one-own (hold k) h image = refl
-    one-own (change x) h image =
-        let z : sectorAt e (x .place .sector) + x .place .byte ≡ sector * e .first + byteOf (x .place) = omega arith in
-        rw z (part-lay-within image (sector * e .first) (sector * e .sectors) (byteOf (x .place)) (x .bytes) h)
-    one-own (store k xs) h image =
-        let z : sectorAt e k ≡ sector * e .first + sector * k = omega arith in
-        rw z (part-lay-within image (sector * e .first) (sector * e .sectors) (sector * k) xs h)
+    one-own (change x) h image = laid-own x h image
+    one-own (store x) h image = laid-own x h image
     one-own (stamp xs) h image = part-lay-apart image (entrySize * c .number + 16) xs (sector * e .first) (sector * e .sectors) (omega arith)
     one-own putBack h image = refl
 
@@ -97,7 +136,7 @@ abbrev pub Unstamped : List Effect → Type 0
 Unstamped [] = record {}
 Unstamped (hold k ∷ xs) = Unstamped xs
 Unstamped (change x ∷ xs) = Unstamped xs
-Unstamped (store k ys ∷ xs) = Unstamped xs
+Unstamped (store y ∷ xs) = Unstamped xs
 Unstamped (stamp ys ∷ xs) = ⊥
 Unstamped (putBack ∷ xs) = Unstamped xs
 
@@ -106,7 +145,7 @@ unfolding plainAll plainDo
 table-plain c low [] u image = refl
 table-plain c low (hold k ∷ xs) u image = table-plain c low xs u image
 table-plain c low (change x ∷ xs) u image = table-plain c low xs u _ ∙ table-lay image _ (x .bytes) (omega arith)
-table-plain c low (store k ys ∷ xs) u image = table-plain c low xs u _ ∙ table-lay image _ ys (omega arith)
+table-plain c low (store y ∷ xs) u image = table-plain c low xs u _ ∙ table-lay image _ (y .bytes) (omega arith)
 table-plain c low (stamp ys ∷ xs) u image = absurd u
 table-plain c low (putBack ∷ xs) u image = table-plain c low xs u image
 

@@ -9,10 +9,10 @@ use lib.ListN.{length, getD}
 use lib.Dec.{ltb}
 use borrow.Author.Tests.{eqb-true, eqb-false, ne-eqb, lt-ltb, ltb-true, leb-false}
 use Rattle.geometry.specs.Bytes.{padded, word}
-use Rattle.geometry.specs.Sizes.{sector, blocked, compressed, random, mostSectors, sectorsOf}
-use Rattle.geometry.specs.Places.{sectorsFor, capacity, placeOf, byteOf}
+use Rattle.geometry.specs.Sizes.{sector, blocked, compressed, random, mostSectors, mostShared, sectorsOf}
+use Rattle.geometry.specs.Places.{perSector, smallGranules, capacity, placeOf, bytesFor, byteOf}
 use Rattle.geometry.proofs.Tests.{either, neither-left}
-use Rattle.geometry.proofs.Places.{lawful-most, sector-below, byte-blocked, spanOf, span-inside, span-whole, span-holds}
+use Rattle.geometry.proofs.Places.{lawful-most, sector-below, blocked-shares, small-granule, small-shares, byte-shared, bytes-shared, granule-before, spanOf, span-inside, span-straight, bytes-hold}
 use Rattle.geometry.proofs.Bytes.{length-padded}
 use Rattle.directory.specs.Entries.{entryAt, isFree, isKind, isMarked}
 use Rattle.directory.proofs.Good.{Lies, lies}
@@ -98,11 +98,15 @@ lawful image s ok i used = go (finds (s .files) i)
 
 -- ---- what a request may do to a file
 
+-- small granules lie before the bytes at a sector's end that belong to none
+abbrev pub Before : Entry → Change → Type 0
+Before e x = smallGranules (e .kind) (e .length) ≡ true → x .place .byte + length (x .bytes) ≤ perSector (e .length) * e .length
+
 -- by way of the buffer one sector of the extent at a time; straight only where there is no buffer
 abbrev pub Suits : Entry → Effect → Type 0
 Suits e (hold k) = (hasBuffer e ≡ true) × (k < e .sectors)
 Suits e (change x) = (hasBuffer e ≡ true) × (x .place .sector < e .sectors) × (x .place .byte + length (x .bytes) ≤ sector)
-Suits e (store k xs) = (hasBuffer e ≡ false) × (sector * k + length xs ≤ sector * e .sectors)
+Suits e (store x) = (hasBuffer e ≡ false) × (byteOf (x .place) + length (x .bytes) ≤ sector * e .sectors) × Before e x
 Suits e (stamp xs) = length xs ≡ 4
 Suits e putBack = record {}
 
@@ -110,10 +114,10 @@ abbrev pub AllSuit : Entry → List Effect → Type 0
 AllSuit e [] = record {}
 AllSuit e (x ∷ xs) = Suits e x × AllSuit e xs
 
-suits-inside : (e : Entry) (x : Effect) → Suits e x → Inside (e .sectors) x
+pub suits-inside : (e : Entry) (x : Effect) → Suits e x → Inside (e .sectors) x
 suits-inside e (hold k) h = h .1
 suits-inside e (change x) h = omega arith
-suits-inside e (store k xs) h = h .1
+suits-inside e (store x) h = h .1
 suits-inside e (stamp xs) h = h
 suits-inside e putBack h = h
 
@@ -149,7 +153,7 @@ module _ (files buffer : ℕ) (c : Scene) (l : Lawful (c .entry) (c .file)) wher
       sector-below blocked (e .length) pos (λ z. small e (c .file) l q) k (e .sectors) (rw q at h)
 
   blocked-end : (k : ℕ) → isKind blocked e ≡ true → placeOf blocked (e .length) k .byte + e .length ≤ sector
-  blocked-end k b = byte-blocked blocked (e .length) pos (λ z. small e (c .file) l (eqb-true (e .kind) blocked b)) refl k
+  blocked-end k b = byte-shared blocked (e .length) pos (λ z. small e (c .file) l (eqb-true (e .kind) blocked b)) (blocked-shares blocked (e .length) refl) k
 
   not-blocked : isKind blocked e ≡ false → ¬ (e .kind ≡ blocked)
   not-blocked b = eqb-false (e .kind) blocked b
@@ -191,10 +195,16 @@ module _ (files buffer : ℕ) (c : Scene) (l : Lawful (c .entry) (c .file)) wher
       let n : ¬ (e .kind ≡ blocked) = not-blocked (neither-left (isKind blocked e) (isKind compressed e) b) in
       let s : byteOf (placeOf (e .kind) (e .length) k) + spanOf (e .kind) (e .length) k ≤ sector * e .sectors =
       span-inside (e .kind) (e .length) pos (λ q. absurd (n q)) k (e .sectors) r in
-      let w : spanOf (e .kind) (e .length) k ≡ sector * sectorsFor (e .length) = span-whole (e .kind) (e .length) k n in
-      let m : e .length ≤ spanOf (e .kind) (e .length) k = span-holds (e .kind) (e .length) pos (λ q. absurd (n q)) k in
-      let z : length (padded 0 (sector * sectorsFor (e .length)) (c .given)) ≡ sector * sectorsFor (e .length) = length-padded 0 _ (c .given) (omega arith) in
-      (b, omega arith)
+      let w : spanOf (e .kind) (e .length) k ≡ bytesFor (e .kind) (e .length) = span-straight (e .kind) (e .length) k n in
+      let m : e .length ≤ bytesFor (e .kind) (e .length) = bytes-hold (e .kind) (e .length) pos (λ q. absurd (n q)) in
+      let z : length (padded 0 (bytesFor (e .kind) (e .length)) (c .given)) ≡ bytesFor (e .kind) (e .length) = length-padded 0 _ (c .given) (omega arith) in
+      (b, omega arith, before z)
+    where
+      before : length (padded 0 (bytesFor (e .kind) (e .length)) (c .given)) ≡ bytesFor (e .kind) (e .length)
+          → Before e (record { place = placeOf (e .kind) (e .length) k; bytes = padded 0 (bytesFor (e .kind) (e .length)) (c .given) })
+      before z s =
+          let g : (e .kind ≡ random) × (e .length ≤ mostShared) = small-granule (e .kind) (e .length) s in
+          rw (z, bytes-shared (e .kind) (e .length) (small-shares (e .kind) (e .length) s), g .0) (granule-before (e .length) pos (g .1) k)
 
   -- a blocked record
   blocked-suits : isKind blocked e ≡ true → length (c .given) ≤ e .length → c .file .position < capacity (e .kind) (e .length) (e .sectors) → Suits e (blockedEffect c)

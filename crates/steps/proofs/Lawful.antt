@@ -37,7 +37,7 @@ pub record Lawful (e : Entry) (f : OpenFile) : Type 0 where
 unfoldable pub ownDo : Effect → List ℕ → List ℕ
 ownDo (hold k) bytes = bytes
 ownDo (change x) bytes = lay bytes (byteOf (x .place)) (x .bytes)
-ownDo (store k xs) bytes = lay bytes (sector * k) xs
+ownDo (store x) bytes = lay bytes (byteOf (x .place)) (x .bytes)
 ownDo (stamp xs) bytes = bytes
 ownDo putBack bytes = bytes
 
@@ -49,7 +49,7 @@ ownAll (x ∷ xs) bytes = ownAll xs (ownDo x bytes)
 abbrev pub Inside : ℕ → Effect → Type 0
 Inside n (hold k) = suc k ≤ n
 Inside n (change x) = byteOf (x .place) + length (x .bytes) ≤ sector * n
-Inside n (store k xs) = sector * k + length xs ≤ sector * n
+Inside n (store x) = byteOf (x .place) + length (x .bytes) ≤ sector * n
 Inside n (stamp xs) = length xs ≡ 4
 Inside n putBack = record {}
 

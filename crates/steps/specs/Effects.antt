@@ -5,7 +5,7 @@ use mathlib.Core.List.{List, [], _∷_, map}
 use Prim.Native.Nat.{ℕ, _+_, _-_, _*_}
 use lib.Dec.{eqb, ltb}
 use Rattle.geometry.specs.Bytes.{part, lay, padded}
-use Rattle.geometry.specs.Places.{sectorsFor, placeOf}
+use Rattle.geometry.specs.Places.{placeOf, bytesFor}
 use Rattle.geometry.specs.Sizes.{sector, entrySize, compressed, blocked}
 use Rattle.coding.specs.Encode.{codeOf}
 use Rattle.directory.specs.Entries.{isKind}
@@ -26,7 +26,7 @@ use Rattle.sessions.specs.declared.BufferedFile.{BufferedFile}
 pub data Effect : Type 0 where
   hold : ℕ → Effect  -- by way of the buffer: this sector of the extent is read
   change : Change → Effect  -- by way of the buffer: bytes of one sector change
-  store : ℕ → List ℕ → Effect  -- straight: whole sectors of the extent, from this one on
+  store : Change → Effect  -- straight: bytes of the extent, from a place on
   stamp : List ℕ → Effect  -- straight: bytes 16-19 of the entry
   putBack : Effect  -- the buffer goes back
 
@@ -43,9 +43,10 @@ readEffects c =
       ]
     ]
 
--- "Bytes behind R in its last sector are written as zero", granules too
+-- "Bytes behind R in its last sector are written as zero"; of a granule that shares its sector, item 3: "A write then changes only its own R bytes, padding
+-- included"
 unfoldable pub storeEffect : Scene → ℕ → Effect
-storeEffect c k = store (placeOf (c .entry .kind) (c .entry .length) k .sector) (padded 0 (sector * sectorsFor (c .entry .length)) (c .given))
+storeEffect c k = store (record { place = placeOf (c .entry .kind) (c .entry .length) k; bytes = padded 0 (bytesFor (c .entry .kind) (c .entry .length)) (c .given) })
 
 -- "A write puts zero in every byte of the sector behind the record"
 unfoldable pub blockedEffect : Scene → Effect
@@ -86,7 +87,7 @@ sectorAt e k = sector * (e .first + k)
 unfoldable pub plainDo : Scene → Effect → List ℕ → List ℕ
 plainDo c (hold k) image = image
 plainDo c (change x) image = lay image (sectorAt (c .entry) (x .place .sector) + x .place .byte) (x .bytes)
-plainDo c (store k xs) image = lay image (sectorAt (c .entry) k) xs
+plainDo c (store x) image = lay image (sectorAt (c .entry) (x .place .sector) + x .place .byte) (x .bytes)
 plainDo c (stamp xs) image = lay image (entrySize * c .number + 16) xs
 plainDo c putBack image = image
 
@@ -125,7 +126,7 @@ working at xs w = record { image = w .image; file = holding (w .file) (w .file .
 unfoldable pub bufferedDo : Scene → Effect → Bench → Bench
 bufferedDo c (hold k) w = taking (c .entry) k w
 bufferedDo c (change x) w = working (x .place .byte) (x .bytes) (taking (c .entry) (x .place .sector) w)
-bufferedDo c (store k xs) w = record { image = plainDo c (store k xs) (w .image); file = w .file }
+bufferedDo c (store x) w = record { image = plainDo c (store x) (w .image); file = w .file }
 bufferedDo c (stamp xs) w = record { image = plainDo c (stamp xs) (w .image); file = w .file }
 bufferedDo c putBack w = elim (hasBuffer (c .entry)) [ true ↦ puttingBack (c .entry) w | false ↦ w ]
 

@@ -1,4 +1,3 @@
-pub mod Bounds
 pub mod Coded
 pub mod Judged
 pub mod Goes

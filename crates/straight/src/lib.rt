@@ -5,6 +5,7 @@ use geometry::Geometry;
 use geometry::Place;
 use moving::lay_padded;
 use packing::fits_here;
+use placing::record_at;
 use placing::room_behind;
 use sessions::OpenFile;
 ghost use mathlib.Core.Path.{_≡_};
@@ -21,20 +22,19 @@ ghost use Rattle.steps.specs.Effects.{sectorAt, storeEffect, blockedEffect, pla
 ghost use Rattle.steps.specs.Effects as Effects;
 ghost use Rattle.straight.specs.Straight.{writing, codeGiven};
 
-// Record or granule k in whole sectors, with zeros behind it.
+// Record or granule k where it lies, with zeros behind it: up to its last sector's end, or to its own end where it shares its sector.
 pub fn store(image: &mut [u8], e: Entry, k: u32, given: &[u8])
     ensures { λ _. ⌜ now (image .exit)
         ≡ plainDo (writing e idle (now (given .entry))) (storeEffect (writing e idle (now (given .entry))) k) (now (image .entry)) ⌝ }
 {
-    let n = Geometry::SECTOR * (Geometry::sectors_for(e.length) as usize);
-    let at = Geometry::SECTOR
-        * ((e.first as usize) + Geometry::sector_of_record(e.kind, e.length, k));
+    let at = record_at(e, e.kind, k);
+    let n = Geometry::bytes_for(e.kind, e.length);
     lay_padded(image, at, given, n, 0);
 }
 
 // Lays xs over a sector of the extent, from one of its bytes on, with b behind them up to the sector's end.
 fn change(image: &mut [u8], e: Entry, sector: usize, byte: usize, xs: &[u8], b: u8)
-    requires { ⌜ (sector ≤ 2 ^ 32) × (byte < 2 ^ 48) ⌝ }
+    requires { ⌜ (sector < 2 ^ 40) × (byte < 2 ^ 48) ⌝ }
     ensures { λ _. ⌜ now (image .exit) ≡ Bytes.lay (now (image .entry)) (sectorAt e sector + byte) (padded b (Sizes.sector - byte) (now (xs .entry))) ⌝ }
 {
     let at = Geometry::SECTOR * ((e.first as usize) + sector) + byte;

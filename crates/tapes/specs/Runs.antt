@@ -3,6 +3,7 @@ use mathlib.Core.Bool.{true, false}
 use mathlib.Core.List.{List, [], _∷_, _++_}
 use Prim.Native.Nat.{ℕ}
 use lib.Dec.{eqb}
+use Rattle.geometry.specs.Places.{reachOf}
 use Rattle.requests.specs.Numbers.{numberOf}
 use Rattle.tapes.specs.Model.{Model, Asked, Report, modelAt, modelStep, modelReport, opensNow}
 use Rattle.tapes.specs.Edits.{Editing, ofShape, editAnswer, modelNumber, modelMade, editStep, editReport}
@@ -36,14 +37,17 @@ modelRun ms (h ∷ rest) = modelRun (stepIn ms (h .asked) (h .lies)) rest
 
 -- ---- the files "opened, added or deleted" since mounting
 
--- a file's entry and extent, as they were then
+-- a file's entry and extent, as they were then; and how many bytes of each sector it may write
 pub record Site : Type 0 where
   pub entry : ℕ
   pub first : ℕ
   pub sectors : ℕ
+  pub reach : ℕ
 
 unfoldable pub siteOf : ℕ → Model → Site
-siteOf i m = ofShape (λ f. record { entry = i; first = f .first; sectors = f .sectors }) (record { entry = i; first = 0; sectors = 0 }) m
+siteOf i m =
+    ofShape (λ f. record { entry = i; first = f .first; sectors = f .sectors; reach = reachOf (f .kind) (f .recordLength) })
+        (record { entry = i; first = 0; sectors = 0; reach = 0 }) m
 
 -- the file that a request or an edit opens, adds or deletes, if it does: of an adding the new one, of a deleting the old one
 unfoldable pub touchedFile : Edit → List Model → Editing → List ℕ → Model

@@ -10,8 +10,8 @@ look-in-requires c κs = search needs
 number-requires : tie.Need-number-requires
 number-requires c κs = search needs
 
-granule-at-requires : tie.Need-granule-at-requires
-granule-at-requires c κs = search needs
+record-at-requires : tie.Need-record-at-requires
+record-at-requires c κs = search needs
 
 cast-part : tie.Need-cast-part
 cast-part c = search needs
@@ -25,8 +25,8 @@ part-requires-2 c κs = search needs
 returns : tie.Need-returns
 returns c =
     let a = c .before .before .before .before .before .before .before .before .before .args in (
-      look-shown (a .image .now) (a .session .now) (a .i) (a .g) _ (c .before .before .before .before .before .before .look-in .ensures .0) _ (c .before .before .before .before .before .before .look-in .ensures .1) _ (c .before .before .before .before .number .ensures) (c .before .before .before .if1 .taken) _ (c .before .before .granule-at .ensures) _ (c .part .ensures),
-      look-placed (a .image .now) (a .session .now) (a .i) (a .g) _ (c .before .before .before .before .before .before .look-in .ensures .0) _ (c .before .before .before .before .before .before .look-in .ensures .1) _ (c .before .before .before .before .number .ensures) (c .before .before .before .if1 .taken) _ (c .before .before .granule-at .ensures) (a .at .now),
+      look-shown (a .image .now) (a .session .now) (a .i) (a .g) _ (c .before .before .before .before .before .before .look-in .ensures .0) _ (c .before .before .before .before .before .before .look-in .ensures .1) _ (c .before .before .before .before .number .ensures) (c .before .before .before .if1 .taken) _ (c .before .before .record-at .ensures) _ (c .part .ensures),
+      look-placed (a .image .now) (a .session .now) (a .i) (a .g) _ (c .before .before .before .before .before .before .look-in .ensures .0) _ (c .before .before .before .before .before .before .look-in .ensures .1) _ (c .before .before .before .before .number .ensures) (c .before .before .before .if1 .taken) _ (c .before .before .record-at .ensures) (a .at .now),
     )
 
 returns-2 : tie.Need-returns-2
@@ -42,7 +42,7 @@ look-spec =
     (tie.spec
     look-in-requires
     number-requires
-    granule-at-requires
+    record-at-requires
     cast-part
     part-requires
     part-requires-2

@@ -13,21 +13,18 @@ word-at-requires-2 c κs = search needs
 word-at-requires-3 : tie.Need-word-at-requires-3
 word-at-requires-3 c κs = search needs
 
+granule-in-requires : tie.Need-granule-in-requires
+granule-in-requires c κs = search needs
+
 word-at-requires-4 : tie.Need-word-at-requires-4
 word-at-requires-4 c κs = search needs
-
-cast-t6 : tie.Need-cast-t6
-cast-t6 c = search needs
-
-word-at-requires-5 : tie.Need-word-at-requires-5
-word-at-requires-5 c κs = search needs
 
 used-by-requires : tie.Need-used-by-requires
 used-by-requires c κs = search needs
 
 returns : tie.Need-returns
 unfolding rowIn
-returns c = rw (c .used-by .ensures, c .before .word-at5 .ensures, c .before .before .word-at4 .ensures, c .before .before .before .word-at3 .ensures, c .before .before .before .before .word-at2 .ensures, c .before .before .before .before .before .word-at .ensures)
+returns c = rw (c .used-by .ensures, c .before .word-at4 .ensures, c .before .before .granule-in .ensures, c .before .before .before .word-at3 .ensures, c .before .before .before .before .word-at2 .ensures, c .before .before .before .before .before .word-at .ensures)
 
 pub row-in-spec : {M : Type 1} → statement M
 row-in-spec =
@@ -36,8 +33,7 @@ row-in-spec =
     word-at-requires
     word-at-requires-2
     word-at-requires-3
+    granule-in-requires
     word-at-requires-4
-    cast-t6
-    word-at-requires-5
     used-by-requires
     returns)

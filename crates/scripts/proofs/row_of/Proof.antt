@@ -11,14 +11,11 @@ cast-t7 c = search needs
 returns : tie.Need-returns
 returns c = cut (c .before .before .args .bytes .now) (c .if1 .taken)
 
-word-at-requires : tie.Need-word-at-requires
-word-at-requires c κs = search needs
-
-word-at-requires-2 : tie.Need-word-at-requires-2
-word-at-requires-2 c κs = search needs
+is-misshapen-requires : tie.Need-is-misshapen-requires
+is-misshapen-requires c κs = search needs
 
 returns-2 : tie.Need-returns-2
-returns-2 c = shape (c .before .before .before .before .before .args .bytes .now) (c .before .before .before .if1 .left) (rw (c .before .before .word-at .ensures, c .before .word-at2 .ensures) at (c .if2 .taken))
+returns-2 c = shape (c .before .before .before .before .args .bytes .now) (c .before .before .if1 .left) (sym (c .before .is-misshapen .ensures) ∙ c .if2 .taken)
 
 row-in-requires : tie.Need-row-in-requires
 row-in-requires c κs = search needs
@@ -36,13 +33,13 @@ is-edit-requires : tie.Need-is-edit-requires
 is-edit-requires c κs = search needs
 
 returns-3 : tie.Need-returns-3
-returns-3 c = asked (c .before .before .before .before .before .before .before .before .before .args .bytes .now) (c .before .before .before .before .before .before .before .if1 .left) (rw (c .before .before .before .before .before .before .word-at .ensures, c .before .before .before .before .before .word-at2 .ensures) at (c .before .before .before .before .if2 .left)) _ (c .before .before .before .row-in .ensures) _ (c .before .before .by-code .ensures) _ (c .enum-told .given .1)
+returns-3 c = asked (c .before .before .before .before .before .before .before .before .args .bytes .now) (c .before .before .before .before .before .before .if1 .left) (sym (c .before .before .before .before .before .is-misshapen .ensures) ∙ c .before .before .before .before .if2 .left) _ (c .before .before .before .row-in .ensures) _ (c .before .before .by-code .ensures) _ (c .enum-told .given .1)
 
 returns-4 : tie.Need-returns-4
-returns-4 c = edits (c .before .before .before .before .before .before .before .before .before .before .before .args .bytes .now) (c .before .before .before .before .before .before .before .before .before .if1 .left) (rw (c .before .before .before .before .before .before .before .before .word-at .ensures, c .before .before .before .before .before .before .before .word-at2 .ensures) at (c .before .before .before .before .before .before .if2 .left)) _ (c .before .before .before .before .before .row-in .ensures) _ (c .before .before .before .before .by-code .ensures) (c .before .before .enum-told2 .given .1) (sym (c .before .is-edit .ensures) ∙ c .if3 .taken)
+returns-4 c = edits (c .before .before .before .before .before .before .before .before .before .before .args .bytes .now) (c .before .before .before .before .before .before .before .before .if1 .left) (sym (c .before .before .before .before .before .before .before .is-misshapen .ensures) ∙ c .before .before .before .before .before .before .if2 .left) _ (c .before .before .before .before .before .row-in .ensures) _ (c .before .before .before .before .by-code .ensures) (c .before .before .enum-told2 .given .1) (sym (c .before .is-edit .ensures) ∙ c .if3 .taken)
 
 returns-5 : tie.Need-returns-5
-returns-5 c = unknown (c .before .before .before .before .before .before .before .before .before .before .before .args .bytes .now) (c .before .before .before .before .before .before .before .before .before .if1 .left) (rw (c .before .before .before .before .before .before .before .before .word-at .ensures, c .before .before .before .before .before .before .before .word-at2 .ensures) at (c .before .before .before .before .before .before .if2 .left)) _ (c .before .before .before .before .before .row-in .ensures) _ (c .before .before .before .before .by-code .ensures) (c .before .before .enum-told2 .given .1) (sym (c .before .is-edit .ensures) ∙ c .if3 .left)
+returns-5 c = unknown (c .before .before .before .before .before .before .before .before .before .before .args .bytes .now) (c .before .before .before .before .before .before .before .before .if1 .left) (sym (c .before .before .before .before .before .before .before .is-misshapen .ensures) ∙ c .before .before .before .before .before .before .if2 .left) _ (c .before .before .before .before .before .row-in .ensures) _ (c .before .before .before .before .by-code .ensures) (c .before .before .enum-told2 .given .1) (sym (c .before .is-edit .ensures) ∙ c .if3 .left)
 
 pub row-of-spec : {M : Type 1} → statement M
 row-of-spec =
@@ -50,8 +47,7 @@ row-of-spec =
     (tie.spec
     cast-t7
     returns
-    word-at-requires
-    word-at-requires-2
+    is-misshapen-requires
     returns-2
     row-in-requires
     by-code-requires

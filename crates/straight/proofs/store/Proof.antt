@@ -1,37 +1,20 @@
--- `straight::store` meets its contract: the padded record is laid where its sectors begin.
-use Prim.Native.Nat.{_*_, _≤_}
+-- `straight::store` meets its contract: the padded record is laid where it begins.
+use Prim.Native.Nat.{_+_, _*_}
+use mathlib.Core.Path.{_≡_}
 use native.Mathlib.Omega.{arith}
-use Rattle.steps.specs.Effects.{storeEffect, plainDo}
-use Rattle.straight.proofs.Bounds.{sector-most}
+use Rattle.geometry.specs.Sizes.{sector}
+use Rattle.geometry.specs.Places.{placeOf, byteOf}
+use Rattle.steps.specs.Effects.{storeEffect, plainDo, sectorAt}
+use Rattle.geometry.specs.declared.Place.{Place}
 use borrow.Author.Needs.{needs}
 use Rattle.straight.proofs.store.Statement.{statement}
 use Rattle.straight.proofs.store.Tie as tie
 
-low : (c : tie.After-sector-of-record) → c .sector-of-record .result ≤ 183 * c .before .before .before .before .before .args .k
-low c =
-    let a = c .before .before .before .before .before .args in
-    rw (c .sector-of-record .ensures) (sector-most (a .e .kind) (a .e .length) (a .k) (search needs))
+record-at-requires : tie.Need-record-at-requires
+record-at-requires c κs = search needs
 
-sectors-for-requires : tie.Need-sectors-for-requires
-sectors-for-requires c κs = search needs
-
-cast-n : tie.Need-cast-n
-cast-n c = search needs
-
-mul-n : tie.Need-mul-n
-mul-n c = search needs
-
-cast-at : tie.Need-cast-at
-cast-at c = search needs
-
-sector-of-record-requires : tie.Need-sector-of-record-requires
-sector-of-record-requires c κs = search needs
-
-add-at : tie.Need-add-at
-add-at c = omega (arith, low c)
-
-mul-at : tie.Need-mul-at
-mul-at c = omega (arith, low c)
+bytes-for-requires : tie.Need-bytes-for-requires
+bytes-for-requires c κs = search needs
 
 lay-padded-requires : tie.Need-lay-padded-requires
 lay-padded-requires c κs = search needs
@@ -41,19 +24,18 @@ same-length c = search needs
 
 returns : tie.Need-returns
 unfolding storeEffect plainDo
-returns c = rw (c .before .before .lay-padded .ensures, c .before .before .before .before .sector-of-record .ensures, c .before .before .before .before .before .before .sectors-for .ensures)
+returns c =
+    let a = c .before .before .before .before .before .before .before .before .args in
+    let p : Place = placeOf (a .e .kind) (a .e .length) (a .k) in
+    let z : sector * a .e .first + byteOf p ≡ sectorAt (a .e) (p .sector) + p .byte = omega arith in
+    rw (c .before .before .lay-padded .ensures, c .before .before .before .before .before .record-at .ensures, c .before .before .before .before .bytes-for .ensures, z)
 
 pub store-spec : {M : Type 1} → statement M
 store-spec =
     tie.close
     (tie.spec
-    sectors-for-requires
-    cast-n
-    mul-n
-    cast-at
-    sector-of-record-requires
-    add-at
-    mul-at
+    record-at-requires
+    bytes-for-requires
     lay-padded-requires
     same-length
     returns)

@@ -2,7 +2,8 @@
 use Prim.Native.Nat.{_≤_}
 use native.Mathlib.Omega.{arith}
 use Rattle.steps.specs.Effects.{blockedEffect, plainDo}
-use Rattle.straight.proofs.Bounds.{sector-blocked, byte-blocked}
+use Rattle.geometry.proofs.Places.{sector-most, byte-most}
+use Rattle.geometry.specs.Sizes.{blocked}
 use borrow.Author.Needs.{needs}
 use Rattle.straight.proofs.write_blocked.Statement.{statement}
 use Rattle.straight.proofs.write_blocked.Tie as tie
@@ -18,7 +19,7 @@ change-requires c κs =
     let a = c .before .before .before .before .before .args in
     let l : a .e .length ≤ 65535 = search needs in
     let k : a .f .position ≤ 4294967295 = search needs in
-    (rw (c .before .before .sector-of-record .ensures) (omega (arith, sector-blocked (a .e .length) (a .f .position))), rw (c .before .byte-of-record .ensures) (omega (arith, byte-blocked (a .e .length) (a .f .position) l)))
+    (rw (c .before .before .sector-of-record .ensures) (omega (arith, sector-most blocked (a .e .length) (a .f .position) l)), rw (c .before .byte-of-record .ensures) (omega (arith, byte-most blocked (a .e .length) (a .f .position) l)))
 
 same-length : tie.Need-same-length
 same-length c = search needs
