@@ -1,5 +1,5 @@
-//! What document 02's item 3 promises of granules, told anew and held against both engines. It shares nothing
-//! with `layout.rs`: granules are counted one by one, and every byte of an extent is asked whose it is.
+//! What document 02's item 3 promises of granules, told anew and held against both engines and `layout.rs`:
+//! granules are counted one by one, and every byte of an extent is asked whose it is.
 
 use crate::answer::Answer;
 use crate::directory::{Entry, RANDOM};

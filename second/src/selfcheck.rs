@@ -16,6 +16,7 @@ use crate::generate::{
     Sort,
 };
 use crate::granulecheck::{check_granule, check_places};
+use crate::granules::granule_cases;
 use crate::image::{sector, sector_mut, BLANK, SECTOR};
 use crate::layout::{blocked_place, capacity, sectors_per_record, Place, MOST_RECORDS};
 use crate::model::{hand_code, hand_decode, Model};
@@ -619,9 +620,10 @@ fn forget_buffers(session: &mut Session) {
     }
 }
 
-/// The cases of sessions, and those of ADD and DELETE: what holds for either engine by itself.
+/// The cases of sessions, those of ADD and DELETE and those of small granules: what holds for either engine
+/// by itself.
 fn check_session_cases(tally: &mut Tally) -> Check {
-    for case in [session_cases(), edit_cases()].concat() {
+    for case in [session_cases(), edit_cases(), granule_cases()].concat() {
         for engine in [Engine::Plain, Engine::Buffered] {
             let patches = case.session_patches(engine);
             let (_, session) = patched_session(engine, &case.image, patches);

@@ -3,14 +3,11 @@ use mathlib.Core.Path.{_≡_, refl, sym, ap, _∙_}
 use mathlib.Core.Bool.{Bool, true, false, _&&_, and-true}
 use mathlib.Core.Logic.{_≢_}
 use mathlib.Core.List.{List, []}
-use Prim.Native.Nat.{ℕ, _+_, _*_, _-_, _≤_, _<_}
-use native.Mathlib.Nat.{mul-le-mul-right}
-use native.Mathlib.Omega.{arith}
+use Prim.Native.Nat.{ℕ, _+_, _*_, _-_}
 use Rattle.geometry.specs.Bytes.{part}
 use Rattle.geometry.specs.Lists.{every}
-use Rattle.geometry.specs.Places.{sectorsFor, placeOf, byteOf}
+use Rattle.geometry.specs.Places.{placeOf, byteOf}
 use Rattle.geometry.specs.Sizes.{sector, random}
-use Rattle.geometry.proofs.Places.{place-whole}
 use Rattle.geometry.proofs.Tests.{either}
 use Rattle.directory.specs.Entries.{entryAt}
 use Rattle.directory.specs.declared.Entry.{Entry}

@@ -1,19 +1,19 @@
 -- Where granules lie is a matter of R alone; and a write of one lays its padded bytes there, straight in the image of either engine, since a random file has no
 -- buffer.
-use mathlib.Core.Path.{_≡_, refl, sym, ap, subst, _∙_}
+use mathlib.Core.Path.{_≡_, refl, sym, ap, _∙_}
 use mathlib.Core.Bool.{Bool, true, false}
 use mathlib.Core.List.{List}
-use Prim.Native.Nat.{ℕ, _+_, _*_, _/_, _%_, _≤_, _<_}
+use Prim.Native.Nat.{ℕ, _+_, _*_, _≤_, _<_}
 use native.Mathlib.Omega.{arith}
 use native.Mathlib.Decide.{ℕ-discrete}
 use lib.ListN.{length}
 use borrow.Author.Tests.{eqb-true, eqb-false}
 use Rattle.geometry.specs.Bytes.{lay, padded}
-use Rattle.geometry.specs.Places.{sectorsFor, perSector, placeOf, bytesFor, byteOf}
-use Rattle.geometry.specs.Sizes.{sector, free, random, mostShared, sectorsOf}
+use Rattle.geometry.specs.Places.{sectorsFor, perSector, shares, capacity, placeOf, bytesFor, byteOf}
+use Rattle.geometry.specs.Sizes.{sector, free, random, sectorsOf}
 use Rattle.geometry.proofs.Bytes.{where-is, length-padded, length-lay, getD-lay-out, part-lay-same}
 use Rattle.geometry.proofs.Places.{granules-share, granules-whole, place-whole, bytes-shared, bytes-whole, bytes-hold, granules-apart, granule-before, before-end, granule-inside, granule-outside, lawful-whole}
-use Rattle.directory.specs.Entries.{entryAt, isFree, isKind}
+use Rattle.directory.specs.Entries.{entryAt, isFree}
 use Rattle.directory.proofs.Good.{Lies, lies}
 use Rattle.requests.specs.Judge.{judge}
 use Rattle.requests.proofs.Done.{WritesGranule, done-allows}
@@ -22,7 +22,7 @@ use Rattle.sessions.specs.Session.{bare, unheld, fileOf, openFiles, extent, ext
 use Rattle.sessions.proofs.Legal.{lawful-length, good-table, bare-legal}
 use Rattle.steps.specs.Effects.{sectorAt, storeEffect, effects, plainDo, plainAll, bufferedDo, bufferedAll}
 use Rattle.steps.specs.Next.{Scene, factsOf}
-use Rattle.steps.specs.Step.{plainScene, plainAnswer, plainStep, plainAfter, heldOf, bufferedScene, bufferedAnswer, bufferedStep, bufferedAfter}
+use Rattle.steps.specs.Step.{plainScene, plainAnswer, plainAfter, heldOf, bufferedScene, bufferedAnswer, bufferedAfter}
 use Rattle.steps.proofs.Answered.{plain-answered, plain-is, buffered-answered, buffered-is}
 use Rattle.steps.proofs.Inside.{lawful, suit, AllSuit}
 use Rattle.steps.proofs.Lawful.{Lawful}
@@ -32,7 +32,6 @@ use Rattle.geometry.specs.declared.Place.{Place}
 use Rattle.directory.specs.declared.Entry.{Entry}
 use Rattle.requests.specs.declared.Answer.the-variants.{Done}
 use Rattle.requests.specs.declared.Request.the-variants.{GranuleWrite}
-use Rattle.sessions.specs.declared.BufferedSession.{BufferedSession}
 use Rattle.sessions.specs.declared.Session.{Session}
 
 -- ---- where granules lie
@@ -49,6 +48,13 @@ granules-laid R pos = record {
     same : (g h j : ℕ) → Has R g j → Has R h j → Dec (g ≡ h) → g ≡ h
     same g h j a b (yes e) = e
     same g h j a b (no d) = absurd (omega (arith, granules-apart R pos g h d))
+
+-- some of them: "granules of 60 bytes, six to a sector", two of 180, one of 182; and as many of 2 bytes as an image can have
+pub examples : (placeOf random 60 7 ≡ record { sector = 1; byte = 60 }) × (capacity random 60 2 ≡ 12)
+    × (placeOf random 180 3 ≡ record { sector = 1; byte = 180 }) × (placeOf random 182 3 ≡ record { sector = 3; byte = 0 })
+    × (capacity random 362 5 ≡ 2) × (capacity random 2 4095 ≡ 737100)
+unfolding sectorsFor perSector shares capacity placeOf
+examples = (refl, refl, refl, refl, refl, refl)
 
 -- ---- a write, as the effect on the image says it
 

@@ -47,7 +47,7 @@ pub record Site : Type 0 where
 unfoldable pub siteOf : ℕ → Model → Site
 siteOf i m =
     ofShape (λ f. record { entry = i; first = f .first; sectors = f .sectors; reach = reachOf (f .kind) (f .recordLength) })
-        (record { entry = i; first = 0; sectors = 0; reach = 0 }) m
+    (record { entry = i; first = 0; sectors = 0; reach = 0 }) m
 
 -- the file that a request or an edit opens, adds or deletes, if it does: of an adding the new one, of a deleting the old one
 unfoldable pub touchedFile : Edit → List Model → Editing → List ℕ → Model

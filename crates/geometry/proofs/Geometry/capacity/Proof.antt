@@ -1,6 +1,6 @@
 -- `Geometry::capacity` meets its contract: at most 360 records to a sector, so that the product fits.
 use Rattle.geometry.proofs.Places.{capacity-limited, capacity-all, capacity-whole}
-use mathlib.Core.Path.{sym, ap, _∙_}
+use mathlib.Core.Path.{sym, _∙_}
 use Prim.Native.Nat.{_*_, _≤_}
 use native.Mathlib.Nat.{div-le-self, mul-le-mul-right}
 use native.Mathlib.Omega.{arith}
