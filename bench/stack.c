@@ -207,6 +207,7 @@ static void make_images(void)
     put_entry(mixed, 10, 3, 132, 109, 30, 0, 0);
     put_entry(mixed, 11, 2, 2, 139, 8, 0, 0);
     put_entry(mixed, 12, 3, 2, 147, 30, 30 * SECTOR, 0); /* a code for each byte, 0: a count of five digits */
+    put_entry(mixed, 13, 4, 60, 177, 3, 0, 0);
     for (unsigned i = 0; i < 18; i++) {
         put_packed(hostile, i, 132, 1 + 9 * i, 9, (int)(i % SORTS), i % 2);
         put_packed(large, i, 132, 1 + 227 * i, 227, IN_TURN, 0);

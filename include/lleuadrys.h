@@ -13,7 +13,7 @@
              with lleuadrys_order, which takes no pointer for them.
    CALLERS   Calls on different images and sessions may run at once. Of one image or one session there is one caller at a
              time: while a call that may change it runs, no other call may be lent the same bytes.
-   STACK     At most 824 bytes in a request, 568 in an adding or a deleting, 512 in a listing, 464 for words, 344 in a look,
+   STACK     At most 776 bytes in a request, 568 in an adding or a deleting, 512 in a listing, 464 for words, 344 in a look,
              232 in a mounting and 120 in any other call, whatever is lent: measured (docs/BENCHMARKS.md). What calls itself
              does so at most once for each byte of a sector.
    IMAGE     360 times N bytes, N from 1 to 4,096: sector 0 is the directory.

@@ -17,7 +17,8 @@ use Rattle.steps.specs.Step.{After, heldOf, kept, bufferedScene, bufferedAnswer
 use Rattle.steps.specs.Verdict.{entryNext, fileNext, bufferNext}
 use Rattle.straight.specs.Straight.{codeGiven}
 use Rattle.straight.proofs.Judged.{judgement}
-use Rattle.straight.proofs.Goes.{there, room, suits, lies-in, encoded}
+use Rattle.steps.proofs.Granted.{room, suits}
+use Rattle.straight.proofs.Goes.{there, lies-in, encoded}
 use Rattle.blocking.specs.Blocking.{bench}
 use Rattle.buffered.proofs.Acts.{Goes}
 use Rattle.directory.specs.declared.Entry.{Entry}

@@ -2,19 +2,18 @@
 -- extents of open files, and where none is open nothing is held.
 use mathlib.Core.Path.{_≡_, refl, sym, ap, subst, _∙_}
 use mathlib.Core.Logic.{_⊎_, inl, inr}
-use mathlib.Core.Bool.{true, false, not}
+use mathlib.Core.Bool.{true, not}
 use mathlib.Core.List.{List}
 use Prim.Native.Nat.{ℕ, _*_, _%_, _≤_, _<_}
 use native.Mathlib.Omega.{arith}
 use lib.ListN.{length, getD}
 use Rattle.geometry.specs.Lists.{every}
-use Rattle.geometry.specs.Places.{smallGranules, reachOf}
-use Rattle.geometry.specs.Sizes.{sector, random, lawfulLength}
+use Rattle.geometry.specs.Places.{reachOf}
+use Rattle.geometry.specs.Sizes.{sector, lawfulLength}
 use Rattle.geometry.specs.Bytes.{part, lay}
 use Rattle.geometry.proofs.Bytes.{Apart, length-part, part-lay-same}
-use Rattle.geometry.proofs.Places.{reach-whole}
-use Rattle.geometry.proofs.Tests.{either, both-ways, and-left, chosen}
-use Rattle.directory.specs.Entries.{tableOf, entryAt, isKind}
+use Rattle.geometry.proofs.Tests.{both-ways, chosen}
+use Rattle.directory.specs.Entries.{tableOf, entryAt}
 use Rattle.sessions.specs.Session.{bare, isOf, fileOf, hasBuffer, holdsOne, extent, extentWith, bufferedLegal}
 use Rattle.sessions.proofs.Held.{holds-one}
 use Rattle.sessions.proofs.Files.{is-of, Finds, opened, closed, finds}
@@ -32,7 +31,7 @@ use Rattle.settling.proofs.Bench.{length-all}
 use Rattle.settling.proofs.Kept.{Kept, entry-room, settle-elsewhere, settle-table}
 use Rattle.settling.proofs.Scene.{same-bytes}
 use Rattle.steps.proofs.Edited.{outside-edit}
-use Rattle.steps.proofs.Inside.{no-buffer}
+use Rattle.steps.proofs.Inside.{reach-buffered}
 use Rattle.settling.proofs.Step.{Agrees}
 use Rattle.demands.proofs.Heard.{Alike, same-heard}
 use Rattle.demands.specs.Engine.{plainEngine, bufferedEngine, Standing, answered, stepOf, run, heard, mounted, modelsThen}
@@ -119,9 +118,7 @@ module _ (image : List ℕ) (ok : mounts image ≡ true) (asked : List Asking) w
       apart : (e : Entry) → hasBuffer e ≡ true → Apart j 1 (sector * e .first) (sector * e .sectors) ⊎ (reachOf (e .kind) (e .length) ≤ j % sector)
           → Apart j 1 (sector * e .first) (sector * e .sectors)
       apart e b (inl a) = a
-      apart e b (inr h) = either (smallGranules (e .kind) (e .length))
-          (λ (g : smallGranules (e .kind) (e .length) ≡ true). both-ways (hasBuffer e) b (no-buffer e (and-left (isKind random e) _ g)))
-          (λ (g : smallGranules (e .kind) (e .length) ≡ false). absurd (omega (arith, reach-whole (e .kind) (e .length) g)))
+      apart e b (inr h) = absurd (omega (arith, reach-buffered e b))
 
       away : Spared j v → (i : ℕ) → fileOf (v .session .files) i .used ≡ true → hasBuffer (entryAt (w .session .table) i) ≡ true
           → Apart j 1 (sector * entryAt (w .session .table) i .first) (sector * entryAt (w .session .table) i .sectors)

@@ -1,30 +1,29 @@
 -- Where granules lie is a matter of R alone; and a write of one lays its padded bytes there, straight in the image of either engine, since a random file has no
 -- buffer.
 use mathlib.Core.Path.{_≡_, refl, sym, ap, _∙_}
-use mathlib.Core.Bool.{Bool, true, false}
+use mathlib.Core.Bool.{Bool, true}
 use mathlib.Core.List.{List}
 use Prim.Native.Nat.{ℕ, _+_, _*_, _≤_, _<_}
 use native.Mathlib.Omega.{arith}
 use native.Mathlib.Decide.{ℕ-discrete}
 use lib.ListN.{length}
-use borrow.Author.Tests.{eqb-true, eqb-false}
+use borrow.Author.Tests.{eqb-true}
 use Rattle.geometry.specs.Bytes.{lay, padded}
 use Rattle.geometry.specs.Places.{sectorsFor, perSector, shares, capacity, placeOf, bytesFor, byteOf}
-use Rattle.geometry.specs.Sizes.{sector, free, random, sectorsOf}
+use Rattle.geometry.specs.Sizes.{sector, random}
 use Rattle.geometry.proofs.Bytes.{where-is, length-padded, length-lay, getD-lay-out, part-lay-same}
-use Rattle.geometry.proofs.Places.{granules-share, granules-whole, place-whole, bytes-shared, bytes-whole, bytes-hold, granules-apart, granule-before, before-end, granule-inside, granule-outside, lawful-whole}
-use Rattle.directory.specs.Entries.{entryAt, isFree}
-use Rattle.directory.proofs.Good.{Lies, lies}
+use Rattle.geometry.proofs.Places.{granules-share, granules-whole, place-whole, bytes-shared, bytes-whole, bytes-hold, granules-apart, granule-before, before-end, granule-inside, granule-outside}
+use Rattle.directory.specs.Entries.{entryAt}
+use Rattle.directory.proofs.Good.{lies}
 use Rattle.requests.specs.Judge.{judge}
 use Rattle.requests.proofs.Done.{WritesGranule, done-allows}
-use Rattle.requests.proofs.Live.{Real, done-real}
-use Rattle.sessions.specs.Session.{bare, unheld, fileOf, openFiles, extent, extentWith, legal, bufferedLegal}
-use Rattle.sessions.proofs.Legal.{lawful-length, good-table, bare-legal}
+use Rattle.sessions.specs.Session.{bare, unheld, openFiles, extent, extentWith, legal, bufferedLegal}
+use Rattle.sessions.proofs.Legal.{bare-legal}
 use Rattle.steps.specs.Effects.{sectorAt, storeEffect, effects, plainDo, plainAll, bufferedDo, bufferedAll}
 use Rattle.steps.specs.Next.{Scene, factsOf}
 use Rattle.steps.specs.Step.{plainScene, plainAnswer, plainAfter, heldOf, bufferedScene, bufferedAnswer, bufferedAfter}
 use Rattle.steps.proofs.Answered.{plain-answered, plain-is, buffered-answered, buffered-is}
-use Rattle.steps.proofs.Inside.{lawful, suit, AllSuit}
+use Rattle.steps.proofs.Granted.{found, is-lawful, room, suits}
 use Rattle.steps.proofs.Lawful.{Lawful}
 use Rattle.demands.specs.Engine.{Engine, plainEngine, bufferedEngine}
 use Rattle.promises.specs.Granules.{Has, Layout, Covers, granuleAt, GranuleWrites}
@@ -56,14 +55,17 @@ pub examples : (placeOf random 60 7 ≡ record { sector = 1; byte = 60 }) × (ca
 unfolding sectorsFor perSector shares capacity placeOf
 examples = (refl, refl, refl, refl, refl, refl)
 
--- ---- a write, as the effect on the image says it
+-- ---- a write, on the session that an engine's own is without buffers; `ok` is legality as the engine asks for it
 
-module _ (files buffer g : ℕ) (c : Scene) (l : Lawful (c .entry) (c .file)) (image : List ℕ) (room : sector * (c .entry .first + c .entry .sectors) ≤ length image)
-    (d : judge (GranuleWrite g) (factsOf true files buffer (GranuleWrite g) c) ≡ Done) where
+module _ (image : List ℕ) (s : Session) (ok : Bool) (sound : ok ≡ true → legal image s ≡ true) (i : ℕ) (bytes given : List ℕ) (files buffer g : ℕ)
+    (d : judge (GranuleWrite g) (factsOf ok files buffer (GranuleWrite g) (found s i bytes given)) ≡ Done) where
+  abbrev c : Scene
+  c = found s i bytes given
+
   abbrev e : Entry
   e = c .entry
 
-  allowed : WritesGranule g (factsOf true files buffer (GranuleWrite g) c)
+  allowed : WritesGranule g (factsOf ok files buffer (GranuleWrite g) c)
   allowed = done-allows (GranuleWrite g) _ d
 
   kind : e .kind ≡ random
@@ -73,23 +75,24 @@ module _ (files buffer g : ℕ) (c : Scene) (l : Lawful (c .entry) (c .file)) (i
   abbrev p : Place
   p = placeOf random (e .length) g
 
-  -- what is laid, and where
+  -- what is laid
   abbrev xs : List ℕ
-  xs = padded 0 (bytesFor (e .kind) (e .length)) (c .given)
+  xs = padded 0 (bytesFor (e .kind) (e .length)) given
 
   long : length xs ≡ bytesFor random (e .length)
   unfolding factsOf
   long =
+      let l : Lawful e (c .file) = is-lawful image s ok sound i bytes given files buffer (GranuleWrite g) d in
       let h : e .length ≤ bytesFor random (e .length) = bytes-hold random (e .length) (omega (arith, l .long)) (λ q. absurd (omega arith)) in
-      rw kind (length-padded 0 (bytesFor random (e .length)) (c .given) (omega (arith, allowed .short)))
+      rw kind (length-padded 0 (bytesFor random (e .length)) given (omega (arith, allowed .short)))
 
+  -- it lies in the extent, and so in the image
   fits : granuleAt e g + bytesFor random (e .length) ≤ length image
   unfolding effects storeEffect
   fits =
-      let s : AllSuit e (effects (GranuleWrite g) c) = suit files buffer (GranuleWrite g) c l d in
-      let h : byteOf (placeOf (e .kind) (e .length) g) + length xs ≤ sector * e .sectors = s .0 .1 in
+      let h : byteOf (placeOf (e .kind) (e .length) g) + length xs ≤ sector * e .sectors = suits image s ok sound i bytes given files buffer (GranuleWrite g) d .0 .1 in
       let k : byteOf (placeOf (e .kind) (e .length) g) ≡ byteOf p = ap (λ (n : ℕ). byteOf (placeOf n (e .length) g)) kind in
-      omega (arith, long)
+      omega (arith, long, room image s ok sound i bytes given files buffer (GranuleWrite g) d)
 
   laid : plainAll c (effects (GranuleWrite g) c) image ≡ lay image (granuleAt e g) xs
   unfolding effects storeEffect plainAll plainDo
@@ -97,35 +100,14 @@ module _ (files buffer g : ℕ) (c : Scene) (l : Lawful (c .entry) (c .file)) (i
       let z : sectorAt e (p .sector) + p .byte ≡ granuleAt e g = omega arith in
       rw (kind, z)
 
-  pub store-covers : (n : ℕ) → bytesFor random (e .length) ≡ n → Covers (granuleAt e g) n (c .given) image (plainAll c (effects (GranuleWrite g) c) image)
-  store-covers n m = rw laid (record {
+  session-covers : (n : ℕ) → bytesFor random (e .length) ≡ n → Covers (granuleAt e g) n given image (plainAll c (effects (GranuleWrite g) c) image)
+  session-covers n m = rw laid (record {
     own = part-lay-same image (granuleAt e g) xs n (long ∙ m) (omega (arith, fits)) ∙ rw (kind, m);
     others = λ j h. getD-lay-out image (granuleAt e g) xs j 0 (where-is j (granuleAt e g) n (λ b. omega (arith, long)) (λ a b. absurd (h (a, b))) (λ b. omega (arith, long)));
     size = length-lay image (granuleAt e g) xs;
   })
 
--- ---- in either engine, by the session that its own is without buffers
-
-module _ (image : List ℕ) (s : Session) (ok : Bool) (sound : ok ≡ true → legal image s ≡ true) (files buffer i g : ℕ) (bytes given : List ℕ) where
-  abbrev scene : Scene
-  scene = record { number = i; entry = entryAt (s .table) i; file = fileOf (s .files) i; bytes = bytes; given = given }
-
-  session-covers : judge (GranuleWrite g) (factsOf ok files buffer (GranuleWrite g) scene) ≡ Done → (n : ℕ) → bytesFor random (scene .entry .length) ≡ n
-      → Covers (granuleAt (scene .entry) g) n given image (plainAll scene (effects (GranuleWrite g) scene) image)
-  session-covers d = store-covers files buffer g scene is-lawful image room (rw (real .0) at d)
-    where
-      real : (ok ≡ true) × (isFree (scene .entry) ≡ false)
-      real =
-          let r : Real (factsOf ok files buffer (GranuleWrite g) scene) = done-real (GranuleWrite g) _ (done-allows (GranuleWrite g) _ d) in
-          unfold factsOf in (r .legal, r .used)
-
-      is-lawful : Lawful (scene .entry) (scene .file)
-      is-lawful = lawful image s (sound (real .0)) i (real .1)
-
-      room : sector * (scene .entry .first + scene .entry .sectors) ≤ length image
-      room =
-          let h : Lies (sectorsOf image) (scene .entry) = lies (sectorsOf image) (s .table) (good-table image s (sound (real .0))) i (eqb-false (scene .entry .kind) free (real .1)) in
-          omega (arith, h .ends, lawful-whole image (lawful-length image s (sound (real .0))))
+-- ---- in either engine
 
 -- one rule for both: as many bytes as the granule takes
 granule-writes : (E : Engine)
@@ -142,12 +124,12 @@ pub plain-granules : GranuleWrites plainEngine
 unfolding unheld plainAnswer plainAfter plainScene
 plain-granules = granule-writes plainEngine λ image s i g given buffer e h d n m.
     rw (plain-is image s i (GranuleWrite g) given buffer Done d, ← h)
-    (session-covers image s (legal image s) (λ k. k) (openFiles (s .files)) (length buffer) i g (extent (entryAt (s .table) i) image) given
+    (session-covers image s (legal image s) (λ k. k) i (extent (entryAt (s .table) i) image) given (openFiles (s .files)) (length buffer) g
     (sym (plain-answered image s i (GranuleWrite g) given buffer) ∙ d) n (rw h m))
 
 pub buffered-granules : GranuleWrites bufferedEngine
 unfolding bufferedAnswer bufferedAfter bufferedScene bare effects storeEffect plainAll bufferedAll bufferedDo
 buffered-granules = granule-writes bufferedEngine λ image s i g given buffer e h d n m.
     rw (buffered-is image s i (GranuleWrite g) given buffer Done d, ← h)
-    (session-covers image (bare s) (bufferedLegal image s) (bare-legal image s) (openFiles (bare s .files)) (length buffer) i g (extentWith (entryAt (s .table) i) (heldOf s i) image) given
+    (session-covers image (bare s) (bufferedLegal image s) (bare-legal image s) i (extentWith (entryAt (s .table) i) (heldOf s i) image) given (openFiles (bare s .files)) (length buffer) g
     (sym (buffered-answered image s i (GranuleWrite g) given buffer) ∙ d) n (rw h m))

@@ -8,21 +8,21 @@ use Prim.Native.Nat.{ℕ, _+_, _*_, _%_, _≤_, _<_, min, max}
 use native.Mathlib.Omega.{arith}
 use lib.Dec.{ltb}
 use lib.ListN.{length, getD}
-use Rattle.geometry.specs.Sizes.{sector, entries, entrySize, blocked, compressed, random}
+use Rattle.geometry.specs.Sizes.{sector, entries, entrySize, blocked, compressed}
 use Rattle.geometry.specs.Bytes.{lay}
 use Rattle.geometry.specs.Places.{perSector, smallGranules, reachOf, byteOf}
 use Rattle.geometry.proofs.Bytes.{Apart, length-lay, getD-lay-out, part-lay-apart, part-lay-within, same-parts}
 use Rattle.geometry.proofs.Places.{reach-small, reach-whole}
-use Rattle.geometry.proofs.Tests.{either, both-ways, and-left}
+use Rattle.geometry.proofs.Tests.{either}
 use Rattle.coding.specs.Encode.{codeOf}
 use Rattle.directory.specs.Entries.{tableOf, isKind}
 use Rattle.directory.proofs.Table.{table-lay}
 use Rattle.packing.specs.Placing.{Change, changes}
 use Rattle.packing.specs.Reading.{goesOn}
-use Rattle.sessions.specs.Session.{hasBuffer, extent}
+use Rattle.sessions.specs.Session.{extent}
 use Rattle.steps.specs.Effects.{Effect, hold, change, store, stamp, putBack, sectorAt, readEffects, storeEffect, blockedEffect, writeEffects, effects, plainDo, plainAll}
 use Rattle.steps.specs.Next.{Scene}
-use Rattle.steps.proofs.Inside.{Before, Suits, AllSuit, suits-inside, no-buffer}
+use Rattle.steps.proofs.Inside.{Before, Suits, AllSuit, suits-inside, reach-buffered}
 use Rattle.steps.proofs.Lawful.{ownDo, ownAll, Inside, AllInside, none, and}
 use Rattle.directory.specs.declared.Entry.{Entry}
 use Rattle.requests.specs.declared.Order.the-variants.{WriteMark, RewindOnline, RewindOffline, RecordForward, RecordBack, FileForward, FileBack}
@@ -85,7 +85,7 @@ module _ (c : Scene) where
     where
       small : (x : Effect) → Suits e x → smallGranules (e .kind) (e .length) ≡ true → reachOf (e .kind) (e .length) ≤ j % sector → getD (plainDo c x image) j 0 ≡ getD image j 0
       small (hold k) s g h = unfold plainDo in refl
-      small (change x) s g h = both-ways (hasBuffer e) (s .0) (no-buffer e (and-left (isKind random e) _ g))
+      small (change x) s g h = absurd (omega (arith, reach-buffered e (s .0)))
       small (store x) s g h = unfold plainDo in getD-lay-out image _ (x .bytes) j 0 (granule-off x (s .2) g j h)
       small (stamp xs) s g h = unfold plainDo in getD-lay-out image _ xs j 0 (omega (arith, o .entry))
       small putBack s g h = unfold plainDo in refl

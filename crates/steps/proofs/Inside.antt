@@ -10,9 +10,9 @@ use lib.Dec.{ltb}
 use borrow.Author.Tests.{eqb-true, eqb-false, ne-eqb, lt-ltb, ltb-true, leb-false}
 use Rattle.geometry.specs.Bytes.{padded, word}
 use Rattle.geometry.specs.Sizes.{sector, blocked, compressed, random, mostSectors, mostShared, sectorsOf}
-use Rattle.geometry.specs.Places.{perSector, smallGranules, capacity, placeOf, bytesFor, byteOf}
-use Rattle.geometry.proofs.Tests.{either, neither-left}
-use Rattle.geometry.proofs.Places.{lawful-most, sector-below, blocked-shares, small-granule, small-shares, byte-shared, bytes-shared, granule-before, spanOf, span-inside, span-straight, bytes-hold}
+use Rattle.geometry.specs.Places.{perSector, smallGranules, capacity, placeOf, bytesFor, reachOf, byteOf}
+use Rattle.geometry.proofs.Tests.{either, both-ways, and-left, neither-left}
+use Rattle.geometry.proofs.Places.{lawful-most, sector-below, blocked-shares, small-granule, small-shares, byte-shared, bytes-shared, reach-whole, granule-before, spanOf, span-inside, span-straight, bytes-hold}
 use Rattle.geometry.proofs.Bytes.{length-padded}
 use Rattle.directory.specs.Entries.{entryAt, isFree, isKind, isMarked}
 use Rattle.directory.proofs.Good.{Lies, lies}
@@ -246,6 +246,12 @@ pub no-buffer : (e : Entry) → isKind random e ≡ true → hasBuffer e ≡ fal
 no-buffer e r =
     let q : e .kind ≡ random = eqb-true (e .kind) random r in
     rw (ne-eqb (e .kind) blocked (omega arith), ne-eqb (e .kind) compressed (omega arith))
+
+-- and a file that has one may write every byte of its extent
+pub reach-buffered : (e : Entry) → hasBuffer e ≡ true → reachOf (e .kind) (e .length) ≡ sector
+reach-buffered e b = either (smallGranules (e .kind) (e .length))
+    (λ (g : smallGranules (e .kind) (e .length) ≡ true). both-ways (hasBuffer e) b (no-buffer e (and-left (isKind random e) _ g)))
+    (λ (g : smallGranules (e .kind) (e .length) ≡ false). reach-whole (e .kind) (e .length) g)
 
 -- a request that is done: each of its effects suits the file
 pub suit : (files buffer : ℕ) (q : Request) (c : Scene) → Lawful (c .entry) (c .file) → judge q (factsOf true files buffer q c) ≡ Done → AllSuit (c .entry) (effects q c)

@@ -1,6 +1,7 @@
 pub mod Lawful
 pub mod Compressed
 pub mod Inside
+pub mod Granted
 pub mod Frame
 pub mod Coded
 pub mod Buffer

@@ -1,32 +1,28 @@
--- What a request answered 0 goes by, in either engine: its session is legal and its entry is used, so the extent lies in the image, every effect
--- suits the file, and the code of the bytes given is in the room lent for it.
+-- What a request answered 0 goes by besides (steps/proofs/Granted.antt), in either engine: its entry is one of the table's, the record that it reads lies in the
+-- sector in which it starts, and the code of the bytes given is in the room lent for it.
 use mathlib.Core.Path.{_≡_, refl}
 use mathlib.Core.Bool.{Bool, true, false}
 use mathlib.Core.List.{List}
-use Prim.Native.Nat.{ℕ, _+_, _*_, _≤_, _<_}
+use Prim.Native.Nat.{ℕ, _<_}
 use native.Mathlib.Omega.{arith}
 use lib.ListN.{length}
 use lib.Seq.{sets}
 use lib.Dec.{ltb}
 use borrow.Author.Tests.{eqb-true, eqb-false, ne-eqb, lt-ltb}
 use Rattle.geometry.specs.Bytes.{part}
-use Rattle.geometry.specs.Sizes.{sector, entries, free, compressed, sectorsOf}
-use Rattle.geometry.proofs.Places.{lawful-whole}
+use Rattle.geometry.specs.Sizes.{sector, entries, free, compressed}
 use Rattle.geometry.proofs.Tests.{either, both-ways}
 use Rattle.decoding.specs.Decode.{Decoded, good, bad}
 use Rattle.coding.specs.Encode.{codeOf}
-use Rattle.directory.specs.Entries.{entryAt, isFree, isKind}
-use Rattle.directory.proofs.Good.{Lies, lies, used-inside}
+use Rattle.directory.specs.Entries.{entryAt, isKind}
+use Rattle.directory.proofs.Good.{lies, used-inside}
 use Rattle.packing.specs.Reading.{gotFrom, startOf, readAt, readBehind}
 use Rattle.requests.specs.Judge.{judge}
 use Rattle.requests.proofs.Done.{Writes, Reads, done-allows}
-use Rattle.requests.proofs.Live.{Real, done-real}
 use Rattle.sessions.specs.Session.{fileOf, legal}
-use Rattle.sessions.proofs.Legal.{lawful-length, good-table}
-use Rattle.steps.specs.Effects.{effects}
 use Rattle.steps.specs.Next.{Scene, theNext, badIn, decoding, isLost, behindGot, recordHere, factsOf, fileDone, codeLength}
-use Rattle.steps.proofs.Inside.{lawful, AllSuit, suit}
-use Rattle.steps.proofs.Lawful.{Lawful}
+use Rattle.steps.proofs.Granted.{found, is-real, is-lawful}
+use Rattle.steps.proofs.Inside.{lawful}
 use Rattle.straight.specs.Straight.{codeGiven, Encoded}
 use Rattle.straight.proofs.Judged.{right-length, short-coded, room-coded}
 use Rattle.geometry.specs.declared.Place.{Place}
@@ -61,7 +57,7 @@ module _ (image : List ℕ) (s : Session) (ok : Bool) (sound : ok ≡ true → l
   e = entryAt (s .table) i
 
   abbrev c : Scene
-  c = record { number = i; entry = e; file = fileOf (s .files) i; bytes = bytes; given = given }
+  c = found s i bytes given
 
   -- the length of the code is right
   pub right : ok ≡ true → length (codeGiven e given) ≡ codeLength e given
@@ -69,25 +65,8 @@ module _ (image : List ℕ) (s : Session) (ok : Bool) (sound : ok ≡ true → l
       short-coded e (fileOf (s .files) i) (lawful image s (sound h) i (ne-eqb (e .kind) free (let k : e .kind ≡ compressed = eqb-true (e .kind) compressed z in omega arith))) z
 
   module _ (files buffer : ℕ) (q : Request) (d : judge q (factsOf ok files buffer q c) ≡ Done) where
-    real : (ok ≡ true) × (isFree e ≡ false)
-    unfolding factsOf
-    real =
-        let r : Real (factsOf ok files buffer q c) = done-real q _ (done-allows q _ d) in
-        (r .legal, r .used)
-
-    is-lawful : Lawful e (fileOf (s .files) i)
-    is-lawful = lawful image s (sound (real .0)) i (real .1)
-
     pub there : length (s .table) ≡ entries → i < entries
-    there h = rw h at (used-inside (s .table) i (eqb-false _ free (real .1)))
-
-    pub room : sector * (e .first + e .sectors) ≤ length image
-    room =
-        let l : Lies (sectorsOf image) e = lies (sectorsOf image) (s .table) (good-table image s (sound (real .0))) i (eqb-false (e .kind) free (real .1)) in
-        omega (arith, l .ends, lawful-whole image (lawful-length image s (sound (real .0))))
-
-    pub suits : AllSuit e (effects q c)
-    suits = suit files buffer q c is-lawful (rw (real .0) at d)
+    there h = rw h at (used-inside (s .table) i (eqb-false _ free (is-real image s ok sound i bytes given files buffer q d .1)))
 
     -- the sector that a compressed record read lies in
     pub lies-in : q ≡ Read → isKind compressed e ≡ true → fileDone q c .here .sector ≡ startOf bytes (fileOf (s .files) i .here) .sector
@@ -106,4 +85,4 @@ module _ (image : List ℕ) (s : Session) (ok : Bool) (sound : ok ≡ true → l
         go m
       where
         go : Writes (factsOf ok files buffer Write c) → part (sets room 0 (codeGiven e given)) 0 (length (codeGiven e given)) ≡ codeOf (e .length) given
-        go m = unfold factsOf in room-coded e (fileOf (s .files) i) is-lawful z given room (m .short) h
+        go m = unfold factsOf in room-coded e (fileOf (s .files) i) (is-lawful image s ok sound i bytes given files buffer q d) z given room (m .short) h
