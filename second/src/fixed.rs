@@ -11,7 +11,7 @@ use crate::coding::GO_ON;
 use crate::directory::{BLOCKED, COMPRESSED, MARKED, PROTECTED, RANDOM, UNBLOCKED};
 use crate::disk::Disk;
 use crate::image::{BLANK, SECTOR};
-use crate::notation::script;
+use crate::notation::case;
 
 const BOTH: u16 = MARKED | PROTECTED;
 
@@ -34,16 +34,6 @@ pub fn fixed_cases() -> Vec<Case> {
         limits(),
     ]
     .concat()
-}
-
-fn case(
-    name: impl Into<String>,
-    rule: &'static str,
-    image: Vec<u8>,
-    r: usize,
-    words: &str,
-) -> Case {
-    Case::new(name, rule, image, script(r, words))
 }
 
 // ---------------------------------------------------------------------------------------------

@@ -11,7 +11,7 @@ use crate::disk::Disk;
 use crate::handmade::Handmade;
 use crate::image::SECTOR;
 use crate::layout::granule_capacity;
-use crate::notation::script;
+use crate::notation::case;
 
 /// The cases, those on images of the same length one behind another: most of these images are then told
 /// by some few patches.
@@ -37,16 +37,6 @@ pub fn granule_cases() -> Vec<Case> {
     .concat();
     cases.sort_by_key(|case| case.image.len());
     cases
-}
-
-fn case(
-    name: impl Into<String>,
-    rule: &'static str,
-    image: Vec<u8>,
-    r: usize,
-    words: &str,
-) -> Case {
-    Case::new(name, rule, image, script(r, words))
 }
 
 // ---------------------------------------------------------------------------------------------

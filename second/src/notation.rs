@@ -16,10 +16,22 @@
 //!
 //! L is a number, `R`, `R+1` or the like; it is R where it is left out. Each write has other bytes.
 
+use crate::cases::Case;
 use crate::editing::Asked;
 use crate::engine::Order;
 use crate::image::{ebcdic, BLANK};
 use crate::script::Script;
+
+/// A case whose script these words tell.
+pub fn case(
+    name: impl Into<String>,
+    rule: &'static str,
+    image: Vec<u8>,
+    r: usize,
+    words: &str,
+) -> Case {
+    Case::new(name, rule, image, script(r, words))
+}
 
 /// The script that these words tell, for files of record length R.
 pub fn script(r: usize, words: &str) -> Script {

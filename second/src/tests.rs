@@ -27,7 +27,7 @@ use crate::notation::script;
 use crate::patch::Patch;
 use crate::play::{patched_session, perform, play};
 use crate::random::Random;
-use crate::script::{Code, Script};
+use crate::script::{Code, Row, Script};
 use crate::selfcheck::selfcheck;
 use crate::session::{mount, Buffer, Engine, OpenFile, Session};
 use crate::sessions::session_cases;
@@ -1605,11 +1605,9 @@ fn looks_at_codes() {
     }
 }
 
-/// Of the writes to compressed files that are done in wide scripts: all, those with a group of two or more
-/// blanks that is no trailing one, of over 64, of over 126. `--nocapture` prints them for README.md.
-#[test]
-fn wide_cases_write_groups_of_blanks() {
-    let mut counts = [0; 4];
+/// Plays 2,000 wide scripts of seed 1 with the plain engine; `see` gets each row, the bytes that it is given, the
+/// table before it, and its answer.
+fn see_wide_rows(mut see: impl FnMut(&Row, &[u8], &[Entry], Answer)) {
     for number in 0..2_000 {
         let case = wide_case(1, number, 100);
         let patches = case.session_patches(Engine::Plain);
@@ -1621,15 +1619,26 @@ fn wide_cases_write_groups_of_blanks() {
         for (row, data) in case.script.steps() {
             let table = session.table;
             let mut buffer = vec![0; usize::from(row.length)];
-            let done = perform(&mut image, &mut session, &row, data, &mut buffer).answer == Done;
-            if done && row.code == Code::Write && table[usize::from(row.entry)].kind == COMPRESSED {
-                let longest = longest_group(data);
-                for (count, least) in counts.iter_mut().zip([0, 2, 65, 127]) {
-                    *count += usize::from(longest >= least);
-                }
-            }
+            let answer = perform(&mut image, &mut session, &row, data, &mut buffer).answer;
+            see(&row, data, &table, answer);
         }
     }
+}
+
+/// Of the writes to compressed files that are done in wide scripts: all, those with a group of two or more
+/// blanks that is no trailing one, of over 64, of over 126. `--nocapture` prints them for README.md.
+#[test]
+fn wide_cases_write_groups_of_blanks() {
+    let mut counts = [0; 4];
+    see_wide_rows(|row, data, table, answer| {
+        let done = answer == Done;
+        if done && row.code == Code::Write && table[usize::from(row.entry)].kind == COMPRESSED {
+            let longest = longest_group(data);
+            for (count, least) in counts.iter_mut().zip([0, 2, 65, 127]) {
+                *count += usize::from(longest >= least);
+            }
+        }
+    });
     println!("{counts:?}");
     let [all, groups, over_64, over_126] = counts;
     assert!(groups * 2 > all && over_64 * 5 > all && over_126 * 25 > all);
@@ -1892,35 +1901,23 @@ fn wide_cases_use_small_granules() {
     let mut done = [[0; 3]; 2];
     let mut no_room = [0; 2];
     let mut high_words = 0;
-    for number in 0..2_000 {
-        let case = wide_case(1, number, 100);
-        let patches = case.session_patches(Engine::Plain);
-        let (_, session) = patched_session(Engine::Plain, &case.image, patches);
-        let Some(mut session) = session else {
-            continue;
+    see_wide_rows(|row, _, table, answer| {
+        let request = match row.code {
+            Code::GranuleRead => 0,
+            Code::GranuleWrite => 1,
+            Code::GranuleLook => 2,
+            _ => return,
         };
-        let mut image = case.image.clone();
-        for (row, data) in case.script.steps() {
-            let table = session.table;
-            let mut buffer = vec![0; usize::from(row.length)];
-            let answer = perform(&mut image, &mut session, &row, data, &mut buffer).answer;
-            let request = match row.code {
-                Code::GranuleRead => 0,
-                Code::GranuleWrite => 1,
-                Code::GranuleLook => 2,
-                _ => continue,
-            };
-            let above = |entry: &Entry| usize::from(entry.r() > 180);
-            match answer {
-                Done => done[above(&table[usize::from(row.entry)])][request] += 1,
-                NoRoom => {
-                    no_room[above(&table[usize::from(row.entry)])] += 1;
-                    high_words += usize::from(row.high > 0);
-                }
-                _ => {}
+        let above = |entry: &Entry| usize::from(entry.r() > 180);
+        match answer {
+            Done => done[above(&table[usize::from(row.entry)])][request] += 1,
+            NoRoom => {
+                no_room[above(&table[usize::from(row.entry)])] += 1;
+                high_words += usize::from(row.high > 0);
             }
+            _ => {}
         }
-    }
+    });
     println!(
         "reads, writes, looks: {done:?}, answered 3: {no_room:?}, with a high word: {high_words}"
     );
