@@ -70,7 +70,7 @@ module _ (N : ℕ) (e : Entry) (used : ¬ (e .kind ≡ 0)) where
   count-most l h = go (isKind unblocked e || isKind blocked e) refl h
     where
       tape : (isKind unblocked e || isKind blocked e) ≡ true → ¬ (e .kind ≡ random)
-      tape t r = or-either _ _ t (λ p. absurd (omega (arith, eqb-true (e .kind) unblocked p))) (λ p. absurd (omega (arith, eqb-true (e .kind) blocked p)))
+      tape t r = or-either (isKind unblocked e) (isKind blocked e) t (λ p. absurd (omega (arith, eqb-true (e .kind) unblocked p))) (λ p. absurd (omega (arith, eqb-true (e .kind) blocked p)))
 
       go : (b : Bool) → (isKind unblocked e || isKind blocked e) ≡ b
           → elim b [ true ↦ leb (e .count) (capacity (e .kind) (e .length) (e .sectors)) | false ↦ leb (e .count) mostRecords ] ≡ true → e .count ≤ mostRecords

@@ -26,8 +26,8 @@ use Rattle.sessions.proofs.Legal.{good-table, lawful-length, legal-length}
 use Rattle.steps.specs.Next.{Scene, factsOf, fileMet, entryDone, counted}
 use Rattle.steps.specs.Effects.{effects, plainDo, plainAll}
 use Rattle.steps.specs.Verdict.{entryNext, fileNext}
-use Rattle.steps.proofs.Lawful.{Lawful, AllInside}
-use Rattle.steps.proofs.Inside.{lawful, inside}
+use Rattle.steps.proofs.Lawful.{Lawful}
+use Rattle.steps.proofs.Inside.{AllSuit, lawful, suit}
 use Rattle.steps.proofs.Frame.{length-plain, other-plain, own-plain, Unstamped, table-plain, stamps-or}
 use Rattle.tapes.specs.Model.{Model, nothing, modelAt, modelNext}
 use Rattle.serving.proofs.Solo.{Sound, Serves, Solo, soloAnswer, bytesNext}
@@ -131,8 +131,8 @@ module _ (image : List ℕ) (s : Session) (v : Stands image s) (i : ℕ) (used :
     w : Lawful (c .entry) (c .file)
     w = lawful image s (v .ok) i used
 
-    stays : AllInside (c .entry .sectors) (effects q c)
-    stays = inside n buffer q c w d
+    suits : AllSuit (c .entry) (effects q c)
+    suits = suit n buffer q c w d
 
     -- a used entry's extent
     lies-at : (j : ℕ) → isFree (entryAt (s .table) j) ≡ false → Lies (sectorsOf image) (entryAt (s .table) j)
@@ -172,9 +172,9 @@ module _ (image : List ℕ) (s : Session) (v : Stands image s) (i : ℕ) (used :
     unfolding bytesNext
     done-moves = record {
       long = length-plain c (effects q c) image;
-      own = own-plain c few (lies-at i used .starts) (effects q c) stays image;
+      own = own-plain c few (lies-at i used .starts) (effects q c) suits image;
       others = λ j ne u.
-          other-plain c (effects q c) stays few (entryAt (s .table) j) (lies-at j u .starts)
+          other-plain c (effects q c) suits few (entryAt (s .table) j) (lies-at j u .starts)
           (extents-apart (sectorsOf image) (s .table) (good-table image s (v .ok)) i j (λ z. ne (sym z)) (eqb-false _ free used) (eqb-false _ free u)) image;
       listed = ⊎-elim closing unstamped (stamps-or q);
     }

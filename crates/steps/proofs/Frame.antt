@@ -1,4 +1,4 @@
--- What effects done straight in the image change, if they stay in the file's extent: bytes 16-19 of its entry and its extent, and the extent
+-- What effects done straight in the image change, where they suit the file: bytes 16-19 of its entry and its extent, and the extent
 -- as they change the file's own bytes. Each effect lays bytes in one place.
 use mathlib.Core.Path.{_≡_, refl, ap, _∙_}
 use mathlib.Core.Logic.{_⊎_, inl, inr}
@@ -13,17 +13,17 @@ use Rattle.geometry.specs.Bytes.{lay}
 use Rattle.geometry.specs.Places.{perSector, smallGranules, reachOf, byteOf}
 use Rattle.geometry.proofs.Bytes.{Apart, length-lay, getD-lay-out, part-lay-apart, part-lay-within, same-parts}
 use Rattle.geometry.proofs.Places.{reach-small, reach-whole}
-use Rattle.geometry.proofs.Tests.{either}
+use Rattle.geometry.proofs.Tests.{either, both-ways}
 use Rattle.coding.specs.Encode.{codeOf}
 use Rattle.directory.specs.Entries.{tableOf, isKind}
 use Rattle.directory.proofs.Table.{table-lay}
 use Rattle.packing.specs.Placing.{Change, changes}
 use Rattle.packing.specs.Reading.{goesOn}
 use Rattle.sessions.specs.Session.{extent}
-use Rattle.steps.specs.Effects.{Effect, hold, change, store, stamp, putBack, sectorAt, readEffects, storeEffect, blockedEffect, writeEffects, effects, plainDo, plainAll}
+use Rattle.steps.specs.Effects.{Effect, hold, change, store, stamp, putBack, sectorAt, laidIn, readEffects, storeEffect, blockedEffect, writeEffects, effects, plainDo, plainAll}
 use Rattle.steps.specs.Next.{Scene}
-use Rattle.steps.proofs.Inside.{Before, Suits, AllSuit, suits-inside, reach-buffered}
-use Rattle.steps.proofs.Lawful.{ownDo, ownAll, Inside, AllInside, none, and}
+use Rattle.steps.proofs.Inside.{Before, Suits, AllSuit, no-small}
+use Rattle.steps.proofs.Lawful.{ownDo, ownAll}
 use Rattle.directory.specs.declared.Entry.{Entry}
 use Rattle.requests.specs.declared.Order.the-variants.{WriteMark, RewindOnline, RewindOffline, RecordForward, RecordBack, FileForward, FileBack}
 use Rattle.requests.specs.declared.Request.{Request}
@@ -48,52 +48,34 @@ module _ (c : Scene) where
   length-plain [] image = refl
   length-plain (x ∷ xs) image = length-plain xs (plainDo c x image) ∙ one-length x image
 
-  -- ---- bytes elsewhere
+  -- ---- bytes beside
 
-  -- byte j is none of bytes 16-19 of the entry and none of the extent
-  pub record Elsewhere (j : ℕ) : Type 0 where
-    pub entry : Apart j 1 (entrySize * c .number + 16) 4
-    pub extent : Apart j 1 (sector * e .first) (sector * e .sectors)
-
-  one-elsewhere : (x : Effect) → Inside (e .sectors) x → (image : List ℕ) (j : ℕ) → Elsewhere j → getD (plainDo c x image) j 0 ≡ getD image j 0
-  unfolding plainDo
-  one-elsewhere (hold k) h image j o = refl
-  one-elsewhere (change x) h image j o = getD-lay-out image _ (x .bytes) j 0 (omega (arith, o .extent))
-  one-elsewhere (store x) h image j o = getD-lay-out image _ (x .bytes) j 0 (omega (arith, o .extent))
-  one-elsewhere (stamp xs) h image j o = getD-lay-out image _ xs j 0 (omega (arith, o .entry))
-  one-elsewhere putBack h image j o = refl
-
-  pub elsewhere-plain : (xs : List Effect) → AllInside (e .sectors) xs → (image : List ℕ) (j : ℕ) → Elsewhere j → getD (plainAll c xs image) j 0 ≡ getD image j 0
-  unfolding plainAll
-  elsewhere-plain xs none image j o = refl
-  elsewhere-plain xs (and {x = y} {xs = ys} h t) image j o = elsewhere-plain ys t (plainDo c y image) j o ∙ one-elsewhere y h image j o
-
-  -- the same, or byte j is one of those at a sector's end that belong to no granule
+  -- byte j is none of bytes 16-19 of the entry, and none of the extent, or one of those at a sector's end that belong to no granule
   pub record Beside (j : ℕ) : Type 0 where
     pub entry : Apart j 1 (entrySize * c .number + 16) 4
     pub extent : Apart j 1 (sector * e .first) (sector * e .sectors) ⊎ (reachOf (e .kind) (e .length) ≤ j % sector)
 
-  -- a small granule lies before such a byte, or in another sector
-  granule-off : (x : Change) → Before e x → smallGranules (e .kind) (e .length) ≡ true → (j : ℕ) → reachOf (e .kind) (e .length) ≤ j % sector
-      → Apart j 1 (sectorAt e (x .place .sector) + x .place .byte) (length (x .bytes))
-  granule-off x b s j h =
-      let l : perSector (e .length) * e .length ≤ j % sector = rw (reach-small (e .kind) (e .length) s) at h in
-      omega (arith, b s)
+  -- what is laid in the extent lies off it: a small granule before it, or in another sector
+  laid-beside : (x : Change) → byteOf (x .place) + length (x .bytes) ≤ sector * e .sectors → Before e x → (image : List ℕ) (j : ℕ) → Beside j
+      → getD (laidIn e x image) j 0 ≡ getD image j 0
+  laid-beside x h b image j o = getD-lay-out image _ (x .bytes) j 0 (go (o .extent))
+    where
+      go : Apart j 1 (sector * e .first) (sector * e .sectors) ⊎ (reachOf (e .kind) (e .length) ≤ j % sector)
+          → Apart j 1 (sectorAt e (x .place .sector) + x .place .byte) (length (x .bytes))
+      go (inl a) = omega arith
+      go (inr l) = either (smallGranules (e .kind) (e .length))
+          (λ (g : smallGranules (e .kind) (e .length) ≡ true).
+          let m : perSector (e .length) * e .length ≤ j % sector = rw (reach-small (e .kind) (e .length) g) at l in
+          omega (arith, b g))
+          (λ (g : smallGranules (e .kind) (e .length) ≡ false). absurd (omega (arith, reach-whole (e .kind) (e .length) g)))
 
   one-beside : (x : Effect) → Suits e x → (image : List ℕ) (j : ℕ) → Beside j → getD (plainDo c x image) j 0 ≡ getD image j 0
-  one-beside x s image j o = go (o .extent)
-    where
-      small : (x : Effect) → Suits e x → smallGranules (e .kind) (e .length) ≡ true → reachOf (e .kind) (e .length) ≤ j % sector → getD (plainDo c x image) j 0 ≡ getD image j 0
-      small (hold k) s g h = unfold plainDo in refl
-      small (change x) s g h = absurd (omega (arith, reach-buffered e (s .0)))
-      small (store x) s g h = unfold plainDo in getD-lay-out image _ (x .bytes) j 0 (granule-off x (s .2) g j h)
-      small (stamp xs) s g h = unfold plainDo in getD-lay-out image _ xs j 0 (omega (arith, o .entry))
-      small putBack s g h = unfold plainDo in refl
-
-      go : Apart j 1 (sector * e .first) (sector * e .sectors) ⊎ (reachOf (e .kind) (e .length) ≤ j % sector) → getD (plainDo c x image) j 0 ≡ getD image j 0
-      go (inl a) = one-elsewhere x (suits-inside e x s) image j (record { entry = o .entry; extent = a })
-      go (inr h) = either (smallGranules (e .kind) (e .length)) (λ g. small x s g h)
-          (λ (g : smallGranules (e .kind) (e .length) ≡ false). absurd (omega (arith, reach-whole (e .kind) (e .length) g)))
+  unfolding plainDo
+  one-beside (hold k) s image j o = refl
+  one-beside (change x) s image j o = laid-beside x (omega (arith, s .1, s .2)) (λ g. both-ways _ g (no-small e (s .0))) image j o
+  one-beside (store x) s image j o = laid-beside x (s .1) (s .2) image j o
+  one-beside (stamp xs) s image j o = getD-lay-out image _ xs j 0 (omega (arith, o .entry))
+  one-beside putBack s image j o = refl
 
   pub beside-plain : (xs : List Effect) → AllSuit e xs → (image : List ℕ) (j : ℕ) → Beside j → getD (plainAll c xs image) j 0 ≡ getD image j 0
   unfolding plainAll
@@ -101,34 +83,34 @@ module _ (c : Scene) where
   beside-plain (x ∷ xs) s image j o = beside-plain xs (s .1) (plainDo c x image) j o ∙ one-beside x (s .0) image j o
 
   -- another extent, behind the directory
-  pub other-plain : (xs : List Effect) → AllInside (e .sectors) xs → c .number < entries → (d : Entry) → 1 ≤ d .first
+  pub other-plain : (xs : List Effect) → AllSuit e xs → c .number < entries → (d : Entry) → 1 ≤ d .first
       → min (e .first + e .sectors) (d .first + d .sectors) ≤ max (e .first) (d .first) → (image : List ℕ) → extent d (plainAll c xs image) ≡ extent d image
   unfolding extent
   other-plain xs h few d low apart image = same-parts (plainAll c xs image) image _ _ (length-plain xs image) λ j l.
-      elsewhere-plain xs h image (sector * d .first + j) (record { entry = omega arith; extent = omega arith })
+      beside-plain xs h image (sector * d .first + j) (record { entry = omega arith; extent = inl (omega arith) })
 
   -- ---- the extent
 
   module _ (few : c .number < entries) (low : 1 ≤ e .first) where
     laid-own : (x : Change) → byteOf (x .place) + length (x .bytes) ≤ sector * e .sectors → (image : List ℕ)
-        → extent e (lay image (sectorAt e (x .place .sector) + x .place .byte) (x .bytes)) ≡ lay (extent e image) (byteOf (x .place)) (x .bytes)
+        → extent e (laidIn e x image) ≡ lay (extent e image) (byteOf (x .place)) (x .bytes)
     unfolding extent
     laid-own x h image =
         let z : sectorAt e (x .place .sector) + x .place .byte ≡ sector * e .first + byteOf (x .place) = omega arith in
         rw z (part-lay-within image (sector * e .first) (sector * e .sectors) (byteOf (x .place)) (x .bytes) h)
 
-    one-own : (x : Effect) → Inside (e .sectors) x → (image : List ℕ) → extent e (plainDo c x image) ≡ ownDo x (extent e image)
+    one-own : (x : Effect) → Suits e x → (image : List ℕ) → extent e (plainDo c x image) ≡ ownDo x (extent e image)
     unfolding plainDo ownDo extent
     one-own (hold k) h image = refl
-    one-own (change x) h image = laid-own x h image
-    one-own (store x) h image = laid-own x h image
+    one-own (change x) h image = laid-own x (omega (arith, h .1, h .2)) image
+    one-own (store x) h image = laid-own x (h .1) image
     one-own (stamp xs) h image = part-lay-apart image (entrySize * c .number + 16) xs (sector * e .first) (sector * e .sectors) (omega arith)
     one-own putBack h image = refl
 
-    pub own-plain : (xs : List Effect) → AllInside (e .sectors) xs → (image : List ℕ) → extent e (plainAll c xs image) ≡ ownAll xs (extent e image)
+    pub own-plain : (xs : List Effect) → AllSuit e xs → (image : List ℕ) → extent e (plainAll c xs image) ≡ ownAll xs (extent e image)
     unfolding plainAll ownAll
-    own-plain xs none image = refl
-    own-plain xs (and {x = y} {xs = ys} h t) image = own-plain ys t (plainDo c y image) ∙ ap (ownAll ys) (one-own y h image)
+    own-plain [] s image = refl
+    own-plain (x ∷ xs) s image = own-plain xs (s .1) (plainDo c x image) ∙ ap (ownAll xs) (one-own x (s .0) image)
 
 -- ---- the directory
 

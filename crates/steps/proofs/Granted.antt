@@ -52,9 +52,5 @@ module _ (image : List ℕ) (s : Session) (ok : Bool) (sound : ok ≡ true → l
         let l : Lies (sectorsOf image) e = lies (sectorsOf image) (s .table) (good-table image s (sound (is-real .0))) i (eqb-false (e .kind) free (is-real .1)) in
         omega (arith, l .ends, lawful-whole image (lawful-length image s (sound (is-real .0))))
 
-    -- with the session known to be legal
-    pub granted : judge q (factsOf true files buffer q c) ≡ Done
-    granted = rw (is-real .0) at d
-
     pub suits : AllSuit e (effects q c)
-    suits = suit files buffer q c is-lawful granted
+    suits = suit files buffer q c is-lawful (rw (is-real .0) at d)

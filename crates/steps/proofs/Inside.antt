@@ -35,7 +35,7 @@ use Rattle.requests.specs.declared.Order.the-variants.{WriteMark, RewindOnline,
 use Rattle.requests.specs.declared.Answer.the-variants.{Done}
 use Rattle.steps.specs.Effects.{Effect, hold, change, store, stamp, putBack, readEffects, writeEffects, blockedEffect, storeEffect, effects}
 use Rattle.steps.specs.Next.{Scene, factsOf, theNext, badIn, decoding, isLost, recordHere, codeLength}
-use Rattle.steps.proofs.Lawful.{Lawful, Inside, AllInside, none, and}
+use Rattle.steps.proofs.Lawful.{Lawful}
 use Rattle.steps.proofs.Compressed.{good-within, code-is}
 use Rattle.directory.specs.declared.Entry.{Entry}
 use Rattle.sessions.specs.declared.OpenFile.{OpenFile}
@@ -113,17 +113,6 @@ Suits e putBack = record {}
 abbrev pub AllSuit : Entry → List Effect → Type 0
 AllSuit e [] = record {}
 AllSuit e (x ∷ xs) = Suits e x × AllSuit e xs
-
-pub suits-inside : (e : Entry) (x : Effect) → Suits e x → Inside (e .sectors) x
-suits-inside e (hold k) h = h .1
-suits-inside e (change x) h = omega arith
-suits-inside e (store x) h = h .1
-suits-inside e (stamp xs) h = h
-suits-inside e putBack h = h
-
-pub suit-inside : (e : Entry) (xs : List Effect) → AllSuit e xs → AllInside (e .sectors) xs
-suit-inside e [] h = none
-suit-inside e (x ∷ xs) h = and (suits-inside e x (h .0)) (suit-inside e xs (h .1))
 
 -- ---- the requests
 
@@ -247,11 +236,14 @@ no-buffer e r =
     let q : e .kind ≡ random = eqb-true (e .kind) random r in
     rw (ne-eqb (e .kind) blocked (omega arith), ne-eqb (e .kind) compressed (omega arith))
 
--- and a file that has one may write every byte of its extent
-pub reach-buffered : (e : Entry) → hasBuffer e ≡ true → reachOf (e .kind) (e .length) ≡ sector
-reach-buffered e b = either (smallGranules (e .kind) (e .length))
+-- a file that has one has no small granules, and may write every byte of its extent
+pub no-small : (e : Entry) → hasBuffer e ≡ true → smallGranules (e .kind) (e .length) ≡ false
+no-small e b = either (smallGranules (e .kind) (e .length))
     (λ (g : smallGranules (e .kind) (e .length) ≡ true). both-ways (hasBuffer e) b (no-buffer e (and-left (isKind random e) _ g)))
-    (λ (g : smallGranules (e .kind) (e .length) ≡ false). reach-whole (e .kind) (e .length) g)
+    (λ (g : smallGranules (e .kind) (e .length) ≡ false). g)
+
+pub reach-buffered : (e : Entry) → hasBuffer e ≡ true → reachOf (e .kind) (e .length) ≡ sector
+reach-buffered e b = reach-whole (e .kind) (e .length) (no-small e b)
 
 -- a request that is done: each of its effects suits the file
 pub suit : (files buffer : ℕ) (q : Request) (c : Scene) → Lawful (c .entry) (c .file) → judge q (factsOf true files buffer q c) ≡ Done → AllSuit (c .entry) (effects q c)
@@ -272,8 +264,3 @@ suit files buffer q c l d = go q (done-allows q (factsOf true files buffer q c) 
     go (Position RecordBack) a = record {}
     go (Position FileForward) a = (record {}, record {})
     go (Position FileBack) a = (record {}, record {})
-
--- and stays in its extent
-pub inside : (files buffer : ℕ) (q : Request) (c : Scene) → Lawful (c .entry) (c .file) → judge q (factsOf true files buffer q c) ≡ Done
-    → AllInside (c .entry .sectors) (effects q c)
-inside files buffer q c l d = suit-inside (c .entry) (effects q c) (suit files buffer q c l d)

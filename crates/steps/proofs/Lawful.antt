@@ -1,11 +1,11 @@
--- What a legal session says of a used entry and its open-file state, and when an effect stays in the file's extent.
+-- What a legal session says of a used entry and its open-file state, and an effect on the bytes of the file's own extent.
 use mathlib.Core.Path.{_≡_}
 use mathlib.Core.Bool.{true, false}
 use mathlib.Core.List.{List, [], _∷_}
-use Prim.Native.Nat.{ℕ, suc, _+_, _*_, _≤_}
+use Prim.Native.Nat.{ℕ, _≤_}
 use lib.ListN.{length}
 use Rattle.geometry.specs.Bytes.{lay}
-use Rattle.geometry.specs.Sizes.{sector, compressed, random, mostSectors, mostRecords}
+use Rattle.geometry.specs.Sizes.{compressed, random, mostSectors, mostRecords}
 use Rattle.geometry.specs.Places.{capacity, byteOf}
 use Rattle.directory.specs.Entries.{isKind, isMarked}
 use Rattle.directory.specs.Rules.{longest}
@@ -44,15 +44,3 @@ ownDo putBack bytes = bytes
 unfoldable pub ownAll : List Effect → List ℕ → List ℕ
 ownAll [] bytes = bytes
 ownAll (x ∷ xs) bytes = ownAll xs (ownDo x bytes)
-
--- an effect stays in an extent of so many sectors
-abbrev pub Inside : ℕ → Effect → Type 0
-Inside n (hold k) = suc k ≤ n
-Inside n (change x) = byteOf (x .place) + length (x .bytes) ≤ sector * n
-Inside n (store x) = byteOf (x .place) + length (x .bytes) ≤ sector * n
-Inside n (stamp xs) = length xs ≡ 4
-Inside n putBack = record {}
-
-pub data AllInside (n : ℕ) : List Effect → Type 0 where
-  none : AllInside n []
-  and : {x : Effect} {xs : List Effect} → Inside n x → AllInside n xs → AllInside n (x ∷ xs)

@@ -83,11 +83,15 @@ effects (Position FileBack) c = putBack ∷ []
 abbrev pub sectorAt : Entry → ℕ → ℕ
 sectorAt e k = sector * (e .first + k)
 
+-- bytes laid in the image, at a place of the extent
+abbrev pub laidIn : Entry → Change → List ℕ → List ℕ
+laidIn e x image = lay image (sectorAt e (x .place .sector) + x .place .byte) (x .bytes)
+
 -- straight in the image
 unfoldable pub plainDo : Scene → Effect → List ℕ → List ℕ
 plainDo c (hold k) image = image
-plainDo c (change x) image = lay image (sectorAt (c .entry) (x .place .sector) + x .place .byte) (x .bytes)
-plainDo c (store x) image = lay image (sectorAt (c .entry) (x .place .sector) + x .place .byte) (x .bytes)
+plainDo c (change x) image = laidIn (c .entry) x image
+plainDo c (store x) image = laidIn (c .entry) x image
 plainDo c (stamp xs) image = lay image (entrySize * c .number + 16) xs
 plainDo c putBack image = image
 

@@ -10,12 +10,12 @@ use lib.Seq.{sets}
 use lib.Dec.{ltb}
 use borrow.Author.Tests.{eqb-true, eqb-false, ne-eqb, lt-ltb}
 use Rattle.geometry.specs.Bytes.{part}
-use Rattle.geometry.specs.Sizes.{sector, entries, free, compressed}
+use Rattle.geometry.specs.Sizes.{entries, free, compressed}
 use Rattle.geometry.proofs.Tests.{either, both-ways}
 use Rattle.decoding.specs.Decode.{Decoded, good, bad}
 use Rattle.coding.specs.Encode.{codeOf}
 use Rattle.directory.specs.Entries.{entryAt, isKind}
-use Rattle.directory.proofs.Good.{lies, used-inside}
+use Rattle.directory.proofs.Good.{used-inside}
 use Rattle.packing.specs.Reading.{gotFrom, startOf, readAt, readBehind}
 use Rattle.requests.specs.Judge.{judge}
 use Rattle.requests.proofs.Done.{Writes, Reads, done-allows}

@@ -1,4 +1,4 @@
--- Document 01, "Where a record lies", random: a file as a row of granules. Definitions only.
+-- Document 01, "Where a record lies", random, with document 02's item 3: a file as a row of granules. Definitions only.
 use mathlib.Core.Bool.{Bool, true, false}
 use mathlib.Core.List.{List, [], _∷_, _++_}
 use Prim.Native.Nat.{ℕ, zero, suc}
@@ -19,7 +19,7 @@ pub record Row : Type 0 where
   pub isOpen : Bool
   pub granules : List (List ℕ)
 
--- "granule g begins s·g sectors into the extent"
+-- "granule g begins s·g sectors into the extent"; document 02, item 3, "for R up to 180": "granule g in extent sector g/q rounded down at byte (g mod q)·R"
 unfoldable pub granulesIn : Shape → List ℕ → ℕ → List (List ℕ)
 granulesIn f bytes zero = []
 granulesIn f bytes (suc n) = granulesIn f bytes n ++ (part bytes (byteOf (placeOf random (f .recordLength) n)) (f .recordLength) ∷ [])
