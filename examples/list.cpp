@@ -21,21 +21,7 @@ struct Name {
     explicit Name(const char *text)
     {
         for (uint8_t &byte : bytes)
-            byte = *text != 0 ? to_ebcdic(*text++) : uint8_t{0x40};
-    }
-
-private:
-    static uint8_t to_ebcdic(char c)
-    {
-        if ('0' <= c && c <= '9')
-            return static_cast<uint8_t>(0xF0 + (c - '0'));
-        if ('S' <= c && c <= 'Z')
-            return static_cast<uint8_t>(0xE2 + (c - 'S'));
-        if ('J' <= c && c <= 'R')
-            return static_cast<uint8_t>(0xD1 + (c - 'J'));
-        if ('A' <= c && c <= 'I')
-            return static_cast<uint8_t>(0xC1 + (c - 'A'));
-        return 0x40;
+            byte = *text != 0 ? lleuadrys_to_ebcdic(static_cast<uint8_t>(*text++)) : uint8_t{0x40};
     }
 };
 

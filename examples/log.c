@@ -1,6 +1,7 @@
 /* Logs one pass on an image: finds its files by name, writes frames into the blocked file TRACE and a line into the compressed
    file PASSLOG, with the buffered engine; closes both, lists the directory, and reads the last line back. It writes a granule
-   of CALIB and looks at it in place. Then it adds a file REMARKS and writes a line into it, and deletes NOTES.
+   of CALIB and looks at it in place. Then it adds a file REMARKS and writes a line into it, and deletes NOTES. Last it shows
+   two files as lines of text, and tries a random one.
 
        log IMAGE
 
@@ -8,6 +9,7 @@
    images/station.img. */
 #include <stdint.h>
 #include <stdio.h>
+#include <string.h>
 
 #include "../include/lleuadrys.h"
 
@@ -18,6 +20,7 @@ _Static_assert(LLEUADRYS_ENTRIES * 20 == LLEUADRYS_SECTOR, "the directory fills 
 _Static_assert(LLEUADRYS_BUFFERED_SESSION == LLEUADRYS_SESSION + LLEUADRYS_MOST_OPEN * (LLEUADRYS_SECTOR + 6),
                "a buffer for each open file, and what it holds");
 _Static_assert(LLEUADRYS_LONGEST_CODE == LLEUADRYS_LONGEST_COMPRESSED + 3, "a code has at most three bytes more");
+_Static_assert(LLEUADRYS_LONGEST_LINE == LLEUADRYS_LONGEST_RECORD + 1, "a line has its end besides");
 
 static uint8_t image[LLEUADRYS_MOST_SECTORS * LLEUADRYS_SECTOR];
 static size_t image_size;
@@ -29,27 +32,8 @@ static size_t passlog, curves, trace, calib;
 /* Room for what is read. */
 static uint8_t text[LLEUADRYS_LONGEST_RECORD];
 
-/* Capitals, digits and blanks, in EBCDIC and back. */
-static const char ascii[] = "ABCDEFGHIJKLMNOPQRSTUVWXYZ0123456789 ";
-static const uint8_t ebcdic[] = {0xC1, 0xC2, 0xC3, 0xC4, 0xC5, 0xC6, 0xC7, 0xC8, 0xC9, 0xD1, 0xD2, 0xD3, 0xD4,
-                                 0xD5, 0xD6, 0xD7, 0xD8, 0xD9, 0xE2, 0xE3, 0xE4, 0xE5, 0xE6, 0xE7, 0xE8, 0xE9,
-                                 0xF0, 0xF1, 0xF2, 0xF3, 0xF4, 0xF5, 0xF6, 0xF7, 0xF8, 0xF9, 0x40};
-
-static uint8_t to_ebcdic(char c)
-{
-    for (size_t i = 0; i < sizeof ebcdic; i++)
-        if (ascii[i] == c)
-            return ebcdic[i];
-    return 0x40;
-}
-
-static char to_ascii(uint8_t c)
-{
-    for (size_t i = 0; i < sizeof ebcdic; i++)
-        if (ebcdic[i] == c)
-            return ascii[i];
-    return '?';
-}
+/* A character in EBCDIC. */
+static uint8_t to_ebcdic(char c) { return lleuadrys_to_ebcdic((uint8_t)c); }
 
 /* A request that is given bytes: its answer. */
 static unsigned give(size_t entry, enum lleuadrys_code code, uint32_t granule, const uint8_t *given, size_t given_size)
@@ -134,7 +118,7 @@ static void print_record(size_t entry)
     while (0 < n && text[n - 1] == 0x40)
         n--;
     for (size_t i = 0; i < n; i++)
-        printf("%c", to_ascii(text[i]));
+        printf("%c", lleuadrys_to_ascii(text[i]));
     printf("\n");
 }
 
@@ -243,6 +227,21 @@ static void edit_directory(void)
     print_listing();
 }
 
+/* Shows a file as lines of text, with a session of its own. */
+static void show(const char *name)
+{
+    uint8_t lent[LLEUADRYS_SESSION], line[LLEUADRYS_LONGEST_LINE];
+    size_t entry = 0, length = 0, size = 0;
+    printf("showing %s\n", name);
+    unsigned a = lleuadrys_show(image, image_size, lent, sizeof lent, (const uint8_t *)name, strlen(name), &entry, &length,
+                                line, sizeof line, &size);
+    fwrite(line, 1, size, stdout);
+    while (a == LLEUADRYS_DONE) {
+        a = lleuadrys_line(image, image_size, lent, sizeof lent, entry, length, line, sizeof line, &size);
+        fwrite(line, 1, size, stdout);
+    }
+}
+
 /* Whether this was compiled for the library that is linked: each constant is what a call says. */
 static int is_as_linked(void)
 {
@@ -283,6 +282,9 @@ int main(int argc, char **argv)
     read_back();
     calibrate();
     edit_directory();
+    show("ELEMENTS");
+    show("REMARKS");
+    show("CURVES");
     file = fopen(argv[1], "wb");
     if (file == NULL || fwrite(image, 1, image_size, file) != image_size || fclose(file) != 0) {
         printf("log: the image was not written back\n");

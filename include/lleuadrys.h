@@ -67,8 +67,8 @@
 extern "C" {
 #endif
 
-/* 10,000 times the first number, 100 times the second, and the third: this is 3.0.0. */
-#define LLEUADRYS_VERSION 30000
+/* 10,000 times the first number, 100 times the second, and the third: this is 3.1.0. */
+#define LLEUADRYS_VERSION 30100
 
 /* What a request, a mounting, an adding and a deleting answer. */
 enum lleuadrys_answer {
@@ -146,6 +146,7 @@ enum {
     LLEUADRYS_LONGEST_COMPRESSED = 132, /* room for any record of a compressed file, .. */
     LLEUADRYS_LONGEST_CODE = 135,       /* .. and for its code */
     LLEUADRYS_LONGEST_LISTING = 1596,   /* room for any listing */
+    LLEUADRYS_LONGEST_LINE = 3601,      /* room for any line of a pass listing: the longest record, and the line's end */
     LLEUADRYS_LONGEST_WORDS = 50        /* room for the words of any answer */
 };
 
@@ -208,7 +209,42 @@ uint16_t lleuadrys_add(uint8_t *image, size_t image_size, uint8_t *session, size
    first. */
 uint16_t lleuadrys_delete(uint8_t *image, size_t image_size, uint8_t *session, size_t session_size, size_t entry);
 
+/* ---- the pass listing: a sequential file as lines of ASCII, for people to read. lleuadrys_show begins it, and lleuadrys_line
+   gives the next line, as long as it answers 0. Each puts text into out and tells in *size how many bytes of it; write these
+   out, of every call in turn, and the listing is whole:
+
+       number = lleuadrys_show(image, n, session, sizeof session, (const uint8_t *)"PASSLOG", 7, &entry, &length, line,
+                               sizeof line, &size);
+       fwrite(line, 1, size, stdout);
+       while (number == LLEUADRYS_DONE) {
+           number = lleuadrys_line(image, n, session, sizeof session, entry, length, line, sizeof line, &size);
+           fwrite(line, 1, size, stdout);
+       }
+
+   No byte of the image changes. With LLEUADRYS_LONGEST_LINE bytes in out there is room for every line. */
+
+/* Mounts an image, finds the file by its name and opens it: 0, with *entry its entry and *length its record length, which
+   lleuadrys_line takes, and no text. The name is in ASCII, as it is typed, with no 0 behind it: blanks behind it count for
+   nothing, and small letters are no name's. Else the text is the whole listing, one line, "ANSWER" and the number, and *entry
+   and *length are as they were: 11 for an image that lleuadrys_list lists as bad, also one of over 180 sectors; 8 where no
+   file has that name; 7 for a random file. 12 where the lent bytes are not as many as a session takes. */
+uint16_t lleuadrys_show(uint8_t *image, size_t image_size, uint8_t *session, size_t session_size, const uint8_t *name,
+                        size_t name_size, size_t *entry, size_t *length, uint8_t *out, size_t out_size, size_t *size);
+
+/* Reads the next record: 0, with its line, the record in ASCII without its trailing blanks and a newline behind it. 1 at the
+   end of file and 7 at an unmarked end, with no text: the listing is whole. Any other number with the line "ANSWER" and the
+   number, the last of the listing: 6 where out has not a byte more than a record. A record is read into out and made a line
+   there, so bytes of out behind the line may be the record's. */
+uint16_t lleuadrys_line(uint8_t *image, size_t image_size, uint8_t *session, size_t session_size, size_t entry, size_t length,
+                        uint8_t *out, size_t out_size, size_t *size);
+
 /* ---- no session */
+
+/* A byte of EBCDIC in ASCII, and a character of ASCII in EBCDIC. Blank, capitals, digits and . < ( + & $ * ) ; - / , % _ > ? :
+   # @ ' = " have codes in both, and come back as themselves; every other byte of EBCDIC is a full stop, and every other
+   character a blank. */
+uint8_t lleuadrys_to_ascii(uint8_t code);
+uint8_t lleuadrys_to_ebcdic(uint8_t character);
 
 /* The version of the library that is linked: LLEUADRYS_VERSION of the header that belongs to it. */
 uint32_t lleuadrys_version(void);

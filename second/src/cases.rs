@@ -53,6 +53,25 @@ impl Case {
         }
     }
 
+    /// A case of the pass listing: no rows, and the name as typed "in the place of the bytes given".
+    pub fn of_name(
+        name: impl Into<String>,
+        rule: &'static str,
+        image: Vec<u8>,
+        typed: &[u8],
+    ) -> Case {
+        let script = Script {
+            bytes: typed.to_vec(),
+            ..Script::default()
+        };
+        Case::new(name, rule, image, script)
+    }
+
+    /// The name as typed, of a case of the pass listing.
+    pub fn typed(&self) -> &[u8] {
+        &self.script.bytes
+    }
+
     /// The case with patches of its sessions.
     pub fn with_sessions(mut self, sessions: [Vec<Patch>; 2]) -> Case {
         self.sessions = sessions;
@@ -362,7 +381,7 @@ pub fn session_case(seed: u64, number: usize, requests: usize, sort: Sort) -> Ca
 }
 
 /// The random numbers of a seed's part.
-fn numbered(seed: u64, part: usize) -> Random {
+pub fn numbered(seed: u64, part: usize) -> Random {
     let mut random = Random::new(seed);
     let start = random.next();
     let apart = (part as u64).wrapping_mul(0xD1B5_4A32_D192_ED03);

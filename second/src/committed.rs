@@ -1,5 +1,5 @@
-//! The committed cases: what the programs `play_cases` and `list_cases` are given, and what they
-//! must print. The same bytes are written every time.
+//! The committed cases: what the programs `play_cases`, `list_cases` and `show_cases` are given, and what
+//! they must print. The same bytes are written every time.
 
 use std::fs;
 use std::path::Path;
@@ -15,6 +15,7 @@ use crate::granules::granule_cases;
 use crate::listed::{expected_listings, listed_file, listed_images};
 use crate::random::Random;
 use crate::sessions::session_cases;
+use crate::shown::{expected_showings, shown_cases};
 
 /// The seed of everything committed that is random.
 const SEED: u64 = 1971;
@@ -67,7 +68,7 @@ fn small_session_scripts(sort: Sort) -> Vec<Case> {
         .collect()
 }
 
-/// Writes the four files below a directory, where they stand below the repository's.
+/// Writes the six files below a directory, where they stand below the repository's.
 pub fn write_committed(top: &Path) -> Result<(), String> {
     let cases = committed_cases();
     put(top, "crates/play_cases/data/cases", &bundle(&cases))?;
@@ -75,7 +76,11 @@ pub fn write_committed(top: &Path) -> Result<(), String> {
     let images = listed_images();
     let listings = expected_listings(&images);
     put(top, "crates/list_cases/data/cases", &listed_file(&images))?;
-    put(top, "crates/list_cases/stdout", listings.as_bytes())
+    put(top, "crates/list_cases/stdout", listings.as_bytes())?;
+    let shown = shown_cases();
+    let showings = expected_showings(&shown);
+    put(top, "crates/show_cases/data/cases", &bundle(&shown))?;
+    put(top, "crates/show_cases/stdout", showings.as_bytes())
 }
 
 fn put(top: &Path, name: &str, bytes: &[u8]) -> Result<(), String> {
@@ -86,10 +91,10 @@ fn put(top: &Path, name: &str, bytes: &[u8]) -> Result<(), String> {
         .map_err(|why| format!("{}: {why}", path.display()))
 }
 
-/// A line for each committed case: its number, its name and the rule that it tries.
-pub fn names() -> String {
+/// A line for each of these cases: its number, its name and the rule that it tries.
+pub fn names(cases: &[Case]) -> String {
     (1..)
-        .zip(committed_cases())
+        .zip(cases)
         .map(|(number, case)| format!("{number} {}: {}\n", case.name, case.rule))
         .collect()
 }

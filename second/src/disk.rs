@@ -1,9 +1,10 @@
 //! Images made by hand: files laid one behind another, each told by its kind, R and sectors.
 
 use crate::coding::{encode, GO_ON};
-use crate::directory::{Entry, COMPRESSED, ENTRY_BYTES};
+use crate::directory::{Entry, BLOCKED, COMPRESSED, ENTRY_BYTES};
 use crate::generate::{extent_mut, new_entry, put_entry};
 use crate::image::{put_word, BLANK, SECTOR};
+use crate::layout::{blocked_place, unblocked_start, Place};
 
 /// An image to which files are added; the calls that tell more are about the file added last.
 #[derive(Clone)]
@@ -74,8 +75,26 @@ impl Disk {
         self.put()
     }
 
-    /// A compressed file has these records, coded one behind another as the writer does it.
+    /// The file has these records; those of a compressed one are coded as the writer does it.
     pub fn records(mut self, records: &[Vec<u8>]) -> Disk {
+        match self.entry.kind {
+            COMPRESSED => self.put_codes(records),
+            _ => self.put_records(records),
+        }
+        self.entry.count = records.len() as u32;
+        self.put()
+    }
+
+    fn put_records(&mut self, records: &[Vec<u8>]) {
+        for (k, record) in records.iter().enumerate() {
+            let at = record_start(&self.entry, k);
+            let extent = extent_mut(&mut self.image, &self.entry);
+            extent[at..at + record.len()].copy_from_slice(record);
+        }
+    }
+
+    /// The codes lie one behind another.
+    fn put_codes(&mut self, records: &[Vec<u8>]) {
         let extent = extent_mut(&mut self.image, &self.entry);
         let mut at = 0;
         for record in records {
@@ -87,8 +106,6 @@ impl Disk {
             extent[to..to + code.len()].copy_from_slice(&code);
             at = to + code.len();
         }
-        self.entry.count = records.len() as u32;
-        self.put()
     }
 
     /// A file of this many records has these bytes in its extent.
@@ -122,6 +139,18 @@ impl Disk {
     pub fn image(self) -> Vec<u8> {
         self.image
     }
+}
+
+/// The byte of its extent at which record k of an unblocked or blocked file begins.
+pub fn record_start(entry: &Entry, k: usize) -> usize {
+    let place = match entry.kind {
+        BLOCKED => blocked_place(entry.r(), k),
+        _ => Place {
+            sector: unblocked_start(entry.r(), k),
+            byte: 0,
+        },
+    };
+    place.sector * SECTOR + place.byte
 }
 
 /// Record k of R characters: blanks alone, in groups and behind, other ones for each k.

@@ -1,11 +1,12 @@
 //! Random images and scripts, for the cases and the selfcheck.
 
+use crate::characters::letters;
 use crate::coding::{encode, GO_ON};
 use crate::directory::{directory_is_good, table_of, Entry, ENTRIES, ENTRY_BYTES};
 use crate::directory::{BLOCKED, COMPRESSED, MARKED, PROTECTED, RANDOM, UNBLOCKED};
 use crate::editing::{self, Asked};
 use crate::engine::Order;
-use crate::image::{ebcdic, BLANK, SECTOR};
+use crate::image::{BLANK, SECTOR};
 use crate::layout::{capacity, unblocked_capacity, Place, MOST_SHARING};
 use crate::model::Model;
 use crate::random::Random;
@@ -22,12 +23,12 @@ pub fn empty_image(n: usize) -> Vec<u8> {
 
 /// An entry with an ASCII name, count 0 and no flags.
 pub fn new_entry(name: &str, kind: u16, r: usize, first: usize, sectors: usize) -> Entry {
-    let mut letters = [BLANK; 8];
-    for (to, from) in letters.iter_mut().zip(name.bytes()) {
-        *to = ebcdic(from);
+    let mut bytes = [BLANK; 8];
+    for (to, from) in bytes.iter_mut().zip(letters(name)) {
+        *to = from;
     }
     Entry {
-        name: letters,
+        name: bytes,
         kind,
         length: r as u16,
         first: first as u16,

@@ -54,27 +54,3 @@ pub fn is_capital(byte: u8) -> bool {
 pub fn is_digit(byte: u8) -> bool {
     matches!(byte, 0xF0..=0xF9)
 }
-
-/// The ASCII character of an EBCDIC capital or digit; anything else is a question mark,
-/// which no good directory shows.
-pub fn ascii(byte: u8) -> char {
-    let (from, first) = match byte {
-        0xC1..=0xC9 => (0xC1, b'A'),
-        0xD1..=0xD9 => (0xD1, b'J'),
-        0xE2..=0xE9 => (0xE2, b'S'),
-        0xF0..=0xF9 => (0xF0, b'0'),
-        _ => return '?',
-    };
-    char::from(first + (byte - from))
-}
-
-/// The EBCDIC byte of an ASCII capital or digit; anything else is a blank.
-pub fn ebcdic(character: u8) -> u8 {
-    match character {
-        b'A'..=b'I' => 0xC1 + (character - b'A'),
-        b'J'..=b'R' => 0xD1 + (character - b'J'),
-        b'S'..=b'Z' => 0xE2 + (character - b'S'),
-        b'0'..=b'9' => 0xF0 + (character - b'0'),
-        _ => BLANK,
-    }
-}

@@ -3,12 +3,13 @@
 
 use std::fmt::Write;
 
+use crate::characters::letters;
 use crate::coding::GO_ON;
 use crate::damage::{same_names, small_image, Break, BREAKS};
 use crate::directory::{BLOCKED, COMPRESSED, MARKED, PROTECTED, RANDOM, UNBLOCKED};
 use crate::disk::Disk;
 use crate::edits::listed_after;
-use crate::image::{ebcdic, BLANK, SECTOR};
+use crate::image::{BLANK, SECTOR};
 use crate::listing::listing;
 
 /// Where the words of an entry stand.
@@ -93,10 +94,6 @@ fn word_of(kind: u16, r: usize, sectors: usize, at: usize, value: u16) -> Vec<u8
 /// The first file has those eight bytes as its name.
 fn named(name: &[u8]) -> Vec<u8> {
     logged().bytes(0, name).image()
-}
-
-fn letters(text: &str) -> Vec<u8> {
-    text.bytes().map(ebcdic).collect()
 }
 
 /// A compressed first file of R 80 in two sectors.

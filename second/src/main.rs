@@ -1,4 +1,4 @@
-//! A second, independent implementation of the file layer that document 01 specifies, with items 1 to 3 of
+//! A second, independent implementation of the file layer that document 01 specifies, with items 1 to 4 of
 //! document 02.
 //!
 //! Written from these documents alone, to be held against them: every rule stands beside the sentence
@@ -10,6 +10,7 @@ mod answer;
 mod blanks;
 mod bundle;
 mod cases;
+mod characters;
 mod coding;
 mod committed;
 mod damage;
@@ -37,48 +38,69 @@ mod script;
 mod selfcheck;
 mod session;
 mod sessions;
+mod showcheck;
+mod showing;
+mod shown;
+mod sought;
+mod station;
 mod stored;
 mod strange;
 #[cfg(test)]
 mod tests;
+mod wideshow;
 
 use std::fs::File;
 use std::io::{Read, Write};
 use std::path::Path;
 use std::process::ExitCode;
 
+use cases::Case;
 use script::Script;
 use session::Engine;
 
 const USAGE: &str = "usage:
   second list IMAGE
   second find IMAGE NAME
+  second show IMAGE NAME
   second play plain|buffered IMAGE SCRIPT BYTES OUT
   second play_cases FILE
   second list_cases FILE
+  second show_cases FILE
   second committed TOP
   second names
+  second show_names
   second wide FILE EXPECTED [--seed S] [--first F] [--count K] [--requests N]
+  second wide_show FILE EXPECTED [--seed S] [--first F] [--count K]
   second extract FILE NUMBER DIR
+  second extract_show FILE NUMBER DIR
   second cases DIR [--seed S] [--count K]
   second selfcheck [--seed S] [--count K] [--requests N]
 ";
 
 fn main() -> ExitCode {
-    let arguments: Vec<String> = std::env::args().skip(1).collect();
+    // What is no UTF-8 in a typed name has no listed character: as a mark of replacement it is unknown too.
+    let arguments: Vec<String> = std::env::args_os()
+        .skip(1)
+        .map(|word| word.to_string_lossy().into_owned())
+        .collect();
     let words: Vec<&str> = arguments.iter().map(String::as_str).collect();
     match words[..] {
         ["list", image] => list(image),
         ["find", image, name] => find(image, name),
+        ["show", image, name] => show(image, name),
         ["play", engine, image, script, bytes, out] => {
             answer(play(engine, [image, script, bytes], out))
         }
         ["play_cases", file] => answer(play_cases(file)),
         ["list_cases", file] => answer(list_cases(file)),
+        ["show_cases", file] => answer(show_cases(file)),
         ["committed", top] => answer(committed(top)),
-        ["names"] => answer(Ok(committed::names())),
+        ["names"] => answer(Ok(committed::names(&committed::committed_cases()))),
+        ["show_names"] => answer(Ok(committed::names(&shown::shown_cases()))),
         ["wide", file, expected, ref options @ ..] => wide([file, expected], options),
+        ["wide_show", file, expected, ref options @ ..] => wide_show([file, expected], options),
         ["extract", file, number, dir] => answer(extract(file, number, dir)),
+        ["extract_show", file, number, dir] => answer(extract_show(file, number, dir)),
         ["cases", dir, ref options @ ..] => cases(dir, options),
         ["selfcheck", ref options @ ..] => selfcheck(options),
         _ => usage(),
@@ -110,16 +132,25 @@ fn list(path: &str) -> ExitCode {
     ExitCode::SUCCESS
 }
 
-/// `second find`: the number of the entry with this name (capitals and digits), or the answer.
+/// `second find`: the number of the entry with this name, as typed, or the answer.
 fn find(path: &str, name: &str) -> ExitCode {
     let image = read_up_to(path, play::MOST_PLAYED).unwrap_or_default();
     let (_, session) = session::mount(Engine::Plain, &image);
-    let mut wanted: Vec<u8> = name.bytes().map(image::ebcdic).collect();
-    wanted.resize(wanted.len().max(8), image::BLANK);
-    match directory::find_by_name(&session.table, &wanted) {
+    match showing::find_typed(&session.table, name.as_bytes()) {
         Ok(number) => print(&format!("ENTRY {number}\n")),
-        Err(answer) => print(&format!("ANSWER {}\n", answer.number())),
+        Err(answer) => print(&showing::told(answer)),
     }
+    ExitCode::SUCCESS
+}
+
+/// `second show`: the pass listing of a file; an unreadable image is a bad one.
+fn show(path: &str, name: &str) -> ExitCode {
+    let image = read_up_to(path, listing::MOST_LISTED).unwrap_or_default();
+    print(&showing::pass_listing(
+        Engine::Plain,
+        &image,
+        name.as_bytes(),
+    ));
     ExitCode::SUCCESS
 }
 
@@ -177,6 +208,11 @@ fn list_cases(file: &str) -> Result<String, String> {
     Ok(listed::expected_listings(&listed::images_of(&read(file)?)?))
 }
 
+/// `second show_cases`: what the program of that name prints for a file of cases.
+fn show_cases(file: &str) -> Result<String, String> {
+    Ok(shown::expected_showings(&bundle::unbundle(&read(file)?)?))
+}
+
 /// `second committed`.
 fn committed(top: &str) -> Result<String, String> {
     committed::write_committed(Path::new(top))?;
@@ -189,33 +225,69 @@ fn wide(paths: [&str; 2], options: &[&str]) -> ExitCode {
     let Some([seed, first, count, requests]) = numbers(options, names, [1, 0, 500, 100]) else {
         return usage();
     };
-    let numbers = first as usize..(first + count) as usize;
-    let cases: Vec<cases::Case> = numbers
-        .map(|number| cases::wide_case(seed, number, requests as usize))
+    let cases: Vec<Case> = (first..first + count)
+        .map(|number| cases::wide_case(seed, number as usize, requests as usize))
         .collect();
-    let written = write(Path::new(paths[0]), &bundle::bundle(&cases))
-        .and_then(|()| write(Path::new(paths[1]), bundle::expected(&cases).as_bytes()));
-    answer(written.map(|()| String::new()))
+    answer(write_both(paths, &cases, &bundle::expected(&cases)))
+}
+
+/// `second wide_show`: the same of the pass listing.
+fn wide_show(paths: [&str; 2], options: &[&str]) -> ExitCode {
+    let names = ["--seed", "--first", "--count"];
+    let Some([seed, first, count]) = numbers(options, names, [1, 0, 500]) else {
+        return usage();
+    };
+    let cases: Vec<Case> = (first..first + count)
+        .map(|number| wideshow::wide_show_case(seed, number as usize))
+        .collect();
+    answer(write_both(paths, &cases, &shown::expected_showings(&cases)))
+}
+
+/// Writes a file of cases and the text that is expected of them.
+fn write_both(paths: [&str; 2], cases: &[Case], expected: &str) -> Result<String, String> {
+    write(Path::new(paths[0]), &bundle::bundle(cases))?;
+    write(Path::new(paths[1]), expected.as_bytes())?;
+    Ok(String::new())
 }
 
 /// `second extract`: one case of a file, as the files that `play` takes, and by itself as a file for
 /// `play_cases`. `play` takes no patches of sessions; if there are some, standard error tells that they
 /// are left out.
 fn extract(file: &str, number: &str, dir: &str) -> Result<String, String> {
-    let cases = bundle::unbundle(&read(file)?)?;
-    let index = number.parse::<usize>().ok().and_then(|n| n.checked_sub(1));
-    let case = index.and_then(|index| cases.get(index));
-    let case = case.ok_or(format!("no case {number} in {file}"))?;
-    std::fs::create_dir_all(dir).map_err(|_| format!("cannot make {dir}"))?;
-    let path = |name: &str| Path::new(dir).join(name);
-    write(&path("image"), &case.image)?;
-    write(&path("script"), &case.script.row_bytes())?;
-    write(&path("bytes"), &case.script.bytes)?;
-    write(&path("case"), &bundle::bundle(std::slice::from_ref(case)))?;
+    let case = numbered_case(file, number)?;
+    let rows = case.script.row_bytes();
+    let alone = bundle::bundle(std::slice::from_ref(&case));
+    put_in(dir, "image", &case.image)?;
+    put_in(dir, "script", &rows)?;
+    put_in(dir, "bytes", &case.script.bytes)?;
+    put_in(dir, "case", &alone)?;
     if case.sessions.iter().any(|patches| !patches.is_empty()) {
         eprintln!("case {number}: the patches of its sessions are left out of what 'play' takes; the file 'case' has them, for 'play_cases'");
     }
     Ok(String::new())
+}
+
+/// `second extract_show`: one case of a file of the pass listing, as the image and the bytes of the name.
+fn extract_show(file: &str, number: &str, dir: &str) -> Result<String, String> {
+    let case = numbered_case(file, number)?;
+    put_in(dir, "image", &case.image)?;
+    put_in(dir, "name", case.typed())?;
+    Ok(String::new())
+}
+
+/// A case of a file, counted from 1.
+fn numbered_case(file: &str, number: &str) -> Result<Case, String> {
+    let mut cases = bundle::unbundle(&read(file)?)?;
+    let index = number.parse::<usize>().ok().and_then(|n| n.checked_sub(1));
+    let index = index.filter(|&index| index < cases.len());
+    let index = index.ok_or(format!("no case {number} in {file}"))?;
+    Ok(cases.swap_remove(index))
+}
+
+/// Writes a file of a directory, which is made if it is not there.
+fn put_in(dir: &str, name: &str, bytes: &[u8]) -> Result<(), String> {
+    std::fs::create_dir_all(dir).map_err(|_| format!("cannot make {dir}"))?;
+    write(&Path::new(dir).join(name), bytes)
 }
 
 /// `second cases`.
@@ -258,6 +330,7 @@ fn selfcheck(options: &[&str]) -> ExitCode {
                 tally.illegal_sessions
             ));
             print(&format!("{} bytes were no session\n", tally.no_sessions));
+            print(&format!("{} pass listings agreed\n", tally.pass_listings));
             ExitCode::SUCCESS
         }
         Err(why) => {

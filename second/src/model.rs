@@ -10,13 +10,13 @@ const BLANK: u8 = 0x40;
 /// One file: the tape (or the granules), and where it stands if it is open.
 #[derive(Clone, Debug, PartialEq, Eq)]
 pub struct Tape {
-    kind: u16,
+    pub kind: u16,
     r: usize,
     protected: bool,
     /// The extent, in sectors of the image.
     pub first: usize,
     pub sectors: usize,
-    name: Vec<u8>,
+    pub name: Vec<u8>,
     /// Records or granules that there is room for; sectors, for a compressed file.
     room: usize,
     pub records: Vec<Vec<u8>>,

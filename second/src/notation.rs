@@ -17,9 +17,10 @@
 //! L is a number, `R`, `R+1` or the like; it is R where it is left out. Each write has other bytes.
 
 use crate::cases::Case;
+use crate::characters::letters;
 use crate::editing::Asked;
 use crate::engine::Order;
-use crate::image::{ebcdic, BLANK};
+use crate::image::BLANK;
 use crate::script::Script;
 
 /// A case whose script these words tell.
@@ -165,5 +166,5 @@ fn hex(told: &str) -> Vec<u8> {
 
 /// Capitals and digits in EBCDIC; a point is a blank.
 fn text(told: &str) -> Vec<u8> {
-    told.bytes().map(ebcdic).collect()
+    letters(&told.replace('.', " "))
 }

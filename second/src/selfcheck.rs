@@ -1,9 +1,9 @@
 //! Runs both engines and the tiny model side by side and holds them to document 01's promises, as document
 //! 02's items 1 and 3 have them. What ADD and DELETE must do is in `editcheck.rs`, where granules lie in
-//! `granulecheck.rs`.
+//! `granulecheck.rs`, what the pass listing shows in `showcheck.rs`.
 
 use crate::answer::{Answer, ANSWERS};
-use crate::cases::all_cases;
+use crate::cases::{all_cases, Case};
 use crate::coding;
 use crate::directory::{
     directory_is_good, Entry, BLOCKED, COMPRESSED, ENTRIES, ENTRY_BYTES, RANDOM,
@@ -25,8 +25,14 @@ use crate::random::Random;
 use crate::script::{Code, Row, Script};
 use crate::session::{mount, Buffer, Engine, OpenFile, Session};
 use crate::sessions::session_cases;
+use crate::showcheck::check_shown;
+use crate::shown::shown_cases;
 use crate::stored::{read_session, store};
 use crate::strange::{strange_bytes_and_refused, strange_wide_session};
+use crate::wideshow::wide_show_case;
+
+/// Random pass listings that are checked for each script.
+const LISTINGS_TO_A_SCRIPT: usize = 8;
 
 /// A promise that does not hold, or nothing.
 pub type Check = Result<(), String>;
@@ -48,16 +54,18 @@ pub struct Tally {
     pub strange_answers: [usize; ANSWERS],
     pub illegal_sessions: usize,
     pub no_sessions: usize,
+    pub pass_listings: usize,
     pub cases: usize,
 }
 
-/// Checks the fixed cases and those of sessions, then `count` random images with scripts of `requests` requests, and as many strange
-/// sessions (legal, but made by hand) and illegal ones.
+/// Checks the fixed cases and those of sessions, the committed pass listings, then `count` random images with scripts of `requests`
+/// requests, as many strange sessions (legal, but made by hand) and illegal ones, and random pass listings.
 pub fn selfcheck(seed: u64, count: usize, requests: usize) -> Result<Tally, String> {
     let mut tally = Tally::default();
     check_places()?;
     check_cases(seed, &mut tally)?;
     check_session_cases(&mut tally)?;
+    check_pass_listings(shown_cases(), &mut tally)?;
     for script in 0..count {
         let mut random = Random::new(seed.wrapping_mul(1_000_003).wrapping_add(script as u64));
         let name = |why: String| format!("seed {seed} script {script}: {why}");
@@ -66,7 +74,18 @@ pub fn selfcheck(seed: u64, count: usize, requests: usize) -> Result<Tally, Stri
         check_codes(&mut random).map_err(name)?;
         tally.scripts += 1;
     }
+    let shown = (0..count * LISTINGS_TO_A_SCRIPT).map(|number| wide_show_case(seed, number));
+    check_pass_listings(shown, &mut tally)?;
     Ok(tally)
+}
+
+/// The pass listings of these cases against those of the tiny model.
+fn check_pass_listings(cases: impl IntoIterator<Item = Case>, tally: &mut Tally) -> Check {
+    for case in cases {
+        check_shown(&case).map_err(|why| format!("case {}: {why}", case.name))?;
+        tally.pass_listings += 1;
+    }
+    Ok(())
 }
 
 // ---------------------------------------------------------------------------------------------

@@ -1,17 +1,19 @@
 //! Document 01's table of twelve rows, the listing's whole case, the easy errors, and some more; ADD and DELETE,
-//! small granules.
+//! small granules, the pass listing.
 
 use std::collections::HashSet;
 
 use crate::answer::Answer::{self, *};
 use crate::blanks::blank_cases;
-use crate::bundle::{bundle, expected, unbundle};
+use crate::bundle::{bundle, expected, unbundle, MOST_BUNDLED};
 use crate::cases::{all_cases, random_case, wide_case, Case};
+use crate::characters::{self, ascii, ebcdic};
 use crate::coding::{decode, encode};
 use crate::committed::committed_cases;
 use crate::damage::{damaged_cases, small_image};
 use crate::directory::{directory_is_good, ENTRIES, MARKED};
 use crate::directory::{find_by_name, table_of, Entry, BLOCKED, COMPRESSED, RANDOM, UNBLOCKED};
+use crate::disk::Disk;
 use crate::editing::{self, Asked};
 use crate::edits::{edit_cases, pictured};
 use crate::engine::{self, Order};
@@ -31,8 +33,13 @@ use crate::script::{Code, Row, Script};
 use crate::selfcheck::selfcheck;
 use crate::session::{mount, Buffer, Engine, OpenFile, Session};
 use crate::sessions::session_cases;
+use crate::showcheck::{check_shown, listed};
+use crate::showing::{pass_listing, put_lines, told as told_answer};
+use crate::shown::{expected_showings, padded, shown_cases};
+use crate::station::station;
 use crate::stored::{read_session, store};
 use crate::strange::{strange_bytes, strange_session};
+use crate::wideshow::wide_show_case;
 
 const BOTH: [Engine; 2] = [Engine::Plain, Engine::Buffered];
 
@@ -1926,4 +1933,210 @@ fn wide_cases_use_small_granules() {
         small.iter().all(|&number| number > 3_000) && large.iter().all(|&number| number > 1_000)
     );
     assert!(no_room.iter().all(|&number| number > 500) && high_words > 500);
+}
+
+// ---------------------------------------------------------------------------------------------
+// Document 02, item 4: the pass listing.
+
+/// "For the listed characters the two tables undo each other, shown once over the whole tables."
+#[test]
+fn tables_undo_each_other() {
+    let bytes: Vec<u8> = (0..=255).collect();
+    let comes_back = |&&byte: &&u8| ebcdic(ascii(byte)) == byte;
+    let codes: Vec<u8> = bytes.iter().filter(comes_back).copied().collect();
+    let typed = |&&c: &&u8| ascii(ebcdic(c)) == c;
+    let characters: Vec<u8> = bytes.iter().filter(typed).copied().collect();
+    assert_eq!((codes.len(), characters.len()), (59, 59));
+    for &byte in &bytes {
+        let wanted = listed(byte).map_or(b'.', |c| c as u8);
+        assert_eq!(ascii(byte), wanted, "EBCDIC {byte:02x}");
+        assert_eq!(codes.contains(&byte), listed(byte).is_some());
+        let code = bytes
+            .iter()
+            .find(|&&code| listed(code) == Some(char::from(byte)));
+        assert_eq!(
+            ebcdic(byte),
+            code.copied().unwrap_or(BLANK),
+            "ASCII {byte:02x}"
+        );
+    }
+}
+
+/// The 59 listed characters, in the words of the document.
+#[test]
+fn listed_characters() {
+    let marks = ". < ( + & $ * ) ; - / , % _ > ? : # @ ' = \"";
+    let marks: HashSet<char> = marks.chars().filter(|&c| c != ' ').collect();
+    assert_eq!(marks.len(), 22);
+    let others = ('A'..='Z').chain('0'..='9').chain([' ']);
+    let wanted: HashSet<char> = marks.into_iter().chain(others).collect();
+    let ours: HashSet<char> = (0..=255).filter_map(listed).collect();
+    assert_eq!(ours, wanted);
+    assert_eq!(wanted.len(), 59);
+}
+
+fn shown(image: &[u8], typed: &str) -> String {
+    let [plain, buffered] = BOTH.map(|engine| pass_listing(engine, image, typed.as_bytes()));
+    assert_eq!(plain, buffered);
+    plain
+}
+
+/// A file of two records and an empty one, of this kind and with these flags.
+fn two_lines(kind: u16, flags: u16) -> Vec<u8> {
+    let texts = ["  A  B", "", "(\"7\") ;"];
+    let texts = texts.map(|text| padded(&characters::letters(text), 10));
+    let disk = Disk::empty(4).file(2, kind, 10, 3).named("LOG7");
+    disk.records(&texts).flags(flags).image()
+}
+
+#[test]
+fn lines_of_every_kind() {
+    for kind in [UNBLOCKED, BLOCKED, COMPRESSED] {
+        for flags in 0..=3 {
+            let image = two_lines(kind, flags);
+            assert_eq!(shown(&image, "LOG7"), "  A  B\n\n(\"7\") ;\n");
+            assert_eq!(shown(&image, "LOG7    "), shown(&image, "LOG7"));
+        }
+    }
+}
+
+#[test]
+fn unknown_names() {
+    let image = two_lines(BLOCKED, 0);
+    let unknown = [
+        "",
+        "LOG",
+        "LOG77",
+        "log7",
+        "LOG7     ",
+        " LOG7",
+        "LOG 7",
+        "LOG7a",
+        "LOG7~",
+        "LOG7.",
+        "LOG7\0",
+        "LOG7\n",
+        " ",
+        "        ",
+    ];
+    for typed in unknown {
+        assert_eq!(shown(&image, typed), "ANSWER 8\n", "{typed:?}");
+    }
+}
+
+#[test]
+fn refusals_of_the_pass_listing() {
+    let good = small_image();
+    assert_eq!(shown(&good, "DELTA22X"), "ANSWER 7\n");
+    let mut bad = good.clone();
+    bad[17 * 20 + 19] = 1;
+    for typed in ["ALPHA", "DELTA22X", "NONE", ""] {
+        assert_eq!(shown(&bad, typed), "ANSWER 11\n");
+        assert_eq!(shown(&good[1..], typed), "ANSWER 11\n");
+    }
+    let mut large = two_lines(COMPRESSED, 0);
+    large.resize(180 * SECTOR, 0);
+    assert_eq!(
+        shown(&large, "LOG7"),
+        shown(&two_lines(COMPRESSED, 0), "LOG7")
+    );
+    large.resize(181 * SECTOR, 0);
+    assert_eq!(shown(&large, "LOG7"), "ANSWER 11\n");
+}
+
+/// "any other number is printed as `ANSWER` and the number, last": behind a good mounting there is none, so
+/// the image is spoilt while the file is open.
+#[test]
+fn another_answer_ends_the_lines() {
+    let mut bench = Bench::new(Engine::Plain, two_lines(COMPRESSED, 0));
+    assert_eq!(bench.open(2), Done);
+    bench.image[SECTOR + 7] = 255;
+    let mut text = String::new();
+    let last = put_lines(&mut bench.image, &mut bench.session, 2, &mut text);
+    assert_eq!((text.as_str(), last), ("  A  B\n", Err(BadImage)));
+    assert_eq!(told_answer(BadImage), "ANSWER 11\n");
+}
+
+/// Zero bytes are shown; only blanks are dropped, at the end only.
+#[test]
+fn zeros_are_full_stops() {
+    let record = [0xC1, 0, BLANK, 0, BLANK, BLANK].to_vec();
+    for kind in [UNBLOCKED, BLOCKED, COMPRESSED] {
+        let disk = Disk::empty(3).file(0, kind, 6, 2).named("Z");
+        let image = disk.records(&[record.clone(), vec![0; 6]]).image();
+        assert_eq!(shown(&image, "Z"), "A. .\n......\n");
+    }
+}
+
+#[test]
+fn the_station_is_the_shipped_image() {
+    let path = concat!(env!("CARGO_MANIFEST_DIR"), "/../images/station.img");
+    assert_eq!(std::fs::read(path).ok(), Some(station()));
+}
+
+/// The committed cases of the pass listing: names of their own, within the form's limits, and every answer;
+/// they come back from their file, and the tiny model tells the same of them.
+#[test]
+fn shown_cases_are_as_told() {
+    let cases = shown_cases();
+    let names: HashSet<&str> = cases.iter().map(|case| case.name.as_str()).collect();
+    assert_eq!(names.len(), cases.len());
+    let back = unbundle(&bundle(&cases)).unwrap_or_default();
+    assert_eq!(back.len(), cases.len());
+    for (case, back) in cases.iter().zip(&back) {
+        assert!(case.image.len() <= MOST_BUNDLED && case.typed().len() <= 4_096);
+        assert!(case.script.rows.is_empty() && case.is_mounted());
+        assert_eq!((&case.image, case.typed()), (&back.image, back.typed()));
+        assert_eq!(check_shown(case), Ok(()), "{}", case.name);
+    }
+    let text = expected_showings(&cases);
+    assert!(text.is_ascii());
+    let answers: HashSet<&str> = text
+        .lines()
+        .filter_map(|line| line.strip_prefix("ANSWER "))
+        .collect();
+    assert_eq!(answers, HashSet::from(["7", "8", "11"]));
+}
+
+/// The form of a case, byte by byte, and the text for it.
+#[test]
+fn form_of_a_shown_case() {
+    let case = Case::of_name("", "", vec![7], b"LOG");
+    let file = [
+        &[0, 1, 0, 0, 0, 1, 0, 0, 0, 0, 0, 3, 0, 0, 0, 0, 7][..],
+        b"LOG",
+    ]
+    .concat();
+    assert_eq!(bundle(std::slice::from_ref(&case)), file);
+    let again = [
+        &[0, 2, 0, 0, 0, 0, 0, 0, 0, 0, 0, 3, 0, 0, 0, 0][..],
+        b"LOG",
+    ]
+    .concat();
+    let two = [case.clone(), case];
+    assert_eq!(bundle(&two), [file, again].concat());
+    assert_eq!(
+        expected_showings(&two),
+        "CASE 1\nANSWER 11\nCASE 2\nANSWER 11\n"
+    );
+}
+
+/// Random cases: the same every time, all answers, and mostly files with lines.
+#[test]
+fn wide_show_cases_show_lines() {
+    let cases: Vec<Case> = (0..800).map(|number| wide_show_case(3, number)).collect();
+    let again: Vec<Case> = (0..800).map(|number| wide_show_case(3, number)).collect();
+    assert_eq!(bundle(&cases), bundle(&again));
+    let text = expected_showings(&cases);
+    for answer in ["7", "8", "11"] {
+        assert!(text.contains(&format!("\nANSWER {answer}\n")));
+    }
+    let refused = text
+        .lines()
+        .filter(|line| line.starts_with("ANSWER "))
+        .count();
+    assert!((200..600).contains(&refused), "{refused}");
+    for case in &cases {
+        assert_eq!(check_shown(case), Ok(()), "{}", case.name);
+    }
 }

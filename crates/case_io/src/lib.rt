@@ -121,16 +121,20 @@ pub fn read_header(fd: i32) -> Ahead {
     })
 }
 
+// Reads the next n bytes, if there is room for so many. How many were read.
+pub fn read_next(fd: i32, n: usize, room: &mut [u8]) -> usize {
+    if n <= room.len() {
+        return io::read_full(fd, &mut room[..n]);
+    }
+    0
+}
+
 // Reads the image, if it is there whole. The length of the last whole image, which before had n bytes; there is room for each of the cases.
 pub fn read_whole(fd: i32, h: Header, n: usize, whole: &mut [u8]) -> usize {
     if !h.whole {
         return n;
     }
-    let size = h.size;
-    if size <= whole.len() {
-        return io::read_full(fd, &mut whole[..size]);
-    }
-    0
+    read_next(fd, h.size, whole)
 }
 
 // How many patches a case has of its image.

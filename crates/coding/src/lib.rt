@@ -104,7 +104,7 @@ fn put_runs(x: &[u8], out: &mut [u8]) -> usize
 }
 
 // The length of x without its trailing blanks.
-fn keeps(x: &[u8]) -> usize
+pub fn keeps(x: &[u8]) -> usize
     ensures { λ r. ⌜ r ≡ Encode.keeps (length (now (x .entry))) (now (x .entry)) ⌝ }
 {
     let n = x.len();

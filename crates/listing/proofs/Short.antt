@@ -1,19 +1,18 @@
 -- A listing has at most 1,596 bytes: a number has at most ten digits, a name eight letters, and there are 18 entries.
-use mathlib.Core.Bool.{Bool, true, false, _&&_}
+use mathlib.Core.Bool.{Bool, true, false}
 use mathlib.Core.List.{List, [], _∷_}
 use Prim.Native.Nat.{ℕ, zero, suc, _≤_, _+_, _*_}
 use native.Mathlib.Omega.{arith}
-use lib.Dec.{eqb, leb}
+use lib.Dec.{eqb}
 use lib.ListN.{length, take, drop, length-append, length-replicate}
-use Rattle.geometry.specs.Sizes.{sectorsOf, blank, entries, entrySize}
+use Rattle.geometry.specs.Sizes.{blank, entries, entrySize}
 use Rattle.geometry.specs.Bytes.{padded}
 use Rattle.geometry.proofs.Bytes.{length-part-min}
 use Rattle.directory.specs.declared.Entry.{Entry}
 use Rattle.directory.specs.Entries.{entryFrom, entriesFrom, tableOf, isFree}
-use Rattle.mounting.specs.Mounting.{mounts}
 use Rattle.texts.specs.Texts.{spelled, decimal, spaced}
 use Rattle.texts.proofs.Reading.{digits-count}
-use Rattle.listing.specs.Listing.{header, badImage, nameText, line, linesFrom, listing}
+use Rattle.listing.specs.Listing.{header, badImage, nameText, line, linesFrom, lists, listing}
 
 either-short : (b : Bool) (xs ys : List ℕ) (n : ℕ) → length xs ≤ n → length ys ≤ n → length {A = ℕ} (elim b [ true ↦ xs | false ↦ ys ]) ≤ n
 either-short true xs ys n h k = h
@@ -53,4 +52,4 @@ pub short : (image : List ℕ) → length (listing image) ≤ 1596
 unfolding listing tableOf header badImage spelled
 short image =
     let more : length (linesFrom 0 (entriesFrom entries image)) ≤ 86 * entries = lines-short entries 0 image in
-    either-short (leb (sectorsOf image) 180 && mounts image) _ _ 1596 (rw length-append (omega arith)) (omega arith)
+    either-short (lists image) _ _ 1596 (rw length-append (omega arith)) (omega arith)

@@ -1,19 +1,18 @@
 -- The listing's texts piece by piece: a name's next letter, the next entry's line. Each is its definition's own equation.
 use mathlib.Core.Path.{_≡_, refl}
 use mathlib.Core.Logic.{_≢_}
-use mathlib.Core.Bool.{Bool, true, false, _&&_}
+use mathlib.Core.Bool.{Bool, true, false}
 use mathlib.Core.List.{List, [], _∷_, _++_, append-nil}
 use Prim.Native.Nat.{ℕ, _<_, _≤_, _+_, _-_}
 use native.Mathlib.Numerals.{add-one}
 use lib.ListN.{length, drop, getD, drop-of-length-le}
 use lib.Seq.{drop-cons}
-use lib.Dec.{leb}
 use borrow.Author.Tests.{eq-eqb, ne-eqb}
-use Rattle.geometry.specs.Sizes.{sectorsOf, blank, free}
+use Rattle.geometry.specs.Sizes.{blank, free}
+use Rattle.characters.specs.Characters.{asciiOf}
 use Rattle.directory.specs.declared.Entry.{Entry}
 use Rattle.directory.specs.Entries.{tableOf, isFree}
-use Rattle.mounting.specs.Mounting.{mounts}
-use Rattle.listing.specs.Listing.{header, badImage, ascii, nameText, line, linesFrom, listing}
+use Rattle.listing.specs.Listing.{header, badImage, nameText, line, linesFrom, lists, listing}
 
 -- ---- names
 
@@ -21,7 +20,7 @@ pub name-stops : (x : List ℕ) (k : ℕ) → k < length x → getD x k 0 ≡ bl
 unfolding nameText
 name-stops x k h e = rw (drop-cons x k 0 h, nameText, eq-eqb (getD x k 0) blank e)
 
-pub name-more : (x : List ℕ) (k : ℕ) → k < length x → getD x k 0 ≢ blank → nameText (drop k x) ≡ (ascii (getD x k 0) ∷ []) ++ nameText (drop (k + 1) x)
+pub name-more : (x : List ℕ) (k : ℕ) → k < length x → getD x k 0 ≢ blank → nameText (drop k x) ≡ (asciiOf (getD x k 0) ∷ []) ++ nameText (drop (k + 1) x)
 unfolding nameText
 name-more x k h n = rw (drop-cons x k 0 h, nameText, ne-eqb (getD x k 0) blank n, add-one)
 
@@ -54,10 +53,10 @@ lines-end t i h = rw (drop-of-length-le t {i = i} h)
 
 -- ---- the listing
 
-pub good-listing : (image : List ℕ) → (leb (sectorsOf image) 180 && mounts image) ≡ true → listing image ≡ header ++ linesFrom 0 (tableOf image)
+pub good-listing : (image : List ℕ) → lists image ≡ true → listing image ≡ header ++ linesFrom 0 (tableOf image)
 unfolding listing
 good-listing image g = rw (listing, g)
 
-pub bad-listing : (image : List ℕ) → (leb (sectorsOf image) 180 && mounts image) ≡ false → listing image ≡ badImage
+pub bad-listing : (image : List ℕ) → lists image ≡ false → listing image ≡ badImage
 unfolding listing
 bad-listing image b = rw (listing, b)

@@ -1,9 +1,10 @@
 -- Document 01, "Listing": what the program prints, as ASCII bytes. Definitions only.
-use mathlib.Core.Bool.{true, false, _&&_}
+use mathlib.Core.Bool.{Bool, true, false, _&&_}
 use mathlib.Core.List.{List, [], _∷_, _++_}
-use Prim.Native.Nat.{ℕ, _+_, _-_}
+use Prim.Native.Nat.{ℕ, _+_}
 use lib.Dec.{eqb, leb}
 use Rattle.geometry.specs.Sizes.{sectorsOf, blank}
+use Rattle.characters.specs.Characters.{asciiOf}
 use Rattle.directory.specs.Entries.{tableOf, isFree}
 use Rattle.mounting.specs.Mounting.{mounts}
 use Rattle.texts.specs.Texts.{spelled, decimal, spaced}
@@ -17,23 +18,10 @@ header = spelled "FILE NAME KIND RECORD FIRST SECTORS COUNT FLAGS\n"
 unfoldable pub badImage : List ℕ
 badImage = spelled "BAD IMAGE\n"
 
--- a capital or a digit of EBCDIC in ASCII
-unfoldable pub ascii : ℕ → ℕ
-ascii c =
-    elim (leb 240 c) [
-      | true ↦ 48 + (c - 240)
-      | false ↦
-          elim (leb 226 c) [
-            | true ↦ 83 + (c - 226)
-            | false ↦
-                elim (leb 209 c) [ true ↦ 74 + (c - 209) | false ↦ 65 + (c - 193) ]
-          ]
-    ]
-
 -- "names in ASCII without trailing blanks"
 unfoldable pub nameText : List ℕ → List ℕ
 nameText [] = []
-nameText (c ∷ cs) = elim (eqb c blank) [ true ↦ [] | false ↦ ascii c ∷ nameText cs ]
+nameText (c ∷ cs) = elim (eqb c blank) [ true ↦ [] | false ↦ asciiOf c ∷ nameText cs ]
 
 -- "one line per used entry"
 unfoldable pub line : ℕ → Entry → List ℕ
@@ -46,6 +34,13 @@ unfoldable pub linesFrom : ℕ → List Entry → List ℕ
 linesFrom i [] = []
 linesFrom i (e ∷ es) = elim (isFree e) [ true ↦ linesFrom (i + 1) es | false ↦ line i e ++ linesFrom (i + 1) es ]
 
--- "an image of at most 180 sectors"; "A bad or longer image prints only BAD IMAGE"
+-- "an image of at most 180 sectors"
+abbrev pub isShort : List ℕ → Bool
+isShort image = leb (sectorsOf image) 180
+
+-- an image that is listed; "A bad or longer image prints only BAD IMAGE"
+abbrev pub lists : List ℕ → Bool
+lists image = isShort image && mounts image
+
 unfoldable pub listing : List ℕ → List ℕ
-listing image = elim (leb (sectorsOf image) 180 && mounts image) [ true ↦ header ++ linesFrom 0 (tableOf image) | false ↦ badImage ]
+listing image = elim (lists image) [ true ↦ header ++ linesFrom 0 (tableOf image) | false ↦ badImage ]

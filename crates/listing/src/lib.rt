@@ -1,4 +1,5 @@
 // The directory listing: document 01's "Listing".
+use characters::to_ascii;
 use directory::Entry;
 use geometry::Geometry;
 use texts::put_all;
@@ -11,26 +12,7 @@ ghost use lib.ListN.{length};
 ghost use lib.Seq.{sets};
 ghost use Rattle.directory.specs.Entries.{tableOf};
 ghost use Rattle.texts.specs.Texts.{decimal, spaced, Wrote};
-ghost use Rattle.listing.specs.Listing.{ascii, nameText, line, linesFrom, listing};
-
-// A capital or a digit of EBCDIC in ASCII.
-fn to_ascii(c: u8) -> u8
-    ensures { λ r. ⌜ r ≡ ascii c ⌝ }
-{
-    if 240 <= c {
-        return 48 + (c - 240);
-    }
-    if 226 <= c {
-        return 83 + (c - 226);
-    }
-    if 209 <= c {
-        return 74 + (c - 209);
-    }
-    if 193 <= c {
-        return 65 + (c - 193);
-    }
-    65
-}
+ghost use Rattle.listing.specs.Listing.{nameText, line, linesFrom, isShort, listing};
 
 // Puts a name in ASCII without its trailing blanks.
 fn put_letters(out: &mut [u8], at: usize, x: [u8; 8]) -> usize
@@ -108,12 +90,19 @@ fn put_lines(out: &mut [u8], at: usize, image: &[u8]) -> usize
 // The most sectors of an image that is listed.
 const MOST_LISTED: usize = 180;
 
+// Whether an image is not too long to be listed.
+pub fn is_short(image: &[u8]) -> bool
+    ensures { λ r. ⌜ r ≡ isShort (now (image .entry)) ⌝ }
+{
+    Geometry::sectors_of(image) <= MOST_LISTED
+}
+
 // Puts the listing of an image into out, as far as there is room. How many bytes that is.
 pub fn write_listing(image: &[u8], out: &mut [u8]) -> usize
     ensures ends { λ r. ⌜ r ≡ min (length (listing (now (image .entry)))) (length (now (out .entry))) ⌝ }
     ensures puts { λ _. ⌜ now (out .exit) ≡ sets (now (out .entry)) 0 (listing (now (image .entry))) ⌝ }
 {
-    if (Geometry::sectors_of(image) <= MOST_LISTED) & mounting::mounts(image) {
+    if is_short(image) & mounting::mounts(image) {
         let a = put_all(out, 0, b"FILE NAME KIND RECORD FIRST SECTORS COUNT FLAGS\n");
         put_lines(out, a, image)
     } else {

@@ -32,6 +32,6 @@ requested image b i Unknown given buffer = left (unknownNumber (lookAnswerIn ima
 abbrev pub Edits : Edited (List ℕ) → ℕ → List ℕ → List ℕ → Type 0
 Edits w n image session = (n ≡ numberOf (w .answer)) × (image ≡ w .image) × (session ≡ w .session)
 
--- 2.0.0, as one number
+-- 3.1.0, as one number
 unfoldable pub version : ℕ
-version = 10000 * 3 + 100 * 0 + 0
+version = 10000 * 3 + 100 * 1 + 0

@@ -3,6 +3,8 @@
 use calling::look_size;
 use calling::mount;
 use calling::position;
+use characters::to_ascii;
+use characters::to_ebcdic;
 use editing::edit;
 use looking::look_answer;
 use numbering::unknown;
@@ -10,6 +12,8 @@ use requests::Asked;
 use requests::Edit;
 use requests::by_code;
 use requests::number;
+use showing::begin;
+use showing::next;
 use storing::Form;
 use telling::field_in;
 use telling::find_named;
@@ -22,7 +26,11 @@ ghost use lib.ListN.{length, getD};
 ghost use lib.Seq.{sets};
 ghost use Rattle.decoding.specs.Decode as Decode;
 ghost use Rattle.coding.specs.Encode as Encode;
+ghost use Rattle.texts.specs.Texts.{Wrote};
+ghost use Rattle.characters.specs.Characters.{asciiOf, ebcdicOf};
 ghost use Rattle.listing.specs.Listing.{listing};
+ghost use Rattle.showing.specs.Lines.{printedFirst};
+ghost use Rattle.showing.specs.Showing.{begun, Leaves, readInto, roomAfter, Prints};
 ghost use Rattle.requests.specs.Codes.{askedFor};
 ghost use Rattle.sessions.specs.Session.{bare, spotOf};
 ghost use Rattle.storing.specs.Stored.{sizeOf, lentSession};
@@ -155,14 +163,73 @@ pub extern "C" fn lleuadrys_delete(image: &mut [u8], session: &mut [u8], entry: 
     number(edit(image, session, entry, Edit::Delete, b"", &mut at))
 }
 
+// ---- the pass listing
+
+// Begins the pass listing of a file; its number. The name is as it is typed, in ASCII. Where the number is 0, the entry and R are told; where not, the text
+// that is put is the whole listing. The number of its bytes goes into size.
+#[no_mangle]
+pub extern "C" fn lleuadrys_show(
+    image: &mut [u8],
+    session: &mut [u8],
+    name: &[u8],
+    entry: &mut usize,
+    length: &mut usize,
+    out: &mut [u8],
+    size: &mut usize,
+) -> u16
+    ensures { λ r. ⌜ Leaves (begun (now (image .entry)) (now (session .entry)) (now (name .entry))) r (now (image .exit)) (now (session .exit))
+        (now (entry .entry)) (now (entry .exit)) (now (length .entry)) (now (length .exit))
+        × Wrote (now (out .entry)) 0 (printedFirst r) (now (out .exit)) (now (size .exit)) ⌝ }
+{
+    let p = begin(image, session, name, entry, length, out);
+    *size = p.size;
+    p.number
+}
+
+// Reads the next record and makes it a line; its number. Where that is 0, there may be more; where not, the text that is put is the last. The number of its
+// bytes goes into size.
+#[no_mangle]
+pub extern "C" fn lleuadrys_line(
+    image: &mut [u8],
+    session: &mut [u8],
+    entry: usize,
+    length: usize,
+    out: &mut [u8],
+    size: &mut usize,
+) -> u16
+    ensures { λ r. ⌜ Prints (readInto (now (image .entry)) (now (session .entry)) entry length (now (out .entry)))
+        (roomAfter (now (image .entry)) (now (session .entry)) entry length (now (out .entry)))
+        r (now (size .exit)) (now (image .exit)) (now (session .exit)) (now (out .exit)) ⌝ }
+{
+    let p = next(image, session, entry, length, out);
+    *size = p.size;
+    p.number
+}
+
 // ---- the calls that need no session
+
+// A byte of EBCDIC in ASCII; a full stop for one that no listed character has.
+#[no_mangle]
+pub extern "C" fn lleuadrys_to_ascii(c: u8) -> u8
+    ensures { λ r. ⌜ r ≡ asciiOf c ⌝ }
+{
+    to_ascii(c)
+}
+
+// A character of ASCII in EBCDIC; a blank for one that is not listed.
+#[no_mangle]
+pub extern "C" fn lleuadrys_to_ebcdic(c: u8) -> u8
+    ensures { λ r. ⌜ r ≡ ebcdicOf c ⌝ }
+{
+    to_ebcdic(c)
+}
 
 // The version of the library: 10,000 times its first number, 100 times its second, and its third.
 #[no_mangle]
 pub extern "C" fn lleuadrys_version() -> u32
     ensures { λ r. ⌜ r ≡ version ⌝ }
 {
-    30000
+    30100
 }
 
 // Puts the words of an answer's number, as far as there is room; the number of bytes put there.

@@ -12,7 +12,7 @@ use Rattle.geometry.proofs.Bytes.{sets-append}
 use Rattle.geometry.proofs.Tests.{either}
 use Rattle.texts.specs.Texts.{Wrote}
 
-sets-out : (xs l : List ℕ) (i : ℕ) → length l ≤ i → sets l i xs ≡ l
+pub sets-out : (xs l : List ℕ) (i : ℕ) → length l ≤ i → sets l i xs ≡ l
 sets-out [] l i h = refl
 sets-out (x ∷ xs) l i h = rw (set-out l i x h) (sets-out xs l (suc i) (omega arith))
 

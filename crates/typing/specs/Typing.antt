@@ -1,12 +1,13 @@
 -- What is typed to describe a file, in ASCII: its name, its kind, a number. Definitions only.
 use mathlib.Core.Bool.{Bool, true, false, _&&_, _||_}
 use mathlib.Core.List.{List, [], _∷_, map}
-use Prim.Native.Nat.{ℕ, suc, _+_, _-_, min}
-use lib.Dec.{leb, ltb}
+use Prim.Native.Nat.{ℕ, suc, min}
+use lib.Dec.{eqb, leb, ltb}
 use lib.ListN.{length}
 use Rattle.geometry.specs.Bytes.{padded}
 use Rattle.geometry.specs.Lists.{every, firstWith, same}
 use Rattle.geometry.specs.Sizes.{blank}
+use Rattle.characters.specs.Characters.{asciiOf, ebcdicOf}
 use Rattle.texts.specs.Texts.{spelled, isDigit, numberIn}
 use Rattle.texts.specs.declared.Numeral.{Numeral}
 use Rattle.texts.specs.declared.Numeral.the-variants as numeral
@@ -23,26 +24,23 @@ isCapital c = leb 65 c && leb c 90
 abbrev pub isLetter : ℕ → Bool
 isLetter c = isCapital c || isDigit c
 
--- "a capital letter followed by capitals or digits", at most eight of them
+-- "followed by capitals or digits, then only blanks", as it is typed
+unfoldable pub restTyped : List ℕ → Bool
+restTyped [] = true
+restTyped (c ∷ cs) = (isLetter c && restTyped cs) || every (λ b. eqb b 32) (c ∷ cs)
+
+-- "a name is a capital letter", and what follows it; at most eight characters
 unfoldable pub isTypedName : List ℕ → Bool
 isTypedName [] = false
-isTypedName (c ∷ cs) = isCapital c && (every isLetter cs && ltb (length cs) 8)
+isTypedName (c ∷ cs) = isCapital c && (restTyped cs && ltb (length cs) 8)
 
--- a capital or a digit in EBCDIC: "C1–C9, D1–D9, E2–E9", "F0–F9"; any other character is a 0, which no name has
-unfoldable pub ebcdic : ℕ → ℕ
-ebcdic c =
-    elim (isDigit c) [
-      | true ↦ 0xF0 + (c - 48)
-      | false ↦
-          elim (isCapital c) [
-            | true ↦ elim (leb c 73) [ true ↦ 0xC1 + (c - 65) | false ↦ elim (leb c 82) [ true ↦ 0xD1 + (c - 74) | false ↦ 0xE2 + (c - 83) ] ]
-            | false ↦ 0
-          ]
-    ]
+-- a typed character in EBCDIC; one that does not come back as itself through both tables is a 0, which no name has
+unfoldable pub typedCode : ℕ → ℕ
+typedCode c = elim (eqb (asciiOf (ebcdicOf c)) c) [ true ↦ ebcdicOf c | false ↦ 0 ]
 
 -- the bytes of a typed name: blanks stand behind it, "then only blanks". More than eight characters stay more than eight bytes
 unfoldable pub nameOf : List ℕ → List ℕ
-nameOf text = padded blank 8 (map ebcdic text)
+nameOf text = padded blank 8 (map typedCode text)
 
 -- ---- numbers and kinds
 

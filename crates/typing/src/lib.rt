@@ -1,4 +1,6 @@
 // What is typed to describe a file: its name, its kind, a number.
+use characters::to_ascii;
+use characters::to_ebcdic;
 use geometry::Geometry;
 use moving::part;
 use moving::same;
@@ -9,7 +11,7 @@ use texts::put_byte;
 ghost use mathlib.Core.Path.{_≡_};
 ghost use mathlib.Core.List.{map};
 ghost use Rattle.texts.specs.Texts.{Wrote};
-ghost use Rattle.typing.specs.Typing.{ebcdic, nameOf, inTwoBytes, numberOf, kindOf};
+ghost use Rattle.typing.specs.Typing.{typedCode, nameOf, inTwoBytes, numberOf, kindOf};
 
 // A number that two bytes hold, or none.
 pub enum Typed {
@@ -19,39 +21,22 @@ pub enum Typed {
 
 // ---- names
 
-// A capital or a digit of ASCII in EBCDIC; 0 for any other character.
-fn to_ebcdic(c: u8) -> u8
-    ensures { λ r. ⌜ r ≡ ebcdic c ⌝ }
+// A typed character in EBCDIC; 0 for one that does not come back as itself through both tables.
+fn typed_code(c: u8) -> u8
+    ensures { λ r. ⌜ r ≡ typedCode c ⌝ }
 {
-    if c < 48 {
-        return 0;
-    }
-    if c <= 57 {
-        return 240 + (c - 48);
-    }
-    if c < 65 {
-        return 0;
-    }
-    if c <= 73 {
-        return 193 + (c - 65);
-    }
-    if c <= 82 {
-        return 209 + (c - 74);
-    }
-    if c <= 90 {
-        return 226 + (c - 83);
-    }
-    0
+    let e = to_ebcdic(c);
+    if to_ascii(e) == c { e } else { 0 }
 }
 
 // Puts a text in EBCDIC. The place behind it.
 fn put_letters(out: &mut [u8], text: &[u8]) -> usize
-    ensures { λ r. ⌜ Wrote (now (out .entry)) 0 (map ebcdic (now (text .entry))) (now (out .exit)) r ⌝ }
+    ensures { λ r. ⌜ Wrote (now (out .entry)) 0 (map typedCode (now (text .entry))) (now (out .exit)) r ⌝ }
 {
     let mut a: usize = 0;
     let mut k: usize = 0;
     while k < text.len() {
-        a = put_byte(out, a, to_ebcdic(text[k]));
+        a = put_byte(out, a, typed_code(text[k]));
         k += 1;
     }
     a

@@ -5,7 +5,8 @@ use Prim.Native.Nat.{_≤_, _-_, _+_}
 use native.Mathlib.Omega.{arith}
 use borrow.Author.Needs.{needs}
 use lib.ListN.{length, drop, getD}
-use Rattle.listing.specs.Listing.{nameText, ascii}
+use Rattle.characters.specs.Characters.{asciiOf}
+use Rattle.listing.specs.Listing.{nameText}
 use Rattle.texts.proofs.Writing.{Leads, leads-on, leads-end}
 use Rattle.listing.proofs.Texts.{name-stops, name-more, name-ends}
 use Rattle.listing.proofs.put_letters.Statement.{statement}
@@ -52,7 +53,7 @@ loop-again c =
     let p = c .before .before .put-byte in
     let x = c .before .before .before .before .before .before .before .before .before .args .t3 in
     let s : length x ≡ 8 = search needs in
-    let e : nameText (drop (l .k) x) ≡ (ascii (getD x (l .k) 0) ∷ []) ++ nameText (drop (l .k + 1) x) =
+    let e : nameText (drop (l .k) x) ≡ (asciiOf (getD x (l .k) 0) ∷ []) ++ nameText (drop (l .k + 1) x) =
     name-more x (l .k) (omega arith) (c .before .before .before .before .before .if1 .left) in
     (leads-on (rw (e, ← c .before .before .before .to-ascii .ensures) at (l .inv .0)) (p .ensures), omega arith, p .kept .0 ∙ l .inv .2)
 

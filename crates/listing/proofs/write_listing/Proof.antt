@@ -1,19 +1,17 @@
 -- The header and the lines, or that the image is bad.
 use mathlib.Core.Path.{_≡_}
-use mathlib.Core.Bool.{true, false, _&&_}
-use lib.Dec.{leb}
-use Rattle.geometry.specs.Sizes.{sectorsOf}
+use mathlib.Core.Bool.{true, false}
 use Rattle.mounting.specs.Mounting.{mounts}
 use Rattle.texts.specs.Texts.{spelled}
-use Rattle.listing.specs.Listing.{header, badImage}
+use Rattle.listing.specs.Listing.{header, badImage, lists}
 use Rattle.texts.proofs.Writing.{then, ends-at}
 use Rattle.listing.proofs.Texts.{good-listing, bad-listing}
 use borrow.Author.Needs.{needs}
 use Rattle.listing.proofs.write_listing.Statement.{statement}
 use Rattle.listing.proofs.write_listing.Tie as tie
 
-sectors-of-requires : tie.Need-sectors-of-requires
-sectors-of-requires c κs = search needs
+is-short-requires : tie.Need-is-short-requires
+is-short-requires c κs = search needs
 
 mounts-requires : tie.Need-mounts-requires
 mounts-requires c κs = search needs
@@ -42,7 +40,7 @@ returns c =
     let p = c .before .before .before .before .before .before in
     let i = p .before .before .before in
     let image = i .before .before .before .before .before .args .image .now in
-    let g : (leb (sectorsOf image) 180 && mounts image) ≡ true = rw (i .before .before .sectors-of .ensures, i .before .mounts .ensures) at (i .if1 .taken) in
+    let g : lists image ≡ true = rw (i .before .before .is-short .ensures, i .before .mounts .ensures) at (i .if1 .taken) in
     let w = then (p .put-all .ensures) (c .before .before .put-lines .ensures) in
     rw (good-listing image g) (ends-at w, w .puts)
 
@@ -54,7 +52,7 @@ unfolding badImage spelled
 returns-2 c =
     let i = c .before .before .before .before .before in
     let image = i .before .before .before .before .before .args .image .now in
-    let g : (leb (sectorsOf image) 180 && mounts image) ≡ false = rw (i .before .before .sectors-of .ensures, i .before .mounts .ensures) at (i .if1 .left) in
+    let g : lists image ≡ false = rw (i .before .before .is-short .ensures, i .before .mounts .ensures) at (i .if1 .left) in
     let w = c .before .before .put-all2 .ensures in
     rw (bad-listing image g) (ends-at w, w .puts)
 
@@ -62,7 +60,7 @@ pub write-listing-spec : {M : Type 1} → statement M
 write-listing-spec =
     tie.close
     (tie.spec
-    sectors-of-requires
+    is-short-requires
     mounts-requires
     slice-aggregate-put-all
     put-all-requires

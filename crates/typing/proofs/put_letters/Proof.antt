@@ -8,12 +8,12 @@ use borrow.Author.Needs.{needs}
 use lib.ListN.{length, drop, getD, drop-of-length-le}
 use lib.Seq.{drop-cons}
 use Rattle.texts.proofs.Writing.{Leads, leads-on, leads-end}
-use Rattle.typing.specs.Typing.{ebcdic}
+use Rattle.typing.specs.Typing.{typedCode}
 use Rattle.typing.proofs.put_letters.Statement.{statement}
 use Rattle.typing.proofs.put_letters.Tie as tie
 
 abbrev Inv-loop : tie.InvT-loop
-Inv-loop out₀ text a₀ k₀ out a k = Leads out₀ 0 (map ebcdic text) out a (map ebcdic (drop k text)) × (k ≤ length text) × (length out ≡ length out₀)
+Inv-loop out₀ text a₀ k₀ out a k = Leads out₀ 0 (map typedCode text) out a (map typedCode (drop k text)) × (k ≤ length text) × (length out ≡ length out₀)
 
 abbrev μ-loop : tie.MeasureT-loop
 μ-loop out₀ text a₀ k₀ out a k = length text - k
@@ -21,11 +21,11 @@ abbrev μ-loop : tie.MeasureT-loop
 loop-holds : tie.Need-loop-holds Inv-loop μ-loop
 loop-holds c = (λ new b w. w, omega arith, refl)
 
-shared-slice-read-to-ebcdic : tie.Need-shared-slice-read-to-ebcdic Inv-loop μ-loop
-shared-slice-read-to-ebcdic c = search needs
+shared-slice-read-typed-code : tie.Need-shared-slice-read-typed-code Inv-loop μ-loop
+shared-slice-read-typed-code c = search needs
 
-to-ebcdic-requires : tie.Need-to-ebcdic-requires Inv-loop μ-loop
-to-ebcdic-requires c κs = search needs
+typed-code-requires : tie.Need-typed-code-requires Inv-loop μ-loop
+typed-code-requires c κs = search needs
 
 put-byte-requires : tie.Need-put-byte-requires Inv-loop μ-loop
 put-byte-requires c κs = search needs
@@ -41,8 +41,8 @@ loop-again c =
     let l = c .before .before .before .before .before .before .before .loop in
     let p = c .before .before .put-byte in
     let xs = c .before .before .before .before .before .before .before .before .before .before .args .text .now in
-    let e : map ebcdic (drop (l .k) xs) ≡ (ebcdic (getD xs (l .k) 0) ∷ []) ++ map ebcdic (drop (l .k + 1) xs) = rw (drop-cons xs (l .k) 0 (omega arith), add-one) in
-    (leads-on (rw (e, ← c .before .before .before .to-ebcdic .ensures) at (l .inv .0)) (p .ensures), omega arith, p .kept .0 ∙ l .inv .2)
+    let e : map typedCode (drop (l .k) xs) ≡ (typedCode (getD xs (l .k) 0) ∷ []) ++ map typedCode (drop (l .k + 1) xs) = rw (drop-cons xs (l .k) 0 (omega arith), add-one) in
+    (leads-on (rw (e, ← c .before .before .before .typed-code .ensures) at (l .inv .0)) (p .ensures), omega arith, p .kept .0 ∙ l .inv .2)
 
 same-length : tie.Need-same-length Inv-loop μ-loop
 same-length c = c .before .loop .inv .2
@@ -61,8 +61,8 @@ put-letters-spec =
     Inv-loop
     μ-loop
     loop-holds
-    shared-slice-read-to-ebcdic
-    to-ebcdic-requires
+    shared-slice-read-typed-code
+    typed-code-requires
     put-byte-requires
     add-k
     loop-less

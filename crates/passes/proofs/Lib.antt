@@ -1,0 +1,10 @@
+pub mod Rooms
+pub mod Records
+pub mod Named
+pub mod Asks
+pub mod Lines
+pub mod Opened
+pub mod Begun
+pub mod Quiet
+pub mod Stays
+pub mod Passes

@@ -1,0 +1,76 @@
+-- `show_cases::show_all` is safe and ends: the number of the case grows to a bound, and the rooms stay.
+use mathlib.Core.Path.{_≡_}
+use Prim.Native.Nat.{_-_}
+use lib.ListN.{length}
+use borrow.Author.Needs.{needs}
+use Rattle.show_cases.proofs.show_all.Statement.{statement}
+use Rattle.show_cases.proofs.show_all.Tie as tie
+
+abbrev Inv-loop : tie.InvT-loop
+Inv-loop f whole₀ room₀ n₀ k₀ whole room n k = (length whole ≡ length whole₀) × (length room ≡ length room₀)
+
+abbrev μ-loop : tie.MeasureT-loop
+μ-loop f whole₀ room₀ n₀ k₀ whole room n k = 1000000 - k
+
+loop-holds : tie.Need-loop-holds Inv-loop μ-loop
+loop-holds c = search needs
+
+read-header-requires : tie.Need-read-header-requires Inv-loop μ-loop
+read-header-requires c κs = search needs
+
+enum-known-ahead : tie.Need-enum-known-ahead Inv-loop μ-loop
+enum-known-ahead c = search needs
+
+show-case-requires : tie.Need-show-case-requires Inv-loop μ-loop
+show-case-requires c κs = search needs
+
+enum-told : tie.Need-enum-told Inv-loop μ-loop
+enum-told c = search needs
+
+same-length : tie.Need-same-length Inv-loop μ-loop
+same-length c = search needs
+
+same-length-2 : tie.Need-same-length-2 Inv-loop μ-loop
+same-length-2 c = search needs
+
+returns : tie.Need-returns Inv-loop μ-loop
+returns c = search needs
+
+add-k : tie.Need-add-k Inv-loop μ-loop
+add-k c = search needs
+
+loop-less : tie.Need-loop-less Inv-loop μ-loop
+loop-less c = search needs
+
+loop-again : tie.Need-loop-again Inv-loop μ-loop
+loop-again c = search needs
+
+same-length-3 : tie.Need-same-length-3 Inv-loop μ-loop
+same-length-3 c = search needs
+
+same-length-4 : tie.Need-same-length-4 Inv-loop μ-loop
+same-length-4 c = search needs
+
+returns-2 : tie.Need-returns-2 Inv-loop μ-loop
+returns-2 c = search needs
+
+pub show-all-spec : {M : Type 1} → statement M
+show-all-spec =
+    tie.close
+    (tie.spec
+    Inv-loop
+    μ-loop
+    loop-holds
+    read-header-requires
+    enum-known-ahead
+    show-case-requires
+    enum-told
+    same-length
+    same-length-2
+    returns
+    add-k
+    loop-less
+    loop-again
+    same-length-3
+    same-length-4
+    returns-2)

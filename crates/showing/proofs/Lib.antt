@@ -1,0 +1,4 @@
+pub mod Lines
+pub mod Named
+pub mod Opened
+pub mod Read
