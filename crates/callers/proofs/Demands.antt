@@ -18,11 +18,12 @@ use Rattle.demands.specs.Demand1.{Proper, ProperEdit, Orderly, Passes, Passing}
 use Rattle.demands.specs.Demand2.{closing, Faithful, CountsStored}
 use Rattle.promises.specs.Buffer.{deskAt, Buffered, Buffering}
 use Rattle.promises.specs.Granules.{GranuleWrites}
+use Rattle.promises.specs.Quiet.{Quiet}
 use Rattle.promises.specs.Writes.{plainCount, bufferedCount, inRun, allDone, Counted, Writing}
 use Rattle.demands.proofs.Sound.{sound-image}
 use Rattle.callers.specs.Lent.{engineOf, readBy, storedBy, lentEngine}
-use Rattle.callers.proofs.Kept.{orderly, passing, faithful, counts, granules, same, starts, meets, edit-goes}
-use Rattle.callers.proofs.Runs.{opened, read-left, opened-then, read-edited, opened-edit, run-sum, run-done, then-reports, then-heard, then-models, then-answer, then-image-of}
+use Rattle.callers.proofs.Kept.{orderly, passing, faithful, counts, granules, quiet, same, starts, meets, edit-goes}
+use Rattle.callers.proofs.Runs.{opened, read-left, opened-then, read-edited, opened-edit, run-sum, run-done, then-reports, then-heard, then-models, then-answer, then-image, then-image-of}
 use Rattle.requests.specs.declared.Edit.{Edit}
 use Rattle.requests.specs.declared.Request.{Request}
 
@@ -143,6 +144,11 @@ module _ (u : Bool) where
         let e = then-image-of u image asked fit (closing i) in
         (ap (λ (x : List ℕ). entryAt (tableOf x) i .count) e ∙ p .0, ap (λ (x : List ℕ). entryAt (tableOf x) i .flags) e ∙ p .1);
   }
+
+  -- ---- what only reads
+
+  pub lent-quiet : Quiet E
+  lent-quiet = record { stays = λ image asked fit h. then-image u image asked fit ∙ quiet u .stays image asked fit h }
 
   -- ---- granules
 

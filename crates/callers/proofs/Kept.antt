@@ -1,15 +1,17 @@
 -- What lent bytes keep of an engine's sessions: what a mounting hands out and what a request leaves fits them, so it is read back.
-use mathlib.Core.Path.{_≡_, refl, ap, _∙_}
+use mathlib.Core.Path.{_≡_, refl, sym, ap, _∙_}
 use mathlib.Core.Bool.{Bool, true, false}
 use mathlib.Core.List.{List}
 use Prim.Native.Nat.{ℕ}
-use Rattle.mounting.specs.Mounting.{plainMount, bufferedMount}
-use Rattle.sessions.specs.Session.{bufferedLegal}
+use Rattle.directory.specs.Entries.{tableOf}
+use Rattle.mounting.specs.Mounting.{mounts, startWith, plainMount, bufferedMount}
+use Rattle.sessions.specs.Session.{unheld, bufferedLegal}
 use Rattle.storing.specs.Fits.{sessionFits, bufferedFits}
 use Rattle.storing.specs.Stored.{isSession, sessionIn, plainIn}
 use Rattle.storing.proofs.Illegal.{none-legal}
 use Rattle.storing.proofs.Laws.{stored-kept, buffered-told, buffered-back, plain-told, plain-back, plain-kept}
 use Rattle.storing.proofs.Read.{plain-holds-nothing}
+use Rattle.serving.proofs.Mounted.{mounted-session}
 use Rattle.demands.specs.Engine.{areBytes, sound}
 use Rattle.demands.specs.Demand1.{Orderly, Passing}
 use Rattle.demands.specs.Demand2.{Faithful, CountsStored}
@@ -19,8 +21,10 @@ use Rattle.demands.proofs.Plain.{plain-faithful}
 use Rattle.demands.proofs.Orderly.{plain-orderly, buffered-orderly}
 use Rattle.demands.proofs.Passing.{plain-passing, buffered-passing}
 use Rattle.promises.specs.Granules.{GranuleWrites}
+use Rattle.promises.specs.Quiet.{Quiet}
 use Rattle.promises.proofs.Granules.{plain-granules, buffered-granules}
-use Rattle.callers.specs.Lent.{engineOf, readBy, storedBy}
+use Rattle.promises.proofs.Quiet.{plain-quiet, buffered-quiet}
+use Rattle.callers.specs.Lent.{engineOf, readBy, storedBy, lentEngine}
 use Rattle.editing.proofs.Fits.{plain-edited-fits, edited-fits}
 use Rattle.callers.proofs.Held.{bare-fits, fits-sound, step-fits, step-met-fits}
 use Rattle.callers.proofs.Next.{plain-fits}
@@ -55,6 +59,10 @@ pub granules : (u : Bool) → GranuleWrites (engineOf u)
 granules true = buffered-granules
 granules false = plain-granules
 
+pub quiet : (u : Bool) → Quiet (engineOf u)
+quiet true = buffered-quiet
+quiet false = plain-quiet
+
 -- ---- what is read
 
 seen-is : (u : Bool) (b : List ℕ) → engineOf u .seen (readBy u b) ≡ sessionIn u b
@@ -88,6 +96,17 @@ with-none s h = (plain-told s h, plain-back s h)
 pub starts : (u : Bool) (image : List ℕ) → Back u (engineOf u .mount image .session)
 starts true image = with-buffers (bufferedMount image .session) (mount-fits-buffered image)
 starts false image = with-none (plainMount image .session) (mount-fits image)
+
+-- the table of the session that is stored is the image's directory
+pub stored-table : (u : Bool) (image : List ℕ) → mounts image ≡ true → sessionIn u (lentEngine u .mount image .session) .table ≡ tableOf image
+unfolding unheld startWith
+stored-table u image ok =
+    ap (λ (s : BufferedSession). s .table) (sym (seen-is u _) ∙ ap (engineOf u .seen) (starts u image .1) ∙ mount-seen u)
+    ∙ ap (λ (s : Session). s .table) (mounted-session image ok)
+  where
+    mount-seen : (v : Bool) → engineOf v .seen (engineOf v .mount image .session) ≡ unheld (plainMount image .session)
+    mount-seen true = unfold bufferedMount in refl
+    mount-seen false = refl
 
 plain-goes : (image b : List ℕ) (i : ℕ) (q : Request) (given buffer : List ℕ) → Back false (engineOf false .request image (plainIn b) i q given buffer .session)
 plain-goes image b i q given buffer = with-none _ (plain-fits image (plainIn b) (bare-fits (sessionIn false b) (read-fits false b)) i q given buffer)

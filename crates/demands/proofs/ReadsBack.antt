@@ -58,7 +58,7 @@ module _ (f : Facts) (legal : f .legal ≡ true) (used : eqb (f .kind) free ≡ 
     unfolding judge tests firstOf orElse whether
     skips = rw (legal, used, opened, sequential, before, good, lt-leb (f .count) (f .position) ahead)
 
-    reads : f .length ≤ f .buffer → judge Read f ≡ Done
+    pub reads : f .length ≤ f .buffer → judge Read f ≡ Done
     unfolding judge tests firstOf orElse whether
     reads h = rw (legal, used, opened, sequential, before, le-ltb (f .buffer) (f .length) h, good, lt-leb (f .count) (f .position) ahead)
 

@@ -6,6 +6,7 @@ use mathlib.Core.List.{List, [], _∷_, _++_}
 use Prim.Native.Nat.{ℕ}
 use lib.ListN.{length}
 use Rattle.geometry.specs.Bytes.{lay}
+use Rattle.geometry.specs.Lists.{every}
 use Rattle.mounting.specs.Mounting.{mounts}
 use Rattle.requests.specs.Judge.{judge}
 use Rattle.storing.specs.Stored.{hasBuffers}
@@ -31,11 +32,16 @@ ask i q buffer = record { entry = i; request = q; given = []; buffer = buffer }
 abbrev pub more : List Asking → ℕ → Request → List ℕ → List Asking
 more asked i q buffer = asked ++ (ofFile (ask i q buffer) ∷ [])
 
+-- nothing is asked yet
+pub nothing-asked : (image : List ℕ) → areBytes image ≡ true → inBytes image [] ≡ true
+unfolding inBytes every
+nothing-asked image bytes = rw bytes
+
 module _ (u : Bool) where
   abbrev E : Engine
   E = lentEngine u
 
-  pub asked-is : (w : Standing (List ℕ)) (i : ℕ) (q : Request) (buffer : List ℕ) → hasBuffers (w .session) ≡ u
+  asked-is : (w : Standing (List ℕ)) (i : ℕ) (q : Request) (buffer : List ℕ) → hasBuffers (w .session) ≡ u
       → requested (w .image) (w .session) i q [] buffer ≡ answered E w (ask i q buffer)
   unfolding answered
   asked-is w i q buffer t =

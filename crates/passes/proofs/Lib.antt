@@ -5,6 +5,5 @@ pub mod Asks
 pub mod Lines
 pub mod Opened
 pub mod Begun
-pub mod Quiet
 pub mod Stays
 pub mod Passes

@@ -9,7 +9,7 @@ use native.Mathlib.Decide.{decLt}
 use native.Mathlib.Numerals.{add-one}
 use lib.ListN.{length, take, drop, getD, drop-of-length-le}
 use lib.Seq.{length-sets, length-front, length-take-le, drop-cons}
-use borrow.Author.Tests.{le-leb, lt-leb, le-ltb}
+use borrow.Author.Tests.{le-leb, le-ltb}
 use Rattle.geometry.proofs.Bytes.{lay-all}
 use Rattle.mounting.specs.Mounting.{mounts}
 use Rattle.packing.specs.Reading.{Recorded}
@@ -27,6 +27,7 @@ use Rattle.tapes.specs.Tape.{Tape, standing, tapeFacts, tapeDone, tapeNext, tap
 use Rattle.tapes.specs.Model.{tape, modelAt, modelFacts, modelNext, modelRecord, modelInto, openModels, ifDone}
 use Rattle.tapes.specs.Runs.{Asking}
 use Rattle.demands.specs.Engine.{Engine, Standing, answered, stepOf, modelsThen, inBytes}
+use Rattle.demands.proofs.ReadsBack.{reads}
 use Rattle.showing.specs.Lines.{lineOf, printed}
 use Rattle.showing.specs.Showing.{readInto, roomAfter}
 use Rattle.callers.specs.Lent.{lentEngine}
@@ -73,8 +74,8 @@ module _ (files size : ℕ) (t : Tape) (listed : Listed t) (enough : t .shape .r
   verdict = judge Read (tapeFacts files [] size (standing t true p false))
 
   reads-on : p < length (t .records) → verdict ≡ Done
-  unfolding judge tests firstOf orElse whether tapeFacts
-  reads-on h = rw (listed .used, listed .sequential, le-ltb size (t .shape .recordLength) enough, lt-leb (length (t .records)) p h)
+  unfolding tapeFacts
+  reads-on h = reads _ refl (listed .used) refl (listed .sequential) refl refl h enough
 
   meets-end : length (t .records) ≤ p → verdict ≡ whether (t .marked) (Met EndOfFile) (Refused WrongSequence)
   unfolding judge tests firstOf orElse whether tapeFacts
@@ -155,8 +156,8 @@ module _ (u : Bool) (image : List ℕ) (ok : mounts image ≡ true) (i : ℕ) (t
         go true e = unfold printed whether in ends k _ _ i R out room r call 0 (ap numberOf e) refl
         go false e = unfold printed whether in ends k _ _ i R out room r call 6 (ap numberOf e) refl
 
-  pub lines-are : (k p : ℕ) (asked : List Asking) → inBytes image asked ≡ true → StandsAt p asked → (out : List ℕ) → R < length out → length (t .records) < k + p
-      → linesThen k asked out ≡ linesOf (drop p (t .records))
+  pub lines-are : (k p : ℕ) (asked : List Asking) → inBytes image asked ≡ true → StandsAt p asked → (out : List ℕ) → R < length out
+      → length (t .records) < k + p → linesThen k asked out ≡ linesOf (drop p (t .records))
   unfolding linesBy linesOf
   lines-are zero p asked fit here out room h = sym (no-lines (t .records) p (omega arith))
   lines-are (suc k) p asked fit here out room h =
@@ -166,7 +167,8 @@ module _ (u : Bool) (image : List ℕ) (ok : mounts image ≡ true) (i : ℕ) (t
       (omega arith))
     where
       go : Dec (p < length (t .records))
-          → (p < length (t .records) → (out′ : List ℕ) → R < length out′ → linesThen k (more asked i Read (take R out)) out′ ≡ linesOf (drop (p + 1) (t .records)))
+          → (p < length (t .records) → (out′ : List ℕ) → R < length out′
+          → linesThen k (more asked i Read (take R out)) out′ ≡ linesOf (drop (p + 1) (t .records)))
           → linesThen (suc k) asked out ≡ linesOf (drop p (t .records))
       go (yes l) rest =
           line-then p asked fit here out room l k (linesOf (drop (p + 1) (t .records))) (rest l) ∙ rw (add-one p, drop-cons (t .records) p nowhere l)

@@ -4,7 +4,7 @@ use mathlib.Core.Bool.{Bool, true, false, _&&_, not, and-false}
 use mathlib.Core.List.{List, [], _∷_, map}
 use Prim.Native.Nat.{ℕ, suc, _≤_, _<_}
 use lib.Dec.{eqb}
-use lib.ListN.{length, getD, List·getD-map}
+use lib.ListN.{length}
 use borrow.Author.Tests.{eqb-false, not-true, lt-ltb, le-ltb}
 use Rattle.geometry.specs.Lists.{firstWith, same}
 use Rattle.geometry.specs.Sizes.{random}
@@ -18,6 +18,7 @@ use Rattle.tapes.specs.Row.{rowOf}
 use Rattle.tapes.specs.Tape.{tapeOf}
 use Rattle.tapes.specs.Model.{nothing, tape, row, shapeOf, modelOf, modelsOf, modelAt}
 use Rattle.tapes.specs.Edits.{ofShape, modelNamed}
+use Rattle.serving.proofs.Mounted.{model-at}
 use Rattle.passes.specs.Pass.{named}
 
 -- ---- what an entry shows
@@ -35,11 +36,6 @@ module _ (image : List ℕ) (e : Entry) where
     pub shows-tape : isKind random e ≡ false → modelOf image e ≡ tape (tapeOf (shapeOf e) (isMarked e) (e .count) (extent e image))
     unfolding modelOf
     shows-tape r = rw (u, r, modelOf)
-
-pub model-at : (image : List ℕ) (i : ℕ) → modelAt (modelsOf image) i ≡ modelOf image (entryAt (tableOf image) i)
-unfolding modelsOf
-model-at image i =
-    ap (getD (map (modelOf image) (tableOf image)) i) (sym (shows-nothing image freeEntry refl)) ∙ List·getD-map (modelOf image) (tableOf image) i freeEntry
 
 -- ---- its name
 

@@ -6,7 +6,7 @@ use Prim.Native.Nat.{ℕ, _≤_, _<_}
 use native.Mathlib.Omega.{arith}
 use lib.Dec.{eqb}
 use lib.ListN.{length}
-use Rattle.geometry.specs.Lists.{every, howMany}
+use Rattle.geometry.specs.Lists.{howMany}
 use Rattle.geometry.specs.Sizes.{free, random, mostRecords}
 use Rattle.directory.specs.Entries.{tableOf, entryAt, isFree, isKind, isMarked}
 use Rattle.directory.specs.declared.Entry.{Entry}
@@ -20,15 +20,15 @@ use Rattle.engines.specs.Engines.{requested}
 use Rattle.tapes.specs.Tape.{Tape, standing, tapeOf, tapeFacts, tapeDone, tapeNext}
 use Rattle.tapes.specs.Model.{tape, shapeOf, modelsOf, modelAt, modelFacts, modelNext, openModels}
 use Rattle.tapes.specs.Runs.{modelRun}
-use Rattle.demands.specs.Engine.{Engine, Standing, answered, stepOf, run, heard, mounted, modelsThen, areBytes, inBytes}
-use Rattle.serving.proofs.Mounted.{mounted-stands, mounted-view}
+use Rattle.demands.specs.Engine.{Engine, Standing, answered, stepOf, run, heard, mounted, modelsThen, areBytes}
+use Rattle.serving.proofs.Mounted.{model-at, mounted-stands, mounted-view}
 use Rattle.serving.proofs.View.{open-view}
 use Rattle.callers.specs.Lent.{lentEngine}
 use Rattle.passes.specs.Pass.{linesOf}
 use Rattle.passes.specs.Printed.{linesBy, longestLine}
-use Rattle.passes.proofs.Asks.{ask, more, more-fit, call-is, more-is, answers, more-here}
+use Rattle.passes.proofs.Asks.{ask, more, nothing-asked, more-fit, call-is, more-is, answers, more-here}
 use Rattle.passes.proofs.Lines.{lines-are}
-use Rattle.passes.proofs.Named.{shows-tape, model-at}
+use Rattle.passes.proofs.Named.{shows-tape}
 use Rattle.passes.proofs.Records.{Listed, listed}
 
 none-open : (image : List ℕ) → mounts image ≡ true → openModels (modelsOf image) ≡ 0
@@ -51,10 +51,6 @@ module _ (u : Bool) (image : List ℕ) (ok : mounts image ≡ true) (bytes : are
   abbrev e : Entry
   e = entryAt (tableOf image) i
 
-  nothing-asked : inBytes image [] ≡ true
-  unfolding inBytes every
-  nothing-asked = rw bytes
-
   module _ (used : isFree e ≡ false) (sequential : isKind random e ≡ false) where
     abbrev t : Tape
     t = tapeOf (shapeOf e) (isMarked e) (e .count) (extent e image)
@@ -69,15 +65,15 @@ module _ (u : Bool) (image : List ℕ) (ok : mounts image ≡ true) (bytes : are
 
     pub open-call : requested image (E .mount image .session) i Open [] [] ≡ opened u image i
     unfolding run mounted
-    open-call = call-is u image [] nothing-asked i Open []
+    open-call = call-is u image [] (nothing-asked image bytes) i Open []
 
     pub open-done : opened u image i .answer ≡ Done
     unfolding run
-    open-done = answers u image [] nothing-asked i Open [] ok (tape t) here ∙ judged
+    open-done = answers u image [] (nothing-asked image bytes) i Open [] ok (tape t) here ∙ judged
 
     then-here : modelAt (modelsThen E image (more [] i Open [])) i ≡ tape (standing t true 0 false)
     unfolding modelNext tapeNext tapeDone
-    then-here = more-here u image [] nothing-asked i Open [] ok (tape t) here ∙ rw judged
+    then-here = more-here u image [] (nothing-asked image bytes) i Open [] ok (tape t) here ∙ rw judged
 
     -- and its lines are printed
     pub opened-lines : (k : ℕ) (out : List ℕ) → longestLine ≤ length out → mostRecords < k
@@ -85,6 +81,6 @@ module _ (u : Bool) (image : List ℕ) (ok : mounts image ≡ true) (bytes : are
     unfolding run stepOf tapeOf shapeOf
     opened-lines k out room many =
         let l : Listed t = listed image ok i used sequential in
-        ap (λ (v : Standing (List ℕ)). linesBy k (v .image) (v .session) i (e .length) out) (sym (more-is u image [] nothing-asked i Open []))
-        ∙ lines-are u image ok i t l k 0 (more [] i Open []) (more-fit u image [] nothing-asked i Open []) then-here out
+        ap (λ (v : Standing (List ℕ)). linesBy k (v .image) (v .session) i (e .length) out) (sym (more-is u image [] (nothing-asked image bytes) i Open []))
+        ∙ lines-are u image ok i t l k 0 (more [] i Open []) (more-fit u image [] (nothing-asked image bytes) i Open []) then-here out
         (omega (arith, l .short)) (omega (arith, l .few))

@@ -84,7 +84,8 @@ module _ (u : Bool) (image b typed out : List ℕ) (k : ℕ) (l : length b ≡ s
         ∙ sym (listing-is ∙ ap passOf (shows-row image e used r)))
         (λ (r : isKind random e ≡ false).
         begins k image b typed out i (e .length) (opened u image i)
-        (begun-opened u image b l typed short ok i found used r ∙ ap (openedAs i (e .length)) (open-call u image ok bytes i used r)) (open-done u image ok bytes i used r)
+        (begun-opened u image b l typed short ok i found used r ∙ ap (openedAs i (e .length)) (open-call u image ok bytes i used r))
+        (open-done u image ok bytes i used r)
         ∙ opened-lines u image ok bytes i used r k out room many
         ∙ sym (listing-is ∙ ap passOf (shows-tape image e used r)))
       where
@@ -105,4 +106,4 @@ module _ (u : Bool) (image b typed out : List ℕ) (k : ℕ) (l : length b ≡ s
   prints = either (lists image) good bad
 
 pub pass-listing : PassListing
-pass-listing = record { prints = prints; keeps = λ u image b typed out k l bytes. listing-leaves u image bytes b typed out k l }
+pass-listing = record { prints = prints; keeps = λ u image b typed out k l bytes. listing-leaves u image bytes b l typed out k }

@@ -7,9 +7,8 @@ use Prim.Native.Nat.{ℕ, _≤_, _<_}
 use native.Mathlib.Omega.{arith}
 use lib.ListN.{length, getD}
 use lib.Dec.{eqb}
-use borrow.Author.Tests.{eq-eqb}
 use Rattle.geometry.specs.Places.{placeOf, byteOf, origin}
-use Rattle.geometry.specs.Sizes.{sector, free, blocked, compressed, random, mostRecords}
+use Rattle.geometry.specs.Sizes.{free, blocked, compressed, random, mostRecords}
 use Rattle.geometry.proofs.Bytes.{length-part}
 use Rattle.geometry.proofs.Places.{record-inside}
 use Rattle.geometry.proofs.Tests.{either}
@@ -24,15 +23,17 @@ use Rattle.sessions.specs.Session.{idle, extent}
 use Rattle.tapes.specs.Tape.{Tape, fixedRecord, recordsIn, tapeOf}
 use Rattle.tapes.specs.Model.{shapeOf}
 use Rattle.serving.proofs.ByRule.{length-listOf, getD-listOf}
-use Rattle.serving.proofs.Fixed.{records-fixed}
+use Rattle.serving.proofs.Fixed.{blocked-small, records-fixed}
 use Rattle.serving.proofs.Mounted.{mounted-stands, nothing-open}
 use Rattle.serving.proofs.Solo.{Sound}
+use Rattle.serving.proofs.Taped.{of-both}
 
 longest-most : (kind : ℕ) → longest kind ≤ 3600
 unfolding longest
-longest-most kind = either (eqb kind blocked) (λ (b : eqb kind blocked ≡ true). rw (b, longest) (omega arith))
-    λ (b : eqb kind blocked ≡ false). either (eqb kind compressed) (λ (c : eqb kind compressed ≡ true). rw (b, c, longest) (omega arith))
-    (λ (c : eqb kind compressed ≡ false). rw (b, c, longest) (omega arith))
+longest-most kind = of-both Short (eqb kind blocked) (omega arith) (of-both Short (eqb kind compressed) (omega arith) (omega arith))
+  where
+    Short : ℕ → Type 0
+    Short n = n ≤ 3600
 
 -- so many records, each of so many bytes
 pub record Even (R n : ℕ) (rs : List Recorded) : Type 0 where
@@ -61,16 +62,14 @@ module _ (e : Entry) (bytes : List ℕ) (s : Sound e idle bytes) where
     long = λ p l. ap (λ (x : Recorded). length (x .bytes)) (getD-listOf (fixedRecord (shapeOf e) bytes) (e .count) p nowhere l) ∙ long-at p l;
   })
     where
-      small : e .kind ≡ blocked → e .length ≤ sector
-      small b = unfold longest in let h : e .length ≤ longest (e .kind) = s .lawful .short in rw (eq-eqb (e .kind) blocked b, longest) at h
-
       long-at : (p : ℕ) → p < e .count → length (fixedRecord (shapeOf e) bytes p .bytes) ≡ e .length
       long-at p l = unfold fixedRecord shapeOf in
           length-part bytes (byteOf (placeOf (e .kind) (e .length) p)) (e .length)
           (omega (
             arith,
             s .size,
-            record-inside (e .kind) (e .length) (omega (arith, s .lawful .long)) small p (e .sectors) (omega (arith, s .lawful .counted k r)),
+            record-inside (e .kind) (e .length) (omega (arith, s .lawful .long)) (blocked-small e (s .lawful .short)) p (e .sectors)
+                (omega (arith, s .lawful .counted k r)),
           ))
 
 -- a tape whose file can be listed

@@ -1,10 +1,10 @@
 -- What a call prints stands whole in a room of at least as many bytes: a line is a record's bytes, some dropped, and one behind them.
-use mathlib.Core.Path.{_≡_, ap, _∙_}
+use mathlib.Core.Path.{_≡_, _∙_}
 use mathlib.Core.List.{List, [], _∷_, _++_, map}
-use Prim.Native.Nat.{ℕ, _+_, _≤_, _<_, min}
+use Prim.Native.Nat.{ℕ, _+_, _≤_, _<_}
 use native.Mathlib.Omega.{arith}
-use lib.ListN.{length, take, drop, length-append, length-take, length-map}
-use lib.Seq.{sets, sets-eq, take-append-seam}
+use lib.ListN.{length, take, length-append, length-take, length-map}
+use lib.Seq.{take-all}
 use borrow.Author.Tests.{lt-ltb}
 use Rattle.coding.specs.Encode.{keeps}
 use Rattle.characters.specs.Characters.{asciiOf}
@@ -12,15 +12,12 @@ use Rattle.texts.specs.Texts.{spelled, decimal}
 use Rattle.texts.proofs.Reading.{digits-count}
 use Rattle.showing.specs.Lines.{lineOf, answerLine}
 use Rattle.showing.specs.Showing.{roomFor}
+use Rattle.showing.proofs.Named.{put-front}
 use Rattle.passes.specs.Printed.{textIn}
 
 pub text-whole : (room xs : List ℕ) → length xs ≤ length room → textIn room xs ≡ xs
 unfolding textIn
-text-whole room xs h =
-    let m : min (length xs) (length room) ≡ length xs = omega arith in
-    ap (λ (n : ℕ). take n (sets room 0 xs)) m
-    ∙ ap (take (length xs)) (sets-eq xs room 0 (omega arith))
-    ∙ take-append-seam xs (drop (0 + length xs) room)
+text-whole room xs h = put-front room xs ∙ take-all (length room) xs h
 
 pub text-none : (room : List ℕ) → textIn room [] ≡ []
 text-none room = text-whole room [] (omega arith)
@@ -29,10 +26,8 @@ pub line-most : (bytes : List ℕ) → length (lineOf bytes) ≤ length bytes + 
 unfolding lineOf
 line-most bytes =
     let n : ℕ = keeps (length bytes) bytes in
-    let a : length (map asciiOf (take n bytes) ++ (10 ∷ [])) ≡ length (map asciiOf (take n bytes)) + 1 = length-append (map asciiOf (take n bytes)) (10 ∷ []) in
-    let b : length (map asciiOf (take n bytes)) ≡ length (take n bytes) = length-map (take n bytes) asciiOf in
-    let c : length (take n bytes) ≡ min n (length bytes) = length-take n bytes in
-    omega arith
+    let kept : List ℕ = take n bytes in
+    omega (arith, length-append (map asciiOf kept) (10 ∷ []), length-map kept asciiOf, length-take n bytes)
 
 -- room for a record where a byte is left behind it
 pub room-for : (R : ℕ) (out : List ℕ) → R < length out → roomFor R out ≡ R

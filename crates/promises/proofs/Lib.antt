@@ -3,6 +3,7 @@ pub mod States
 pub mod Buffering
 pub mod Holding
 pub mod Writes
+pub mod Quiet
 pub mod Granules
 pub mod Editable
 pub mod Adding

@@ -18,7 +18,7 @@ use Rattle.geometry.specs.Places.{perSector, placeOf, sectorsFor}
 use Rattle.geometry.specs.Sizes.{blocked}
 use Rattle.geometry.proofs.Bytes.{lay-nil}
 use Rattle.geometry.proofs.Places.{blocked-shares, place-shared}
-use Rattle.geometry.proofs.Tests.{either, chosen, and-left, and-right, and-both}
+use Rattle.geometry.proofs.Tests.{chosen, and-left, and-right, and-both}
 use Rattle.directory.specs.Entries.{entryAt, freeEntry, isFree, isKind}
 use Rattle.directory.proofs.Free.{every-append}
 use Rattle.directory.proofs.Good.{used-inside}
@@ -36,6 +36,7 @@ use Rattle.steps.proofs.Answered.{plain-is, buffered-answered, buffered-is}
 use Rattle.steps.proofs.Buffer.{back-cases}
 use Rattle.steps.proofs.Standing.{withBuffer, kept-used, held-file}
 use Rattle.serving.proofs.Keeping.{done}
+use Rattle.serving.proofs.Taped.{of-both}
 use Rattle.settling.proofs.Bench.{takes-held}
 use Rattle.settling.proofs.Next.{entry-shape, shape-at}
 use Rattle.tapes.specs.Model.{Asked}
@@ -344,11 +345,13 @@ take-most k w = go (w .file .holds && eqb (w .file .held) k) (w .file .holds && 
     go false true = omega arith
     go false false = omega arith
 
-take-unchanged : (k : ℕ) (w : Bench) → w .file .changed ≡ false → takeWrites k w ≡ 0
-unfolding takeWrites backWrites
-take-unchanged k w u = either (w .file .holds && eqb (w .file .held) k)
-    (λ (t : (w .file .holds && eqb (w .file .held) k) ≡ true). rw (t, takeWrites))
-    (λ (t : (w .file .holds && eqb (w .file .held) k) ≡ false). rw (t, u, and-false (w .file .holds), takeWrites, backWrites))
+pub back-unchanged : (w : Bench) → w .file .changed ≡ false → backWrites w ≡ 0
+unfolding backWrites
+back-unchanged w u = rw (u, and-false (w .file .holds), backWrites)
+
+pub take-unchanged : (k : ℕ) (w : Bench) → w .file .changed ≡ false → takeWrites k w ≡ 0
+unfolding takeWrites
+take-unchanged k w u = of-both (λ (n : ℕ). n ≡ 0) (w .file .holds && eqb (w .file .held) k) refl (back-unchanged w u)
 
 same-sector : (p n q : ℕ) → p % q ≡ 0 → n < q → (p + n) / q ≡ p / q
 same-sector p n q e l = div-eq-of-lt-le q (omega (arith, div-add-mod' p q)) (omega (arith, div-add-mod' p q))

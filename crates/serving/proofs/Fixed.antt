@@ -63,10 +63,13 @@ nowhere : (s : Shape) (bytes : List ℕ) (n k : ℕ) → behind (listOf (fixedRe
 unfolding behind
 nowhere s bytes n k = behind-bare (listOf (fixedRecord s bytes) n) k (bare s bytes n)
 
+pub blocked-small : (e : Entry) → e .length ≤ longest (e .kind) → e .kind ≡ blocked → e .length ≤ sector
+unfolding longest
+blocked-small e h b = rw (eq-eqb (e .kind) blocked b, longest) at h
+
 module _ (c : Scene) (k : isKind compressed (c .entry) ≡ false) (r : isKind random (c .entry) ≡ false) (s : Sound (c .entry) (c .file) (c .bytes)) where
   small : c .entry .kind ≡ blocked → c .entry .length ≤ sector
-  unfolding longest
-  small e = let h : c .entry .length ≤ longest (c .entry .kind) = s .lawful .short in rw (eq-eqb (c .entry .kind) blocked e, longest) at h
+  small = blocked-small (c .entry) (s .lawful .short)
 
   -- the records before the position
   first : take (c .file .position) (recordsShown (c .entry) (c .bytes)) ≡ listOf (fixedRecord (shapeOf (c .entry)) (c .bytes)) (c .file .position)

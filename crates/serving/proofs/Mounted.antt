@@ -1,10 +1,10 @@
 -- A mounted session shows what the image shows, and so does every session with nothing open: mounting its image afresh gives the same tapes and rows.
 use mathlib.Core.Path.{_≡_, refl, sym, _∙_}
 use mathlib.Core.Bool.{true, false, not}
-use mathlib.Core.List.{List, map}
+use mathlib.Core.List.{List}
 use Prim.Native.Nat.{ℕ, _*_}
 use native.Mathlib.Omega.{arith}
-use lib.ListN.{getD, length-map, List·getD-map}
+use lib.ListN.{length-map, List·getD-map}
 use lib.Seq.{ext-getD}
 use borrow.Author.Tests.{eqb-true, eqb-false, ne-eqb, not-true}
 use Rattle.geometry.specs.Lists.{firstWith}
@@ -26,7 +26,7 @@ use Rattle.steps.proofs.Inside.{lawful}
 use Rattle.steps.proofs.Lawful.{Lawful}
 use Rattle.tapes.specs.Tape.{tapeOf}
 use Rattle.tapes.specs.Row.{rowOf}
-use Rattle.tapes.specs.Model.{Model, nothing, shapeOf, modelOf, modelsOf, isOpenModel, nothingOpen}
+use Rattle.tapes.specs.Model.{Model, nothing, shapeOf, modelOf, modelsOf, modelAt, isOpenModel, nothingOpen}
 use Rattle.serving.proofs.Solo.{shows, Sound}
 use Rattle.serving.proofs.View.{showsAt, view, length-view, view-at, open-at}
 use Rattle.serving.proofs.Lifting.{Stands}
@@ -62,17 +62,18 @@ none-shown : (image : List ℕ) → modelOf image freeEntry ≡ nothing
 unfolding modelOf
 none-shown image = refl
 
+pub model-at : (image : List ℕ) (i : ℕ) → modelAt (modelsOf image) i ≡ modelOf image (entryAt (tableOf image) i)
+unfolding modelsOf
+model-at image i = rw (none-shown image) at (List·getD-map (modelOf image) (tableOf image) i freeEntry)
+
 idle-view : (image : List ℕ) (s : Session) → tableOf image ≡ s .table → ((i : ℕ) → fileOf (s .files) i ≡ idle) → modelsOf image ≡ view image s
 unfolding modelsOf showsAt
 idle-view image s t f =
     ext-getD nothing (modelsOf image) (view image s) (length-map (tableOf image) (modelOf image) ∙ length-table image ∙ sym (length-view image s)) λ i l.
     at-i i ∙ sym (view-at image s (rw (← t) (length-table image)) i)
   where
-    at-i : (i : ℕ) → getD (map (modelOf image) (tableOf image)) i nothing ≡ shows (entryAt (s .table) i) (fileOf (s .files) i) (extent (entryAt (s .table) i) image)
-    at-i i =
-        let g : getD (map (modelOf image) (tableOf image)) i nothing ≡ modelOf image (entryAt (tableOf image) i) =
-        rw (none-shown image) at (List·getD-map (modelOf image) (tableOf image) i freeEntry) in
-        g ∙ rw (t, f i) (idle-shows image (entryAt (s .table) i))
+    at-i : (i : ℕ) → modelAt (modelsOf image) i ≡ shows (entryAt (s .table) i) (fileOf (s .files) i) (extent (entryAt (s .table) i) image)
+    at-i i = model-at image i ∙ rw (t, f i) (idle-shows image (entryAt (s .table) i))
 
 -- ---- mounting
 

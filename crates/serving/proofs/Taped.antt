@@ -65,14 +65,14 @@ pub record Taped (c : Scene) : Type 0 where
       ≡ take (c .file .position) (recordsShown (c .entry) (c .bytes)) ++ (newRecord (c .given) (tapeShown (c .entry) (c .file) (c .bytes)) ∷ [])
 
 -- of both branches, so of the choice
-chosen : {A : Type 0} (P : A → Type 0) (b : Bool) {x y : A} → P x → P y → P (elim b [ true ↦ x | false ↦ y ])
-chosen P true p q = p
-chosen P false p q = q
+pub of-both : {A : Type 0} (P : A → Type 0) (b : Bool) {x y : A} → P x → P y → P (elim b [ true ↦ x | false ↦ y ])
+of-both P true p q = p
+of-both P false p q = q
 
 -- a read changes no byte
 pub own-read : (c : Scene) (bytes : List ℕ) → ownAll (readEffects c) bytes ≡ bytes
 unfolding readEffects ownAll ownDo
-own-read c bytes = chosen Still (isKind blocked (c .entry)) refl (chosen Still (isKind compressed (c .entry)) (chosen Still (goesOn (c .bytes) (c .file .here) && ltb (c .file .here .byte) sector) refl refl) refl)
+own-read c bytes = of-both Still (isKind blocked (c .entry)) refl (of-both Still (isKind compressed (c .entry)) (of-both Still (goesOn (c .bytes) (c .file .here) && ltb (c .file .here .byte) sector) refl refl) refl)
   where
     Still : List Effect → Type 0
     Still xs = ownAll xs bytes ≡ bytes

@@ -1,11 +1,7 @@
 // Prints the pass listing of each case of a file, which its first argument names: an image and a name. What it must print is what the second program, written
-// from the documents alone, says of each case. second/README.md has the form of that file.
+// from the documents alone, says of each case. docs/SHOW.md has the form of that file.
 use case_io::Ahead;
-use case_io::Files;
 use case_io::Header;
-use case_io::close_cases;
-use case_io::make_image;
-use case_io::open_cases;
 use libc::SEEK_CUR;
 use moving::part;
 
@@ -16,35 +12,32 @@ fn show_named(fd: i32, n: usize, image: &mut [u8]) {
     show_io::show(image, part(&name, 0, m));
 }
 
-// Shows a case, whose image has as many bytes as the last whole one, which is given.
-fn show_next(f: Files, h: Header, whole: &[u8], image: &mut [u8]) {
-    let at = libc::lseek(f.cases, 0, SEEK_CUR);
-    make_image(f.cases, at, h, whole, image);
-    show_named(f.cases, case_io::number(h.high, h.low), image);
+// Shows a case on an image of as many bytes as the last whole one, which is given.
+fn show_next(fd: i32, h: Header, whole: &[u8], image: &mut [u8]) {
+    let at = libc::lseek(fd, 0, SEEK_CUR);
+    case_io::make_image(fd, at, h, whole, image);
+    show_named(fd, case_io::number(h.high, h.low), image);
 }
 
-// Shows case number k. The length of the last whole image, which before had n bytes; there is as much room for the case's.
-fn show_case(f: Files, k: u64, h: Header, n: usize, whole: &mut [u8], room: &mut [u8]) -> usize {
-    case_io::print_case(k);
-    let m = case_io::read_whole(f.cases, h, n, whole);
-    if m <= room.len() {
-        show_next(f, h, part(whole, 0, m), &mut room[..m]);
+// The same in a room, which has as many bytes as any image of the cases.
+fn show_in(fd: i32, h: Header, whole: &[u8], room: &mut [u8]) {
+    let n = whole.len();
+    if n <= room.len() {
+        show_next(fd, h, whole, &mut room[..n]);
     }
-    m
 }
 
 // Shows the cases. A proved loop has to end, so it counts the cases up to a number that no file has.
-fn show_all(f: Files, whole: &mut [u8], room: &mut [u8]) {
+fn show_all(fd: i32, whole: &mut [u8], room: &mut [u8]) {
     let mut n = 0;
     let mut k: u64 = 1;
     while k < 1000000 {
-        let ahead = case_io::read_header(f.cases);
-        match ahead {
-            Ahead::Case(h) => {
-                n = show_case(f, k, h, n, whole, room);
-            }
-            Ahead::End => return,
-        }
+        let Ahead::Case(h) = case_io::read_header(fd) else {
+            return;
+        };
+        case_io::print_case(k);
+        n = case_io::read_whole(fd, h, n, whole);
+        show_in(fd, h, part(whole, 0, n), room);
         k += 1;
     }
 }
@@ -52,7 +45,7 @@ fn show_all(f: Files, whole: &mut [u8], room: &mut [u8]) {
 fn main() {
     let mut whole = io::large_buffer();
     let mut room = io::large_buffer();
-    let f = open_cases(1);
-    show_all(f, &mut whole, &mut room);
-    close_cases(f);
+    let fd = arguments::open_read(1);
+    show_all(fd, &mut whole, &mut room);
+    libc::close(fd);
 }

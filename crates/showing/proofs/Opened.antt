@@ -35,7 +35,7 @@ module _ (image b : List ℕ) (i : ℕ) where
   unfolding opening
   random-stops h = chosen (eqb (fieldIn b i 1) random) _ _ (eq-eqb _ _ h)
 
-  other-opens : fieldIn b i 1 ≢ random → opening image b i ≡ openedAs i (fieldIn b i 2) (requested image b i Open [] [])
+  pub other-opens : fieldIn b i 1 ≢ random → opening image b i ≡ openedAs i (fieldIn b i 2) (requested image b i Open [] [])
   unfolding opening
   other-opens h = not-chosen (eqb (fieldIn b i 1) random) _ _ (ne-eqb _ _ h)
 

@@ -7,10 +7,10 @@ use Rattle.show_cases.proofs.show_all.Statement.{statement}
 use Rattle.show_cases.proofs.show_all.Tie as tie
 
 abbrev Inv-loop : tie.InvT-loop
-Inv-loop f whole₀ room₀ n₀ k₀ whole room n k = (length whole ≡ length whole₀) × (length room ≡ length room₀)
+Inv-loop fd whole₀ room₀ n₀ k₀ whole room n k = (length whole ≡ length whole₀) × (length room ≡ length room₀)
 
 abbrev μ-loop : tie.MeasureT-loop
-μ-loop f whole₀ room₀ n₀ k₀ whole room n k = 1000000 - k
+μ-loop fd whole₀ room₀ n₀ k₀ whole room n k = 1000000 - k
 
 loop-holds : tie.Need-loop-holds Inv-loop μ-loop
 loop-holds c = search needs
@@ -18,11 +18,8 @@ loop-holds c = search needs
 read-header-requires : tie.Need-read-header-requires Inv-loop μ-loop
 read-header-requires c κs = search needs
 
-enum-known-ahead : tie.Need-enum-known-ahead Inv-loop μ-loop
-enum-known-ahead c = search needs
-
-show-case-requires : tie.Need-show-case-requires Inv-loop μ-loop
-show-case-requires c κs = search needs
+enum-known-h : tie.Need-enum-known-h Inv-loop μ-loop
+enum-known-h c = search needs
 
 enum-told : tie.Need-enum-told Inv-loop μ-loop
 enum-told c = search needs
@@ -35,6 +32,18 @@ same-length-2 c = search needs
 
 returns : tie.Need-returns Inv-loop μ-loop
 returns c = search needs
+
+print-case-requires : tie.Need-print-case-requires Inv-loop μ-loop
+print-case-requires c κs = search needs
+
+read-whole-requires : tie.Need-read-whole-requires Inv-loop μ-loop
+read-whole-requires c κs = search needs
+
+part-requires : tie.Need-part-requires Inv-loop μ-loop
+part-requires c κs = search needs
+
+show-in-requires : tie.Need-show-in-requires Inv-loop μ-loop
+show-in-requires c κs = search needs
 
 add-k : tie.Need-add-k Inv-loop μ-loop
 add-k c = search needs
@@ -62,12 +71,15 @@ show-all-spec =
     μ-loop
     loop-holds
     read-header-requires
-    enum-known-ahead
-    show-case-requires
+    enum-known-h
     enum-told
     same-length
     same-length-2
     returns
+    print-case-requires
+    read-whole-requires
+    part-requires
+    show-in-requires
     add-k
     loop-less
     loop-again
