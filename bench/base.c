@@ -1039,6 +1039,46 @@ enum answer base_buffered_delete(uint8_t *image, size_t size, struct buffered_se
     return delete_file(&d, image, s->table, entry);
 }
 
+/* ---- characters ---- */
+
+/* From EBCDIC to ASCII. A full stop stands at each code that no listed character has. */
+static const char ascii[256] __attribute__((nonstring)) =
+    "................"
+    "................"
+    "................"
+    "................"
+    " ...........<(+."
+    "&..........$*);."
+    "-/.........,%_>?"
+    "..........:#@'=\""
+    "................"
+    "................"
+    "................"
+    "................"
+    ".ABCDEFGHI......"
+    ".JKLMNOPQR......"
+    "..STUVWXYZ......"
+    "0123456789......";
+
+/* And back. A blank, hex 40, which is @ here, stands at each character that is not listed. */
+static const char ebcdic[256] __attribute__((nonstring)) =
+    "@@@@@@@@@@@@@@@@"
+    "@@@@@@@@@@@@@@@@"
+    "@@\x7F\x7B\x5B\x6C\x50\x7D\x4D\x5D\x5C\x4E\x6B\x60\x4B\x61"
+    "\xF0\xF1\xF2\xF3\xF4\xF5\xF6\xF7\xF8\xF9\x7A\x5E\x4C\x7E\x6E\x6F"
+    "\x7C\xC1\xC2\xC3\xC4\xC5\xC6\xC7\xC8\xC9\xD1\xD2\xD3\xD4\xD5\xD6"
+    "\xD7\xD8\xD9\xE2\xE3\xE4\xE5\xE6\xE7\xE8\xE9@@@@\x6D"
+    "@@@@@@@@@@@@@@@@"
+    "@@@@@@@@@@@@@@@@"
+    "@@@@@@@@@@@@@@@@"
+    "@@@@@@@@@@@@@@@@"
+    "@@@@@@@@@@@@@@@@"
+    "@@@@@@@@@@@@@@@@"
+    "@@@@@@@@@@@@@@@@"
+    "@@@@@@@@@@@@@@@@"
+    "@@@@@@@@@@@@@@@@"
+    "@@@@@@@@@@@@@@@@";
+
 /* ---- the listing ---- */
 
 struct text {
@@ -1071,25 +1111,13 @@ static void put_number(struct text *t, uint32_t n)
         put_char(t, digits[--k]);
 }
 
-/* A capital or digit of EBCDIC. */
-static char ascii(uint8_t c)
-{
-    if (c >= 0xF0)
-        return (char)('0' + (c - 0xF0));
-    if (c >= 0xE2)
-        return (char)('S' + (c - 0xE2));
-    if (c >= 0xD1)
-        return (char)('J' + (c - 0xD1));
-    return (char)('A' + (c - 0xC1));
-}
-
 static void put_line(struct text *t, uint32_t number, const struct entry *e)
 {
     const uint32_t numbers[] = {e->kind, e->length, e->first, e->sectors, e->count, e->flags};
     put_number(t, number);
     put_char(t, ' ');
     for (int i = 0; i < 8 && e->name[i] != BLANK; i++)
-        put_char(t, ascii(e->name[i]));
+        put_char(t, ascii[e->name[i]]);
     for (int i = 0; i < 6; i++) {
         put_char(t, ' ');
         put_number(t, numbers[i]);
@@ -1097,11 +1125,17 @@ static void put_line(struct text *t, uint32_t number, const struct entry *e)
     put_char(t, '\n');
 }
 
+/* Not too long to be listed. */
+static bool is_short(size_t size)
+{
+    return size <= (size_t)MOST_LISTED * SECTOR;
+}
+
 size_t base_list(const uint8_t *image, size_t size, char *out, size_t room)
 {
     struct text t = {out, room, 0};
     struct entry table[ENTRIES];
-    if (size > (size_t)MOST_LISTED * SECTOR || !read_table(image, size, table)) {
+    if (!is_short(size) || !read_table(image, size, table)) {
         put_string(&t, "BAD IMAGE\n");
         return t.size;
     }
@@ -1110,4 +1144,132 @@ size_t base_list(const uint8_t *image, size_t size, char *out, size_t room)
         if (table[i].kind != FREE)
             put_line(&t, i, &table[i]);
     return t.size;
+}
+
+/* ---- the pass listing ---- */
+
+/* The eight bytes of a name as it is typed; of one that is no file's, false. */
+static bool read_name(const char *typed, size_t size, uint8_t name[8])
+{
+    if (size == 0 || size > 8)
+        return false;
+    memset(name, BLANK, 8);
+    for (size_t i = 0; i < size; i++) {
+        name[i] = (uint8_t)ebcdic[(uint8_t)typed[i]];
+        if (ascii[name[i]] != typed[i])
+            return false;
+    }
+    return true;
+}
+
+/* The sequential file of that name in the table of a mounted image. */
+static enum answer find_shown(const struct entry table[ENTRIES], const char *typed, size_t size,
+                              size_t *entry)
+{
+    uint8_t name[8];
+    if (!read_name(typed, size, name))
+        return NOT_THERE;
+    size_t i = 0;
+    while (i < ENTRIES && (table[i].kind == FREE || memcmp(table[i].name, name, 8) != 0))
+        i++;
+    if (i == ENTRIES)
+        return NOT_THERE;
+    *entry = i;
+    return table[i].kind == RANDOM ? WRONG_SEQUENCE : DONE;
+}
+
+/* The line of a number, as far as there is room. */
+static size_t put_answer(enum answer a, char *out, size_t room)
+{
+    struct text t = {out, room, 0};
+    put_string(&t, "ANSWER ");
+    put_number(&t, a);
+    put_char(&t, '\n');
+    return t.size < room ? t.size : room;
+}
+
+/* What is printed before the first read. */
+static size_t print_first(enum answer a, char *out, size_t room)
+{
+    return a == DONE ? 0 : put_answer(a, out, room);
+}
+
+/* The room for a record in a room for its line, which has a byte more; 0 if that is too small. */
+static size_t record_room(size_t length, size_t room)
+{
+    return length < room ? length : 0;
+}
+
+/* Makes the record of n bytes in out its line. */
+static size_t make_line(char *out, size_t n)
+{
+    while (n > 0 && out[n - 1] == BLANK)
+        n--;
+    for (size_t i = 0; i < n; i++)
+        out[i] = ascii[(uint8_t)out[i]];
+    out[n] = '\n';
+    return n + 1;
+}
+
+/* What a read prints that had n bytes of out for its record. */
+static size_t print_read(enum answer a, char *out, size_t n, size_t room)
+{
+    if (a == DONE)
+        return make_line(out, n);
+    return a == END_OF_FILE || a == WRONG_SEQUENCE ? 0 : put_answer(a, out, room);
+}
+
+enum answer base_show(uint8_t *image, size_t size, struct session *s, const char *name,
+                      size_t name_size, size_t *entry, size_t *length, char *out, size_t room,
+                      size_t *put)
+{
+    size_t i = 0;
+    enum answer a = is_short(size) ? base_mount(image, size, s) : BAD_IMAGE;
+    if (a == DONE)
+        a = find_shown(s->table, name, name_size, &i);
+    if (a == DONE)
+        a = base_request(image, size, s, i, OPEN, 0, NULL, 0, NULL, 0);
+    if (a == DONE) {
+        *entry = i;
+        *length = s->table[i].length;
+    }
+    *put = print_first(a, out, room);
+    return a;
+}
+
+enum answer base_buffered_show(uint8_t *image, size_t size, struct buffered_session *s,
+                               const char *name, size_t name_size, size_t *entry, size_t *length,
+                               char *out, size_t room, size_t *put)
+{
+    size_t i = 0;
+    enum answer a = is_short(size) ? base_buffered_mount(image, size, s) : BAD_IMAGE;
+    if (a == DONE)
+        a = find_shown(s->table, name, name_size, &i);
+    if (a == DONE)
+        a = base_buffered_request(image, size, s, i, OPEN, 0, NULL, 0, NULL, 0);
+    if (a == DONE) {
+        *entry = i;
+        *length = s->table[i].length;
+    }
+    *put = print_first(a, out, room);
+    return a;
+}
+
+enum answer base_line(uint8_t *image, size_t size, struct session *s, size_t entry, size_t length,
+                      char *out, size_t room, size_t *put)
+{
+    size_t n = record_room(length, room);
+    enum answer a = base_request(image, size, s, entry, READ, 0, NULL, 0, (uint8_t *)out, n);
+    *put = print_read(a, out, n, room);
+    return a;
+}
+
+enum answer base_buffered_line(uint8_t *image, size_t size, struct buffered_session *s,
+                               size_t entry, size_t length, char *out, size_t room, size_t *put)
+{
+    size_t n = record_room(length, room);
+    enum answer a =
+        base_buffered_request(image, size, s, entry, READ, 0, NULL, 0, (uint8_t *)out, n);
+    *put = print_read(a, out, n, room);
+    return a;
 }

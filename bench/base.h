@@ -1,4 +1,4 @@
-/* The file layer of document 01, with document 02's item 1, in plain C: the baseline that the proved one is measured against.
+/* The file layer of document 01, with document 02's items 1, 3 and 4, in plain C: the baseline that the proved one is measured against.
    The same work and the same checks, written plainly: sessions by pointer, bytes moved by memcpy. */
 #ifndef BASE_H
 #define BASE_H
@@ -153,5 +153,20 @@ enum answer base_buffered_delete(uint8_t *image, size_t size, struct buffered_se
 
 /* The listing. Returns the length of the text, and puts as much of it into `out` as fits. */
 size_t base_list(const uint8_t *image, size_t size, char *out, size_t room);
+
+/* The pass listing, in either engine. Each call puts text into `out`, as far as it fits, and tells how
+   much in `put`. `show` mounts the image, opens the file of a name as it is typed and tells its entry
+   and its record length; behind an answer 0 `line` reads the next record and makes it a line, as long
+   as that is answered 0. `out` has a byte more than a record. */
+enum answer base_show(uint8_t *image, size_t size, struct session *s, const char *name,
+                      size_t name_size, size_t *entry, size_t *length, char *out, size_t room,
+                      size_t *put);
+enum answer base_line(uint8_t *image, size_t size, struct session *s, size_t entry, size_t length,
+                      char *out, size_t room, size_t *put);
+enum answer base_buffered_show(uint8_t *image, size_t size, struct buffered_session *s,
+                               const char *name, size_t name_size, size_t *entry, size_t *length,
+                               char *out, size_t room, size_t *put);
+enum answer base_buffered_line(uint8_t *image, size_t size, struct buffered_session *s,
+                               size_t entry, size_t length, char *out, size_t room, size_t *put);
 
 #endif

@@ -63,7 +63,7 @@ static int make_stack(void)
 
 enum { PLAIN, BUFFERED, ENGINES };
 enum { MOUNT, NO_SESSION, ANY_REQUEST, LAST_REQUEST = ANY_REQUEST + 13, LOOK, POSITION, FIND, FIELD,
-       ADD, DELETE, LIST, WORDS_PUT, DECODE, ENCODE, SIZES, ROWS };
+       ADD, DELETE, SHOW, LINE, LIST, WORDS_PUT, DECODE, ENCODE, CHARACTER, SIZES, ROWS };
 static const char *const names[ROWS] = {
     [MOUNT] = "`lleuadrys_mount`",
     [NO_SESSION] = "`lleuadrys_request`, any bytes for a session",
@@ -87,10 +87,13 @@ static const char *const names[ROWS] = {
     [FIELD] = "`lleuadrys_field`",
     [ADD] = "`lleuadrys_add`",
     [DELETE] = "`lleuadrys_delete`",
+    [SHOW] = "`lleuadrys_show`",
+    [LINE] = "`lleuadrys_line`",
     [LIST] = "`lleuadrys_list`",
     [WORDS_PUT] = "`lleuadrys_words`",
     [DECODE] = "`lleuadrys_decode`",
     [ENCODE] = "`lleuadrys_encode`",
+    [CHARACTER] = "`lleuadrys_to_ascii`, `lleuadrys_to_ebcdic`",
     [SIZES] = "`lleuadrys_session_size`, `lleuadrys_buffered_session_size`, `lleuadrys_version`",
 };
 static size_t most[ROWS][ENGINES];
@@ -216,7 +219,7 @@ static void make_images(void)
 
 /* ---- the calls */
 
-static uint8_t session[LLEUADRYS_BUFFERED_SESSION + 1], given[3602], buffer[3602];
+static uint8_t session[LLEUADRYS_BUFFERED_SESSION + 1], given[3602], buffer[3602], line[LLEUADRYS_LONGEST_LINE];
 static uint8_t code[LONG + 1], text[LONG + 1], out[2 * LONG];
 static const size_t session_sizes[ENGINES] = {LLEUADRYS_SESSION, LLEUADRYS_BUFFERED_SESSION};
 
@@ -291,6 +294,34 @@ static void try_edits(int engine, size_t session_size, size_t entry)
     done[DELETE][engine] += answer == 0;
 }
 
+/* The next line of a pass listing, for a record of that length or of any, in a room that may be too small. */
+static uint64_t try_line(int engine, size_t session_size, size_t entry, size_t length)
+{
+    static size_t put;
+    uint64_t answer = TRY(LINE, engine, lleuadrys_line, A(image), sizeof image, A(session), session_size, entry,
+                          any(16) == 0 ? any(3602) : length, A(line), any(16) == 0 ? any(sizeof line) : sizeof line, A(&put));
+    done[LINE][engine] += answer == 0;
+    return answer;
+}
+
+/* A pass listing of a file by its name, which is a letter here; now and then by a name that is none. The session is mounted
+   anew by it. */
+static void try_show(int engine, const uint8_t *from, size_t size, size_t session_size)
+{
+    static const size_t sizes[] = {0, 1, 2, 8, 9, sizeof given};
+    static size_t entry, length, put;
+    for (size_t k = 0; k < sizeof given; k++)
+        given[k] = any(8) == 0 ? (uint8_t)any(256) : ' ';
+    memset(given + 1, ' ', any(8));
+    given[0] = (uint8_t)('A' + any(18));
+    uint64_t answer = TRY(SHOW, engine, lleuadrys_show, A(from), size, A(session), session_size, A(given),
+                          any(4) == 0 ? sizes[any(6)] : 1, A(&entry), A(&length), A(line), any(16) == 0 ? any(12) : sizeof line,
+                          A(&put));
+    done[SHOW][engine] += answer == 0;
+    for (unsigned k = 0; k < 40 && answer == 0 && from == image; k++)
+        answer = try_line(engine, session_size, entry, length);
+}
+
 /* Entry numbers: those that there are, the one behind them, the greatest. */
 static size_t any_entry(void)
 {
@@ -319,6 +350,9 @@ static void walk(int engine, const uint8_t *from, unsigned steps)
         if (k % 16 == 0)
             try_edits(engine, size, any_entry());
         memcpy(kept, session, size);
+        if (k % 16 == 0)
+            try_show(engine, image, sizeof image, size);
+        memcpy(session, kept, size);
         if (k % 8 == 0)
             fill(session, size);
         for (uint32_t n = any(4); n > 0; n--)
@@ -329,6 +363,7 @@ static void walk(int engine, const uint8_t *from, unsigned steps)
         try_entry(engine, size, entry);
         if (k % 4 == 0)
             try_edits(engine, size, entry);
+        try_line(engine, size, entry, any(3602));
         memcpy(session, kept, size);
     }
 }
@@ -340,16 +375,20 @@ static void try_lengths(int engine)
     static const size_t sizes[] = {0, 1, 359, 360, 361, 720, sizeof mixed - 1, sizeof mixed};
     for (size_t k = 0; k < sizeof near / sizeof *near; k++) {
         try_mount(engine, mixed, sizeof mixed, near[k]);
+        try_show(engine, mixed, sizeof mixed, near[k]);
+        try_line(engine, near[k], 0, 400);
         try_request(NO_SESSION, engine, near[k], 0, 1 + (unsigned)k);
         try_look(engine, near[k], 0, 0);
         try_position(engine, near[k], 0);
     }
     for (size_t k = 0; k < sizeof sizes / sizeof *sizes; k++) {
         try_mount(engine, mixed, sizes[k], session_sizes[engine]);
+        try_show(engine, mixed, sizes[k], session_sizes[engine]);
         TRY(LIST, PLAIN, lleuadrys_list, A(mixed), sizes[k], A(out), 3600);
     }
     try_mount(engine, hostile, sizeof hostile, session_sizes[engine]);
     try_mount(engine, large, sizeof large, session_sizes[engine]);
+    try_show(engine, large, sizeof large, session_sizes[engine]);
     for (unsigned k = 0; k < 200; k++) {
         fill(image, k % 2 == 0 ? sizeof image : 720);
         try_mount(engine, image, sizeof image, session_sizes[engine]);
@@ -357,6 +396,7 @@ static void try_lengths(int engine)
         memcpy(image, k % 3 == 0 ? mixed : hostile, sizeof image);
         image[any(k % 4 == 0 ? sizeof image : 720)] ^= (uint8_t)(1 + any(255));
         try_mount(engine, image, sizeof image, session_sizes[engine]);
+        try_show(engine, image, sizeof image, session_sizes[engine]);
         TRY(LIST, PLAIN, lleuadrys_list, A(image), sizeof image, A(out), any(1600));
     }
 }
@@ -412,6 +452,10 @@ int main(void)
     for (unsigned k = 0; k < 1600; k++)
         done[WORDS_PUT][PLAIN] += TRY(WORDS_PUT, PLAIN, lleuadrys_words, k % 20, A(out), any(60)) != 0;
     try_codes();
+    for (unsigned k = 0; k < 256; k++) {
+        done[CHARACTER][PLAIN] += TRY(CHARACTER, PLAIN, lleuadrys_to_ascii, k) != 0;
+        done[CHARACTER][PLAIN] += TRY(CHARACTER, PLAIN, lleuadrys_to_ebcdic, k) != 0;
+    }
     done[SIZES][PLAIN] += TRY(SIZES, PLAIN, lleuadrys_version, 0) == LLEUADRYS_VERSION;
     done[SIZES][PLAIN] += TRY(SIZES, PLAIN, lleuadrys_session_size, 0) == LLEUADRYS_SESSION;
     done[SIZES][PLAIN] += TRY(SIZES, PLAIN, lleuadrys_buffered_session_size, 0) == LLEUADRYS_BUFFERED_SESSION;

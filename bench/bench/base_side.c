@@ -46,6 +46,20 @@ static unsigned plain_remove(uint8_t *image, size_t size, struct side_session *s
     return base_delete(image, size, (struct session *)s, entry);
 }
 
+static unsigned plain_show(uint8_t *image, size_t size, struct side_session *s, const char *name,
+                           size_t name_size, size_t *entry, size_t *length, uint8_t *out,
+                           size_t room, size_t *put)
+{
+    return base_show(image, size, (struct session *)s, name, name_size, entry, length, (char *)out,
+                     room, put);
+}
+
+static unsigned plain_line(uint8_t *image, size_t size, struct side_session *s, size_t entry,
+                           size_t length, uint8_t *out, size_t room, size_t *put)
+{
+    return base_line(image, size, (struct session *)s, entry, length, (char *)out, room, put);
+}
+
 static unsigned buffered_mount(const uint8_t *image, size_t size, struct side_session *s)
 {
     return base_buffered_mount(image, size, (struct buffered_session *)s);
@@ -88,10 +102,26 @@ static unsigned buffered_remove(uint8_t *image, size_t size, struct side_session
     return base_buffered_delete(image, size, (struct buffered_session *)s, entry);
 }
 
-const struct side_engine side_plain = {plain_mount,    plain_request, plain_look,
-                                       plain_position, plain_add,     plain_remove};
-const struct side_engine side_buffered = {buffered_mount,    buffered_request, buffered_look,
-                                          buffered_position, buffered_add,     buffered_remove};
+static unsigned buffered_show(uint8_t *image, size_t size, struct side_session *s,
+                              const char *name, size_t name_size, size_t *entry, size_t *length,
+                              uint8_t *out, size_t room, size_t *put)
+{
+    return base_buffered_show(image, size, (struct buffered_session *)s, name, name_size, entry,
+                              length, (char *)out, room, put);
+}
+
+static unsigned buffered_line(uint8_t *image, size_t size, struct side_session *s, size_t entry,
+                              size_t length, uint8_t *out, size_t room, size_t *put)
+{
+    return base_buffered_line(image, size, (struct buffered_session *)s, entry, length,
+                              (char *)out, room, put);
+}
+
+const struct side_engine side_plain = {plain_mount, plain_request, plain_look, plain_position,
+                                       plain_add,   plain_remove,  plain_show, plain_line};
+const struct side_engine side_buffered = {buffered_mount, buffered_request, buffered_look,
+                                          buffered_position, buffered_add, buffered_remove,
+                                          buffered_show, buffered_line};
 
 size_t side_decode(const uint8_t *code, size_t size, uint8_t *record, size_t length)
 {

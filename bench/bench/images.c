@@ -235,6 +235,22 @@ void make_listed(uint8_t *image)
     }
 }
 
+size_t make_log(uint8_t *image, unsigned kind)
+{
+    struct making m = start(image, LOG_SECTORS);
+    if (kind == BLOCKED) {
+        add_file(&m, "BUSLOG1", BLOCKED, 60, 10, ALL, MARKED);
+        add_file(&m, "NOTES1", UNBLOCKED, 720, 10, ALL, MARKED);
+        add_file(&m, "TABLES1", RANDOM, 360, 9, 0, 0);
+    }
+    uint8_t *extent = image + SECTOR * m.first;
+    size_t count = add_file(&m, LOG_NAME, kind, 80, LOG_SECTORS - m.first, ALL, MARKED);
+    if (kind == BLOCKED) /* lines, not frames */
+        for (size_t i = 0; i < count; i++)
+            memcpy(extent + SECTOR * (i / 4) + 80 * (i % 4), lines[i % LINES], 80);
+    return count;
+}
+
 void make_fragmented(uint8_t *image)
 {
     static const unsigned kinds[] = {UNBLOCKED, BLOCKED, COMPRESSED, RANDOM};

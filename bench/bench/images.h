@@ -36,6 +36,12 @@ size_t make_full_station(uint8_t *image);
 enum { LISTED_SECTORS = 180 };
 void make_listed(uint8_t *image);
 
+/* 180 sectors with a file that is full of lines of 80: one compressed file alone, or a blocked one behind three others. Returns
+   how many lines. */
+enum { LOG_SECTORS = 180 };
+#define LOG_NAME "PASSLOG"
+size_t make_log(uint8_t *image, unsigned kind);
+
 /* 180 sectors, 17 files of 4 sectors each, 3 free sectors behind each, their entries out of order: the lowest gap of 4 sectors is
    behind the last. */
 enum { FRAGMENTED_SECTORS = 180, FRAGMENTS = 17 };

@@ -39,8 +39,20 @@ _Static_assert(LLEUADRYS_BUFFERED_SESSION <= sizeof(struct side_session), "room"
     {                                                                                                                  \
         return lleuadrys_delete(image, size, s->bytes, bytes_lent, entry);                                             \
     }                                                                                                                  \
-    const struct side_engine side_##name = {name##_mount,    name##_request, name##_look,                              \
-                                            name##_position, name##_add,     name##_remove}
+    static unsigned name##_show(uint8_t *image, size_t size, struct side_session *s, const char *file_name,            \
+                                size_t name_size, size_t *entry, size_t *length, uint8_t *out, size_t room,            \
+                                size_t *put)                                                                           \
+    {                                                                                                                  \
+        return lleuadrys_show(image, size, s->bytes, bytes_lent, (const uint8_t *)file_name, name_size, entry, length, \
+                              out, room, put);                                                                         \
+    }                                                                                                                  \
+    static unsigned name##_line(uint8_t *image, size_t size, struct side_session *s, size_t entry, size_t length,      \
+                                uint8_t *out, size_t room, size_t *put)                                                \
+    {                                                                                                                  \
+        return lleuadrys_line(image, size, s->bytes, bytes_lent, entry, length, out, room, put);                       \
+    }                                                                                                                  \
+    const struct side_engine side_##name = {name##_mount, name##_request, name##_look, name##_position,                \
+                                            name##_add,   name##_remove,  name##_show, name##_line}
 
 ENGINE(plain, LLEUADRYS_SESSION);
 ENGINE(buffered, LLEUADRYS_BUFFERED_SESSION);

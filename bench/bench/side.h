@@ -28,6 +28,12 @@ struct side_engine {
                     size_t name_size, uint16_t kind, uint16_t length, uint16_t sectors,
                     size_t *entry);
     unsigned (*remove)(uint8_t *image, size_t size, struct side_session *s, size_t entry);
+    /* the pass listing: how many bytes of text go into out is put */
+    unsigned (*show)(uint8_t *image, size_t size, struct side_session *s, const char *name,
+                     size_t name_size, size_t *entry, size_t *length, uint8_t *out, size_t room,
+                     size_t *put);
+    unsigned (*line)(uint8_t *image, size_t size, struct side_session *s, size_t entry,
+                     size_t length, uint8_t *out, size_t room, size_t *put);
 };
 
 extern const struct side_engine side_plain, side_buffered;

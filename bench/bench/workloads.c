@@ -260,6 +260,63 @@ static uint32_t list_image(void)
     return sum;
 }
 
+/* ---- the pass listing ---- */
+
+enum { LINE_ROOM = 81 };
+
+static size_t line_length; /* of the file's records */
+
+/* Mounts the log and opens it by its name, which tells its entry. */
+static unsigned show(void)
+{
+    size_t text;
+    return engine->show(image, size, &session, LOG_NAME, sizeof LOG_NAME - 1, &entry, &line_length,
+                        buffer, LINE_ROOM, &text);
+}
+
+static size_t open_log(unsigned kind)
+{
+    size = (size_t)LOG_SECTORS * SECTOR;
+    size_t count = make_log(image, kind);
+    must(show());
+    return count;
+}
+
+static size_t prepare_packed_log(void)
+{
+    return open_log(COMPRESSED);
+}
+
+static size_t prepare_blocked_log(void)
+{
+    return open_log(BLOCKED);
+}
+
+static size_t prepare_show(void)
+{
+    open_log(COMPRESSED);
+    return 1;
+}
+
+static uint32_t begin_listing(void)
+{
+    unsigned answer = show();
+    return mix(answer, (uint32_t)(entry << 16 | line_length));
+}
+
+/* Rewinds and prints every line. */
+static uint32_t print_log(void)
+{
+    uint32_t sum = ask(entry, REWIND_ONLINE, NULL, 0, 0);
+    unsigned answer;
+    do {
+        size_t text = 0;
+        answer = engine->line(image, size, &session, entry, line_length, buffer, LINE_ROOM, &text);
+        sum = mix(mix_read(sum, answer, LINE_ROOM), (uint32_t)(text << 8 | buffer[text / 2]));
+    } while (answer == DONE);
+    return sum;
+}
+
 /* ---- refusals ---- */
 
 enum { REFUSALS = 1000, REFUSED_OPENINGS = 20 };
@@ -441,6 +498,11 @@ const struct workload workloads[] = {
     BLANKS(127),
     BLANKS(130),
     ALONE("list", "listing 180 sectors, 18 files", 0, prepare_list, list_image),
+    BOTH("show", "beginning a pass listing: 180 sectors, one full compressed file", 0, prepare_show,
+         begin_listing),
+    BOTH("line-packed", "every line of that file, records of 80", 0, prepare_packed_log, print_log),
+    BOTH("line-blocked", "every line of a blocked file, records of 80, 4 files", 0, prepare_blocked_log,
+         print_log),
     BOTH("refused", "1,000 reads of an open random file (7), 4 files", TABLES, prepare_refused,
          refuse_reads),
     BOTH("refused-full", "the same, 18 files and 4 of them open", FULL_TABLES, prepare_full,

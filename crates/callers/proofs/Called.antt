@@ -21,7 +21,7 @@ use Rattle.engines.specs.Engines as Engines
 use Rattle.looking.specs.Looking.{lookIn}
 use Rattle.editing.specs.Editing.{lentEdited, editedIn}
 use Rattle.calling.specs.Mounted.{mountNumber, mountBytes}
-use Rattle.lleuadrys.specs.Calls.{requested}
+use Rattle.asking.specs.Requested.{requested}
 use Rattle.looking.proofs.Shown.{look-is}
 use Rattle.callers.specs.Lent.{lentEngine, leftOf, Called}
 use Rattle.requests.specs.declared.Asked.the-variants.{For}

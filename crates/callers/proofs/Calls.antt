@@ -21,7 +21,7 @@ use Rattle.editing.specs.Editing.{editedIn}
 use Rattle.storing.specs.Stored.{sizeOf, hasBuffers, lentSession}
 use Rattle.storing.proofs.Read.{told-by-size, session-size}
 use Rattle.calling.specs.Mounted.{mountBytes}
-use Rattle.lleuadrys.specs.Calls.{Left}
+use Rattle.asking.specs.Requested.{Left}
 use Rattle.demands.specs.Engine.{Engine, Standing, ifLook, shownBy, spotsOf, answered, stepOf, reportOf, edited, editOf, editReportOf, next, reportFor, reports, heard, mounted, areBytes, giveBytes}
 use Rattle.demands.proofs.Answers.{bytes-image, bytes-given}
 use Rattle.callers.specs.Lent.{lentEngine, leftOf}

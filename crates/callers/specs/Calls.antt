@@ -21,7 +21,7 @@ use Rattle.editing.specs.Editing.{editedIn}
 use Rattle.storing.specs.Stored.{sizeOf, lentSession}
 use Rattle.looking.specs.Looking.{lookIn, lookPlace}
 use Rattle.calling.specs.Mounted.{mountNumber, mountBytes}
-use Rattle.lleuadrys.specs.Calls.{Left, requested}
+use Rattle.asking.specs.Requested.{Left, requested}
 use Rattle.demands.specs.Engine.{Standing, ifLook, inBytes}
 use Rattle.requests.specs.declared.Asked.the-variants.{For}
 use Rattle.requests.specs.declared.Edit.{Edit}

@@ -15,7 +15,7 @@ use Rattle.engines.specs.Engines as Engines
 use Rattle.editing.specs.Editing.{lentEdited, editedIn}
 use Rattle.looking.specs.Looking.{lookIn, lookPlace}
 use Rattle.calling.specs.Mounted.{mountNumber, mountBytes}
-use Rattle.lleuadrys.specs.Calls.{Left, left, requested}
+use Rattle.asking.specs.Requested.{Left, left, requested}
 use Rattle.demands.specs.Engine.{Engine, plainEngine, bufferedEngine}
 use Rattle.requests.specs.declared.Asked.the-variants.{For}
 use Rattle.requests.specs.declared.Edit.{Edit}

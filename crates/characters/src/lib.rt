@@ -1,5 +1,9 @@
 // EBCDIC and ASCII: document 02's item 4, "a full table of 256 bytes from EBCDIC to ASCII, and one of 256 back".
+use moving::least;
 ghost use mathlib.Core.Path.{_≡_};
+ghost use mathlib.Core.List.{map};
+ghost use lib.ListN.{take};
+ghost use Rattle.texts.specs.Texts.{Wrote};
 ghost use Rattle.characters.specs.Characters.{asciiOf, ebcdicOf};
 
 // From EBCDIC to ASCII. A full stop stands at each code that no listed character has.
@@ -52,4 +56,18 @@ pub fn to_ebcdic(c: u8) -> u8
     ensures { λ r. ⌜ r ≡ ebcdicOf c ⌝ }
 {
     EBCDIC[c as usize]
+}
+
+// Makes the first m bytes of out, which are of EBCDIC, ASCII, as far as there are so many. The place behind them.
+pub fn translate(out: &mut [u8], m: usize) -> usize
+    ensures { λ r. ⌜ Wrote (now (out .entry)) 0 (map asciiOf (take m (now (out .entry)))) (now (out .exit)) r ⌝ }
+{
+    let table = ASCII;
+    let n = least(m, out.len());
+    let mut k = 0;
+    while k < n {
+        out[k] = table[out[k] as usize];
+        k += 1;
+    }
+    k
 }

@@ -1,5 +1,5 @@
 // The directory listing: document 01's "Listing".
-use characters::to_ascii;
+use characters::translate;
 use directory::Entry;
 use geometry::Geometry;
 use texts::put_all;
@@ -18,6 +18,8 @@ ghost use Rattle.listing.specs.Listing.{nameText, line, linesFrom, isSho
 fn put_letters(out: &mut [u8], at: usize, x: [u8; 8]) -> usize
     ensures { λ r. ⌜ Wrote (now (out .entry)) at (nameText x) (now (out .exit)) r ⌝ }
 {
+    let mut letters = x;
+    translate(&mut letters, 8);
     let mut a = at;
     let mut k: usize = 0;
     while k < 8 {
@@ -25,7 +27,7 @@ fn put_letters(out: &mut [u8], at: usize, x: [u8; 8]) -> usize
         if c == Geometry::BLANK {
             return a;
         }
-        a = put_byte(out, a, to_ascii(c));
+        a = put_byte(out, a, letters[k]);
         k += 1;
     }
     a

@@ -6,11 +6,7 @@ use calling::position;
 use characters::to_ascii;
 use characters::to_ebcdic;
 use editing::edit;
-use looking::look_answer;
-use numbering::unknown;
-use requests::Asked;
 use requests::Edit;
-use requests::by_code;
 use requests::number;
 use showing::begin;
 use showing::next;
@@ -40,7 +36,8 @@ ghost use Rattle.looking.specs.Looking.{lookIn, lookPlace};
 ghost use Rattle.telling.specs.Told.{found, fieldIn, wordsOf};
 ghost use Rattle.calling.specs.Mounted.{mountNumber, mountBytes};
 ghost use Rattle.numbering.specs.Codes.{standing, recordAt, codeSize};
-ghost use Rattle.lleuadrys.specs.Calls.{left, requested, Edits, version};
+ghost use Rattle.asking.specs.Requested.{left, requested};
+ghost use Rattle.lleuadrys.specs.Calls.{Edits, version};
 
 // ---- the calls on a session
 
@@ -83,10 +80,7 @@ pub extern "C" fn lleuadrys_request(
     ensures { λ r. ⌜ left r (now (image .exit)) (now (session .exit)) (now (buffer .exit))
         ≡ requested (now (image .entry)) (now (session .entry)) entry (askedFor code granule) (now (given .entry)) (now (buffer .entry)) ⌝ }
 {
-    match by_code(code, granule) {
-        Asked::For(q) => number(engines::request(image, session, entry, q, given, buffer)),
-        Asked::Unknown => unknown(look_answer(image, session, entry, 0)),
-    }
+    asking::request(image, session, entry, code, granule, given, buffer)
 }
 
 // Looks at a granule in place: the number of its bytes, 0 where the look is refused; where they begin goes into at.

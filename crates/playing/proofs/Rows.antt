@@ -11,7 +11,8 @@ use Rattle.geometry.proofs.Tests.{chosen, not-chosen}
 use Rattle.requests.specs.declared.Edit.the-variants.{Add, Delete}
 use Rattle.steps.specs.Edit.{Edited}
 use Rattle.editing.specs.Editing.{editedIn}
-use Rattle.lleuadrys.specs.Calls.{left, Edits}
+use Rattle.asking.specs.Requested.{left}
+use Rattle.lleuadrys.specs.Calls.{Edits}
 use Rattle.scripts.specs.Script.{isEdit}
 use Rattle.scripts.specs.declared.Played.{Played}
 use Rattle.scripts.specs.declared.Row.{Row}

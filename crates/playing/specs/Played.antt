@@ -12,7 +12,7 @@ use Rattle.sessions.specs.declared.Spot.{Spot}
 use Rattle.steps.specs.Edit.{Edited}
 use Rattle.editing.specs.Editing.{editedIn}
 use Rattle.storing.specs.Stored.{lentSession}
-use Rattle.lleuadrys.specs.Calls.{Left, left, requested}
+use Rattle.asking.specs.Requested.{Left, left, requested}
 use Rattle.numbering.specs.Codes.{standing, recordAt}
 use Rattle.scripts.specs.declared.Played.{Played}
 use Rattle.scripts.specs.declared.Row.{Row}

@@ -8,7 +8,8 @@ use scripts::Row;
 use scripts::is_edit;
 use summing::sum_moved;
 ghost use mathlib.Core.Path.{_≡_};
-ghost use Rattle.lleuadrys.specs.Calls.{left, Edits};
+ghost use Rattle.asking.specs.Requested.{left};
+ghost use Rattle.lleuadrys.specs.Calls.{Edits};
 ghost use Rattle.playing.specs.Played.{editSaid, edited, asked, leaves, saidOf, saidOfEdit, played};
 
 // What is said of an edit.

@@ -1,13 +1,12 @@
--- A record becomes its line where it stands: each byte is read before it is written over, and what is kept of a part is kept of the whole.
+-- A record becomes its line where it stands: what is kept of a part is kept of the whole. And what is printed by a number is its definition's.
 use mathlib.Core.Path.{_≡_, refl, sym, ap, subst, _∙_}
 use mathlib.Core.Logic.{_≢_}
 use mathlib.Core.Bool.{true, false}
 use mathlib.Core.List.{List, [], _∷_, _++_, map}
-use Prim.Native.Nat.{ℕ, zero, suc, _+_, _≤_, _<_, min}
+use Prim.Native.Nat.{ℕ, zero, suc, _+_, _≤_, min}
 use native.Mathlib.Omega.{arith}
-use native.Mathlib.Numerals.{add-one}
-use lib.ListN.{length, take, drop, getD, set, length-take, drop-of-length-le}
-use lib.Seq.{drop-cons, getD-take, getD-drop, take-take}
+use lib.ListN.{length, take, length-take}
+use lib.Seq.{take-take}
 use Rattle.coding.specs.Encode.{keeps}
 use Rattle.coding.proofs.Runs.{keeps-le}
 use Rattle.characters.specs.Characters.{asciiOf}
@@ -15,34 +14,9 @@ use Rattle.texts.specs.Texts.{Wrote}
 use Rattle.geometry.proofs.Tests.{chosen, not-chosen}
 use Rattle.showing.specs.Lines.{lineOf, answerLine, isEnd, printed, printedFirst}
 
-module _ (o : List ℕ) (k : ℕ) (h : k < length o) where
-  -- one byte written at its place
-  pub wrote-byte : (c : ℕ) → Wrote o k (c ∷ []) (set o k c) (k + 1)
-  wrote-byte c = record { ends = omega arith; puts = refl }
-
 -- another word for the same text
 pub as-text : {o xs ys new : List ℕ} {n : ℕ} → xs ≡ ys → Wrote o 0 xs new n → Wrote o 0 ys new n
 as-text {o} {xs} {ys} {new} {n} e w = subst (λ (zs : List ℕ). Wrote o 0 zs new n) e w
-
--- a byte behind those that were written
-pub same-byte : (o o₀ : List ℕ) (k : ℕ) → drop k o ≡ drop k o₀ → getD o k 0 ≡ getD o₀ k 0
-same-byte o o₀ k e = sym (first o) ∙ ap (λ (l : List ℕ). getD l 0 0) e ∙ first o₀
-  where
-    first : (l : List ℕ) → getD (drop k l) 0 0 ≡ getD l k 0
-    first l = let z : k + 0 ≡ k = omega arith in rw (getD-drop k l 0 0, z)
-
-module _ (o : List ℕ) (m : ℕ) where
-  -- the first m bytes from byte k on
-  abbrev rest : ℕ → List ℕ
-  rest k = map asciiOf (drop k (take m o))
-
-  pub rest-more : (k : ℕ) → k < min m (length o) → rest k ≡ (asciiOf (getD o k 0) ∷ []) ++ rest (k + 1)
-  rest-more k h =
-      let l : length (take m o) ≡ min m (length o) = length-take m o in
-      rw (drop-cons (take m o) k 0 (omega arith), getD-take m o k 0 (omega arith), add-one)
-
-  pub rest-none : (k : ℕ) → min m (length o) ≤ k → rest k ≡ []
-  rest-none k h = let l : length (take m o) ≡ min m (length o) = length-take m o in rw (drop-of-length-le (take m o) {i = k} (omega arith))
 
 -- the line of the first n bytes, which keep m
 pub line-is : (o : List ℕ) (n m : ℕ) → m ≡ keeps (length (take n o)) (take n o) → map asciiOf (take m o) ++ (10 ∷ []) ≡ lineOf (take n o)

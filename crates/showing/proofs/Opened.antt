@@ -14,6 +14,7 @@ use Rattle.requests.specs.Numbers.{numberOf}
 use Rattle.requests.specs.declared.Request.the-variants.{Open}
 use Rattle.steps.specs.Step.{After}
 use Rattle.engines.specs.Engines.{requested}
+use Rattle.asking.proofs.Asked.{Told}
 use Rattle.listing.specs.Listing.{isShort}
 use Rattle.typing.specs.Typing.{nameOf}
 use Rattle.telling.specs.Told.{found, fieldIn}
@@ -39,16 +40,19 @@ module _ (image b : List ℕ) (i : ℕ) where
   unfolding opening
   other-opens h = not-chosen (eqb (fieldIn b i 1) random) _ _ (ne-eqb _ _ h)
 
-  module _ (R : ℕ) (w : After (List ℕ)) (h : fieldIn b i 1 ≢ random) (size : R ≡ fieldIn b i 2) (e : w ≡ requested image b i Open [] []) where
-    is-opened : openedAs i R w ≡ opening image b i
-    is-opened = ap (λ (r : ℕ). openedAs i r w) size ∙ ap (openedAs i (fieldIn b i 2)) e ∙ sym (other-opens h)
+  module _ (R : ℕ) (h : fieldIn b i 1 ≢ random) (size : R ≡ fieldIn b i 2) where
+    abbrev w : After (List ℕ)
+    w = requested image b i Open [] []
 
-    module _ (n oldEntry oldLength : ℕ) (number : n ≡ numberOf (w .answer)) where
-      pub left-open : n ≡ 0 → Leaves (opening image b i) n (w .image) (w .session) oldEntry i oldLength R
-      left-open z = subst (λ (s : Begun). Leaves s n (w .image) (w .session) oldEntry i oldLength R) is-opened (number, refl, refl, first, second)
+    is-opened : openedAs i R w ≡ opening image b i
+    is-opened = ap (λ (r : ℕ). openedAs i r w) size ∙ sym (other-opens h)
+
+    module _ (n : ℕ) (to lent moved : List ℕ) (t : Told image b i [] [] Open n to lent moved) (oldEntry oldLength : ℕ) where
+      pub left-open : n ≡ 0 → Leaves (opening image b i) n to lent oldEntry i oldLength R
+      left-open z = subst (λ (s : Begun). Leaves s n to lent oldEntry i oldLength R) is-opened (t .answers, t .leaves, t .stands, first, second)
         where
           both : tells (numberOf (w .answer)) (i ∷ R ∷ []) ≡ i ∷ R ∷ []
-          both = ap (λ (k : ℕ). tells k (i ∷ R ∷ [])) (sym number ∙ z) ∙ (unfold tells in refl)
+          both = ap (λ (k : ℕ). tells k (i ∷ R ∷ [])) (sym (t .answers) ∙ z) ∙ (unfold tells in refl)
 
           first : i ≡ getD (tells (numberOf (w .answer)) (i ∷ R ∷ [])) 0 oldEntry
           first = sym (ap (λ (l : List ℕ). getD l 0 oldEntry) both)
@@ -56,15 +60,15 @@ module _ (image b : List ℕ) (i : ℕ) where
           second : R ≡ getD (tells (numberOf (w .answer)) (i ∷ R ∷ [])) 1 oldLength
           second = sym (ap (λ (l : List ℕ). getD l 1 oldLength) both)
 
-      pub left-shut : n ≢ 0 → Leaves (opening image b i) n (w .image) (w .session) oldEntry oldEntry oldLength oldLength
-      left-shut z = subst (λ (s : Begun). Leaves s n (w .image) (w .session) oldEntry oldEntry oldLength oldLength) is-opened (number, refl, refl, first, second)
+      pub left-shut : n ≢ 0 → Leaves (opening image b i) n to lent oldEntry oldEntry oldLength oldLength
+      left-shut z = subst (λ (s : Begun). Leaves s n to lent oldEntry oldEntry oldLength oldLength) is-opened (t .answers, t .leaves, t .stands, first, second)
         where
           no : (k : ℕ) → k ≢ 0 → tells k (i ∷ R ∷ []) ≡ []
           no zero h = absurd (h refl)
           no (suc k) h = unfold tells in refl
 
           none : tells (numberOf (w .answer)) (i ∷ R ∷ []) ≡ []
-          none = no (numberOf (w .answer)) (λ k. z (number ∙ k))
+          none = no (numberOf (w .answer)) (λ k. z (t .answers ∙ k))
 
           first : oldEntry ≡ getD (tells (numberOf (w .answer)) (i ∷ R ∷ [])) 0 oldEntry
           first = sym (ap (λ (l : List ℕ). getD l 0 oldEntry) none)

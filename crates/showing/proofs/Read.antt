@@ -12,6 +12,7 @@ use Rattle.requests.specs.Numbers.{numberOf}
 use Rattle.requests.specs.declared.Request.the-variants.{Read}
 use Rattle.steps.specs.Step.{After}
 use Rattle.engines.specs.Engines.{requested}
+use Rattle.asking.proofs.Asked.{Told}
 use Rattle.texts.specs.Texts.{Wrote}
 use Rattle.showing.specs.Lines.{printed}
 use Rattle.showing.specs.Showing.{roomFor, readInto, roomAfter, Prints}
@@ -27,20 +28,24 @@ module _ (R : ℕ) (out : List ℕ) where
   room-is n e = omega (arith, room-most)
 
 -- what is read is in the front of the room, and printed there
-module _ (image b : List ℕ) (i R : ℕ) (out : List ℕ) (n : ℕ) (room : n ≡ roomFor R out) (w : After (List ℕ)) (e : w ≡ requested image b i Read [] (take n out))
-    (size : length (w .buffer) ≡ n) where
+module _ (image b : List ℕ) (i R : ℕ) (out : List ℕ) (n : ℕ) (room : n ≡ roomFor R out) (a : ℕ) (to lent moved : List ℕ)
+    (t : Told image b i [] (take n out) Read a to lent moved) (size : length moved ≡ n) where
+  abbrev w : After (List ℕ)
+  w = requested image b i Read [] (take n out)
+
   is-read : w ≡ readInto image b i R out
   unfolding readInto
-  is-read = e ∙ ap (λ (k : ℕ). requested image b i Read [] (take k out)) room
+  is-read = ap (λ (k : ℕ). requested image b i Read [] (take k out)) room
 
-  pub shows : (a s : ℕ) (new : List ℕ) → a ≡ numberOf (w .answer) → Wrote (w .buffer ++ drop n out) 0 (printed a (take n (w .buffer ++ drop n out))) new s
-      → Prints (readInto image b i R out) (roomAfter image b i R out) a s (w .image) (w .session) new
+  pub shows : (s : ℕ) (new : List ℕ) → Wrote (moved ++ drop n out) 0 (printed a (take n (moved ++ drop n out))) new s
+      → Prints (readInto image b i R out) (roomAfter image b i R out) a s to lent new
   unfolding roomAfter
-  shows a s new number wrote =
-      subst (λ (v : After (List ℕ)). Prints v (v .buffer ++ drop (roomFor R out) out) a s (w .image) (w .session) new) is-read (
-        number,
-        refl,
-        refl,
+  shows s new wrote =
+      subst (λ (v : After (List ℕ)). Prints v (v .buffer ++ drop (roomFor R out) out) a s to lent new) is-read (
+        t .answers,
+        t .leaves,
+        t .stands,
         subst (λ (k : ℕ). Wrote (w .buffer ++ drop k out) 0 (printed a (w .buffer)) new s) room
-            (subst (λ (xs : List ℕ). Wrote (w .buffer ++ drop n out) 0 (printed a xs) new s) (take-at (w .buffer) (drop n out) n size) wrote),
+            (subst (λ (bs : List ℕ). Wrote (bs ++ drop n out) 0 (printed a bs) new s) (t .moves)
+            (subst (λ (xs : List ℕ). Wrote (moved ++ drop n out) 0 (printed a xs) new s) (take-at moved (drop n out) n size) wrote)),
       )

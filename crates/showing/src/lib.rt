@@ -1,15 +1,12 @@
 // The readable pass listing: document 02's item 4, above the file layer. A file is opened by its name as it is typed, and each of its records made a line of
 // ASCII.
+use asking::request;
 use calling::mount;
-use characters::to_ascii;
+use characters::translate;
 use coding::keeps;
-use engines::request;
 use geometry::Geometry;
 use listing::is_short;
-use moving::least;
 use moving::part;
-use requests::Request;
-use requests::number;
 use telling::field_in;
 use telling::find_named;
 use texts::put_all;
@@ -17,9 +14,7 @@ use texts::put_byte;
 use texts::put_number;
 use typing::put_name;
 ghost use mathlib.Core.Path.{_≡_};
-ghost use mathlib.Core.List.{map};
 ghost use lib.ListN.{take, getD};
-ghost use Rattle.characters.specs.Characters.{asciiOf};
 ghost use Rattle.texts.specs.Texts.{Wrote};
 ghost use Rattle.typing.specs.Typing.{nameOf};
 ghost use Rattle.telling.specs.Told.{found};
@@ -37,20 +32,12 @@ impl Piece {
     pub const LONGEST: usize = 3601;
 }
 
-// ---- what is printed
+// The codes of the requests that are asked for.
+const OPEN: u16 = 1;
 
-// Makes the first m bytes of out ASCII, as far as there are so many. The place behind them.
-fn translate(out: &mut [u8], m: usize) -> usize
-    ensures { λ r. ⌜ Wrote (now (out .entry)) 0 (map asciiOf (take m (now (out .entry)))) (now (out .exit)) r ⌝ }
-{
-    let n = least(m, out.len());
-    let mut k = 0;
-    while k < n {
-        out[k] = to_ascii(out[k]);
-        k += 1;
-    }
-    k
-}
+const READ: u16 = 2;
+
+// ---- what is printed
 
 // Makes the record in the first n bytes of out its line; how many bytes that has.
 fn put_line(out: &mut [u8], n: usize) -> usize
@@ -120,7 +107,7 @@ fn open_sequential(
     }
     let size = field_in(session, i, 2);
     let mut none = [0u8; 0];
-    let n = number(request(image, session, i, Request::Open, b"", &mut none));
+    let n = request(image, session, i, OPEN, 0, b"", &mut none);
     if n == 0 {
         *entry = i;
         *length = size as usize;
@@ -195,7 +182,7 @@ pub fn next(
         (r .number) (r .size) (now (image .exit)) (now (session .exit)) (now (out .exit)) ⌝ }
 {
     let n = room_for(length, out);
-    let a = number(request(image, session, entry, Request::Read, b"", &mut out[..n]));
+    let a = request(image, session, entry, READ, 0, b"", &mut out[..n]);
     let size = put_printed(out, n, a);
     Piece { number: a, size }
 }

@@ -9,7 +9,7 @@ use types.Run.{OneOf}
 use Rattle.geometry.specs.Bytes.{part}
 use Rattle.directory.specs.Entries.{entryAt, tableOf}
 use Rattle.looking.specs.Looking.{lookIn}
-use Rattle.lleuadrys.specs.Calls.{Left}
+use Rattle.asking.specs.Requested.{Left}
 use Rattle.scripts.specs.Sums.{wordsOf, total, sumOf}
 use Rattle.summing.specs.Moved.{movedBy, moved}
 use Rattle.scripts.specs.declared.Row.{Row}

@@ -7,7 +7,7 @@ use lib.ListN.{getD}
 use Rattle.geometry.specs.Bytes.{part}
 use Rattle.directory.specs.Entries.{entryAt, tableOf}
 use Rattle.looking.specs.Looking.{lookIn}
-use Rattle.lleuadrys.specs.Calls.{Left}
+use Rattle.asking.specs.Requested.{Left}
 use Rattle.scripts.specs.declared.Row.{Row}
 
 module _ (row : Row) (given : List ℕ) where

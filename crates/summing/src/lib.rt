@@ -8,7 +8,7 @@ ghost use mathlib.Core.Path.{_≡_};
 ghost use Rattle.directory.specs.Entries.{entryAt, tableOf};
 ghost use Rattle.geometry.specs.Bytes as Bytes;
 ghost use Rattle.looking.specs.Looking.{lookIn};
-ghost use Rattle.lleuadrys.specs.Calls.{left};
+ghost use Rattle.asking.specs.Requested.{left};
 ghost use Rattle.scripts.specs.Sums.{wordsOf, sumOf};
 ghost use Rattle.summing.specs.Moved.{moved};
 

@@ -1,6 +1,10 @@
 -- `showing::next` meets its contract: the record is read into the front of the room, and printed there.
-use mathlib.Core.Path.{sym, _∙_}
+use mathlib.Core.Path.{refl, sym, _∙_}
+use mathlib.Core.List.{[]}
 use lib.Seq.{length-take-le}
+use Rattle.requests.specs.Codes.{codes, askedFor}
+use Rattle.requests.specs.declared.Request.the-variants.{Read}
+use Rattle.asking.proofs.Asked.{told-by}
 use Rattle.showing.proofs.Read.{room-is, shows}
 use borrow.Author.Needs.{needs}
 use Rattle.showing.proofs.next.Statement.{statement}
@@ -21,9 +25,6 @@ slice-aggregate-request-2 c = sym (length-take-le _ (c .before .before .before .
 request-requires : tie.Need-request-requires
 request-requires c κs = search needs
 
-number-requires : tie.Need-number-requires
-number-requires c κs = search needs
-
 put-printed-requires : tie.Need-put-printed-requires
 put-printed-requires c κs = search needs
 
@@ -37,12 +38,14 @@ same-length-3 : tie.Need-same-length-3
 same-length-3 c = search needs
 
 returns : tie.Need-returns
+unfolding askedFor codes
 returns c =
-    let a = c .before .before .before .before .before .before .before .before .before .before .before .before .before .before .before .before .before .before .before .before .before .args in
-    let q = c .before .before .before .before .before .before .before .before .before .before .before in
-    shows (a .image .now) (a .session .now) (a .entry) (a .length) (a .out .now) _ (c .before .before .before .before .before .before .before .before .before .before .before .before .before .before .before .before .room-for .ensures) _ (q .request .ensures)
-    (q .request .kept .1 .1 .1 .1 .1 .0 ∙ length-take-le _ (a .out .now) (room-is (a .length) (a .out .now) _ (c .before .before .before .before .before .before .before .before .before .before .before .before .before .before .before .before .room-for .ensures))) _ _ _
-    (c .before .before .before .before .number .ensures) (c .before .before .put-printed .ensures)
+    let a = c .before .before .before .before .before .before .before .before .before .before .before .before .before .before .before .before .before .before .before .before .args in
+    let r = c .before .before .before .before .before .before .before .before .before .before .before .before .before .before .before .room-for in
+    let q = c .before .before .before .before .before .before .before .before .before .before .request in
+    shows (a .image .now) (a .session .now) (a .entry) (a .length) (a .out .now) (r .result) (r .ensures) (q .result) _ _ _
+    (told-by (a .image .now) (a .session .now) (a .entry) [] _ Read (askedFor 2 0) refl _ _ _ _ (q .ensures))
+    (q .kept .1 .1 .1 .1 .1 .1 .0 ∙ length-take-le (r .result) (a .out .now) (room-is (a .length) (a .out .now) (r .result) (r .ensures))) _ _ (c .before .before .put-printed .ensures)
 
 pub next-spec : {M : Type 1} → statement M
 next-spec =
@@ -53,7 +56,6 @@ next-spec =
     slice-relend-prefix-request
     slice-aggregate-request-2
     request-requires
-    number-requires
     put-printed-requires
     same-length
     same-length-2

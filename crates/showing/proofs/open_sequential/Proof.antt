@@ -1,5 +1,9 @@
 -- `showing::open_sequential` meets its contract: a random file stops it, and another is opened.
-use mathlib.Core.Path.{sym, _∙_}
+use mathlib.Core.Path.{refl, sym, _∙_}
+use mathlib.Core.List.{[]}
+use Rattle.requests.specs.Codes.{codes, askedFor}
+use Rattle.requests.specs.declared.Request.the-variants.{Open}
+use Rattle.asking.proofs.Asked.{told-by}
 use Rattle.showing.proofs.Opened.{left-stopped, random-stops, left-open, left-shut}
 use borrow.Author.Needs.{needs}
 use Rattle.showing.proofs.open_sequential.Statement.{statement}
@@ -31,9 +35,6 @@ slice-aggregate-request-2 c = search needs
 request-requires : tie.Need-request-requires
 request-requires c κs = search needs
 
-number-requires : tie.Need-number-requires
-number-requires c κs = search needs
-
 cast-length : tie.Need-cast-length
 cast-length c = search needs
 
@@ -44,10 +45,11 @@ same-length-3 : tie.Need-same-length-3
 same-length-3 c = search needs
 
 returns-2 : tie.Need-returns-2
+unfolding askedFor codes
 returns-2 c =
-    let a = c .before .before .before .before .before .before .before .before .before .before .before .before .before .before .before .before .before .before .before .args in
-    left-open (a .image .now) (a .session .now) (a .i) _ _ (λ h. c .before .before .before .before .before .before .before .before .before .before .before .before .before .before .if1 .left (c .before .before .before .before .before .before .before .before .before .before .before .before .before .before .before .field-in .ensures ∙ h)) (c .before .before .before .before .before .before .before .before .before .before .before .before .field-in2 .ensures) (c .before .before .before .before .before .before .before .request .ensures) _ _ _
-    (c .before .number .ensures) (c .if2 .taken)
+    let a = c .before .before .before .before .before .before .before .before .before .before .before .before .before .before .before .before .before .before .args in
+    let t = told-by (a .image .now) (a .session .now) (a .i) [] [] Open (askedFor 1 0) refl _ _ _ _ (c .before .before .before .before .before .before .request .ensures) in
+    left-open (a .image .now) (a .session .now) (a .i) _ (λ h. c .before .before .before .before .before .before .before .before .before .before .before .before .before .if1 .left (c .before .before .before .before .before .before .before .before .before .before .before .before .before .before .field-in .ensures ∙ h)) (c .before .before .before .before .before .before .before .before .before .before .before .field-in2 .ensures) _ _ _ _ t _ _ (c .if2 .taken)
 
 same-length-4 : tie.Need-same-length-4
 same-length-4 c = search needs
@@ -56,10 +58,11 @@ same-length-5 : tie.Need-same-length-5
 same-length-5 c = search needs
 
 returns-3 : tie.Need-returns-3
+unfolding askedFor codes
 returns-3 c =
-    let a = c .before .before .before .before .before .before .before .before .before .before .before .before .before .before .before .before .before .before .before .args in
-    left-shut (a .image .now) (a .session .now) (a .i) _ _ (λ h. c .before .before .before .before .before .before .before .before .before .before .before .before .before .before .if1 .left (c .before .before .before .before .before .before .before .before .before .before .before .before .before .before .before .field-in .ensures ∙ h)) (c .before .before .before .before .before .before .before .before .before .before .before .before .field-in2 .ensures) (c .before .before .before .before .before .before .before .request .ensures) _ _ _
-    (c .before .number .ensures) (c .if2 .left)
+    let a = c .before .before .before .before .before .before .before .before .before .before .before .before .before .before .before .before .before .before .args in
+    let t = told-by (a .image .now) (a .session .now) (a .i) [] [] Open (askedFor 1 0) refl _ _ _ _ (c .before .before .before .before .before .before .request .ensures) in
+    left-shut (a .image .now) (a .session .now) (a .i) _ (λ h. c .before .before .before .before .before .before .before .before .before .before .before .before .before .if1 .left (c .before .before .before .before .before .before .before .before .before .before .before .before .before .before .field-in .ensures ∙ h)) (c .before .before .before .before .before .before .before .before .before .before .before .field-in2 .ensures) _ _ _ _ t _ _ (c .if2 .left)
 
 pub open-sequential-spec : {M : Type 1} → statement M
 open-sequential-spec =
@@ -73,7 +76,6 @@ open-sequential-spec =
     slice-aggregate-request
     slice-aggregate-request-2
     request-requires
-    number-requires
     cast-length
     same-length-2
     same-length-3

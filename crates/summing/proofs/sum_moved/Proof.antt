@@ -1,5 +1,5 @@
 -- `summing::sum_moved` meets its contract: by the number, then by the code.
-use Rattle.lleuadrys.specs.Calls.{left}
+use Rattle.asking.specs.Requested.{left}
 use Rattle.scripts.specs.Sums.{sumsOf}
 use Rattle.summing.proofs.Moved.{no-words, refused, read, written, looked, other}
 use borrow.Author.Needs.{needs}

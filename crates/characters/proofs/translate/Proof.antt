@@ -1,23 +1,26 @@
--- `showing::translate` meets its contract: behind the first k bytes the rest is to be made ASCII, and is as it was.
+-- `characters::translate` meets its contract: behind the first k bytes the rest is to be made ASCII, and is as it was.
 use mathlib.Core.Path.{_≡_, refl, sym, ap, _∙_}
 use mathlib.Core.List.{List, [], _∷_, _++_, map}
-use Prim.Native.Nat.{ℕ, _≤_, _-_, _+_, min}
+use Prim.Native.Nat.{ℕ, _≤_, _<_, _-_, _+_, min}
 use native.Mathlib.Omega.{arith}
 use borrow.Author.Needs.{needs}
 use lib.ListN.{length, take, drop, getD, length-set}
 use lib.Seq.{drop-set-lt, drop-drop}
-use Rattle.characters.specs.Characters.{asciiOf}
+use Rattle.characters.specs.Characters.{listed, codes, across, asciiOf}
+use Rattle.characters.proofs.Tables.{table-at}
+use Rattle.geometry.specs.Lists.{firstWith}
+use Rattle.texts.specs.Texts.{spelled}
 use Rattle.texts.proofs.Writing.{Leads, leads-on, leads-end}
-use Rattle.showing.proofs.Lines.{wrote-byte, same-byte, rest-more, rest-none}
-use Rattle.showing.proofs.translate.Statement.{statement}
-use Rattle.showing.proofs.translate.Tie as tie
+use Rattle.characters.proofs.Translated.{wrote-byte, same-byte, rest-more, rest-none}
+use Rattle.characters.proofs.translate.Statement.{statement}
+use Rattle.characters.proofs.translate.Tie as tie
 
 abbrev Inv-loop : tie.InvT-loop
-Inv-loop out₀ m n k₀ out k =
+Inv-loop out₀ m table n k₀ out k =
     Leads out₀ 0 (map asciiOf (take m out₀)) out k (map asciiOf (drop k (take m out₀))) × (drop k out ≡ drop k out₀) × (k ≤ n) × (n ≡ min m (length out₀)) × (length out ≡ length out₀)
 
 abbrev μ-loop : tie.MeasureT-loop
-μ-loop out₀ m n k₀ out k = n - k
+μ-loop out₀ m table n k₀ out k = n - k
 
 least-requires : tie.Need-least-requires Inv-loop μ-loop
 least-requires c κs = search needs
@@ -25,14 +28,17 @@ least-requires c κs = search needs
 loop-holds : tie.Need-loop-holds Inv-loop μ-loop
 loop-holds c = (λ new b w. w, refl, omega arith, c .least .ensures, refl)
 
-slice-read-to-ascii : tie.Need-slice-read-to-ascii Inv-loop μ-loop
-slice-read-to-ascii c = let l = c .before .before .loop .inv in omega (arith, l .2, l .3, l .4)
+slice-read-out : tie.Need-slice-read-out Inv-loop μ-loop
+slice-read-out c = let l = c .before .before .loop .inv in omega (arith, l .2, l .3, l .4)
 
-to-ascii-requires : tie.Need-to-ascii-requires Inv-loop μ-loop
-to-ascii-requires c κs = search needs
+cast-out : tie.Need-cast-out Inv-loop μ-loop
+cast-out c = omega (arith, c .slice-known2 .given (c .before .before .loop .k))
+
+array-read-out : tie.Need-array-read-out Inv-loop μ-loop
+array-read-out c = omega (arith, c .slice-known2 .given (c .before .before .loop .k))
 
 slice-write-out : tie.Need-slice-write-out Inv-loop μ-loop
-slice-write-out c = let l = c .before .before .before .loop .inv in omega (arith, l .2, l .3, l .4)
+slice-write-out c = let l = c .before .before .loop .inv in omega (arith, l .2, l .3, l .4)
 
 add-k : tie.Need-add-k Inv-loop μ-loop
 add-k c = search needs
@@ -41,13 +47,15 @@ loop-less : tie.Need-loop-less Inv-loop μ-loop
 loop-less c = search needs
 
 loop-again : tie.Need-loop-again Inv-loop μ-loop
+unfolding asciiOf across listed codes spelled firstWith
 loop-again c =
-    let l = c .before .before .before .loop in
-    let o = c .before .before .before .before .before .before .args .out .now in
-    let m = c .before .before .before .before .before .before .args .m in
+    let l = c .before .before .loop in
+    let o = c .before .before .before .before .before .args .out .now in
+    let m = c .before .before .before .before .before .args .m in
+    let b : getD (l .out) (l .k) 0 < 256 = omega (arith, c .slice-known2 .given (c .before .before .loop .k)) in
     let e : map asciiOf (drop (l .k) (take m o)) ≡ (asciiOf (getD (l .out) (l .k) 0) ∷ []) ++ map asciiOf (drop (l .k + 1) (take m o)) =
     rest-more o m (l .k) (omega (arith, l .inv .3)) ∙ ap (λ (x : ℕ). (asciiOf x ∷ []) ++ map asciiOf (drop (l .k + 1) (take m o))) (sym (same-byte (l .out) o (l .k) (l .inv .1))) in (
-      leads-on (rw (e, ← c .to-ascii .ensures) at (l .inv .0)) (wrote-byte (l .out) (l .k) (omega (arith, l .inv .3, l .inv .4)) _),
+      leads-on (rw (e, ← table-at asciiOf (getD (l .out) (l .k) 0) b) at (l .inv .0)) (wrote-byte (l .out) (l .k) (omega (arith, l .inv .3, l .inv .4)) _),
       drop-set-lt (l .k + 1) (l .out) (l .k) _ (omega arith) ∙ more (l .out) o (l .k) (l .inv .1),
       omega arith,
       l .inv .3,
@@ -76,8 +84,9 @@ translate-spec =
     μ-loop
     least-requires
     loop-holds
-    slice-read-to-ascii
-    to-ascii-requires
+    slice-read-out
+    cast-out
+    array-read-out
     slice-write-out
     add-k
     loop-less

@@ -1,11 +1,11 @@
 -- By the code: a request that there is, or none.
 use mathlib.Core.Path.{sym, ap, _∙_}
 use Rattle.requests.specs.declared.Asked.{Asked}
-use Rattle.lleuadrys.specs.Calls.{requested}
-use Rattle.lleuadrys.proofs.Calls.{asked-for, asked-none}
+use Rattle.asking.specs.Requested.{requested}
+use Rattle.asking.proofs.Asked.{asked-for, asked-none}
 use borrow.Author.Needs.{needs}
-use Rattle.lleuadrys.proofs.lleuadrys_request.Statement.{statement}
-use Rattle.lleuadrys.proofs.lleuadrys_request.Tie as tie
+use Rattle.asking.proofs.request.Statement.{statement}
+use Rattle.asking.proofs.request.Tie as tie
 
 by-code-requires : tie.Need-by-code-requires
 by-code-requires c κs = search needs
@@ -54,8 +54,8 @@ returns-2 c =
     let a = c .before .before .before .before .before .before .before .before .before .before .before .args in
     asked-none (a .image .now) (a .session .now) (a .entry) (a .given .now) (a .buffer .now) _ (c .before .look-answer .result) (c .unknown .result) (sym (c .before .before .before .before .before .before .by-code .ensures) ∙ c .before .before .before .before .enum-told .given .1) (c .before .look-answer .ensures) (c .unknown .ensures)
 
-pub lleuadrys-request-spec : {M : Type 1} → statement M
-lleuadrys-request-spec =
+pub request-spec : {M : Type 1} → statement M
+request-spec =
     tie.close
     (tie.spec
     by-code-requires
