@@ -27,13 +27,16 @@ pub record Begun : Type 0 where
   pub image : List ℕ
   pub session : List ℕ
 
+-- a number that stops the listing tells nothing
 abbrev pub stopped : ℕ → List ℕ → List ℕ → Begun
 stopped n image b = record { number = n; told = []; image = image; session = b }
 
+-- numbers that are told with the number 0 alone
 unfoldable pub tells : ℕ → List ℕ → List ℕ
 tells zero numbers = numbers
 tells (suc n) numbers = []
 
+-- entry i with its R, by what the opening comes to
 abbrev pub openedAs : ℕ → ℕ → After (List ℕ) → Begun
 openedAs i R w = record { number = numberOf (w .answer); told = tells (numberOf (w .answer)) (i ∷ R ∷ []); image = w .image; session = w .session }
 
