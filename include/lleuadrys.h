@@ -232,10 +232,10 @@ uint16_t lleuadrys_delete(uint8_t *image, size_t image_size, uint8_t *session, s
 uint16_t lleuadrys_show(uint8_t *image, size_t image_size, uint8_t *session, size_t session_size, const uint8_t *name,
                         size_t name_size, size_t *entry, size_t *length, uint8_t *out, size_t out_size, size_t *size);
 
-/* Reads the next record; entry and length are those that lleuadrys_show told. 0, with its line, the record in ASCII without its trailing blanks and a newline behind it. 1 at the
-   end of file and 7 at an unmarked end, with no text: the listing is whole. Any other number with the line "ANSWER" and the
-   number, the last of the listing: 6 where out has not a byte more than a record. A record is read into out and made a line
-   there, so bytes of out behind the line may be the record's. */
+/* Reads the next record; entry and length are those that lleuadrys_show told. 0, with its line: the record in ASCII without
+   its trailing blanks, and a newline behind it. 1 at the end of file and 7 at an unmarked end, with no text: the listing is
+   whole. Any other number with the line "ANSWER" and the number, the last of the listing: 6 where out has not a byte more
+   than a record. A record is read into out and made a line there, so bytes of out behind the line may be the record's. */
 uint16_t lleuadrys_line(uint8_t *image, size_t image_size, uint8_t *session, size_t session_size, size_t entry, size_t length,
                         uint8_t *out, size_t out_size, size_t *size);
 
