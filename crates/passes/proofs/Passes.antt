@@ -106,4 +106,4 @@ module _ (u : Bool) (image b typed out : List ℕ) (k : ℕ) (l : length b ≡ s
   prints = either (lists image) good bad
 
 pub pass-listing : PassListing
-pass-listing = record { prints = prints; keeps = λ u image b typed out k l bytes. listing-leaves u image bytes b l typed out k }
+pass-listing = record { prints = prints; stays = λ u image b typed out k l bytes. listing-leaves u image bytes b l typed out k }

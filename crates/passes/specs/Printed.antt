@@ -63,4 +63,4 @@ pub record PassListing : Type 0 where
   pub prints : (u : Bool) (image b typed out : List ℕ) (k : ℕ) → length b ≡ sizeOf u → areBytes image ≡ true → longestLine ≤ length out → mostRecords < k
       → printedBy k image b typed out ≡ passListing image typed
   -- and it leaves the image as it was, whatever the room and the number of calls
-  pub keeps : (u : Bool) (image b typed out : List ℕ) (k : ℕ) → length b ≡ sizeOf u → areBytes image ≡ true → leftBy k image b typed out ≡ image
+  pub stays : (u : Bool) (image b typed out : List ℕ) (k : ℕ) → length b ≡ sizeOf u → areBytes image ≡ true → leftBy k image b typed out ≡ image

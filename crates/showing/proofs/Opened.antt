@@ -48,33 +48,23 @@ module _ (image b : List ℕ) (i : ℕ) where
     is-opened = ap (λ (r : ℕ). openedAs i r w) size ∙ sym (other-opens h)
 
     module _ (n : ℕ) (to lent moved : List ℕ) (t : Told image b i [] [] Open n to lent moved) (oldEntry oldLength : ℕ) where
+      -- by what is told
+      left-told : (l : List ℕ) → tells (numberOf (w .answer)) (i ∷ R ∷ []) ≡ l
+          → Leaves (opening image b i) n to lent oldEntry (getD l 0 oldEntry) oldLength (getD l 1 oldLength)
+      left-told l e =
+          subst (λ (s : Begun). Leaves s n to lent oldEntry (getD l 0 oldEntry) oldLength (getD l 1 oldLength)) is-opened
+          (t .answers, t .leaves, t .stands, ap (λ (xs : List ℕ). getD xs 0 oldEntry) (sym e), ap (λ (xs : List ℕ). getD xs 1 oldLength) (sym e))
+
       pub left-open : n ≡ 0 → Leaves (opening image b i) n to lent oldEntry i oldLength R
-      left-open z = subst (λ (s : Begun). Leaves s n to lent oldEntry i oldLength R) is-opened (t .answers, t .leaves, t .stands, first, second)
-        where
-          both : tells (numberOf (w .answer)) (i ∷ R ∷ []) ≡ i ∷ R ∷ []
-          both = ap (λ (k : ℕ). tells k (i ∷ R ∷ [])) (sym (t .answers) ∙ z) ∙ (unfold tells in refl)
-
-          first : i ≡ getD (tells (numberOf (w .answer)) (i ∷ R ∷ [])) 0 oldEntry
-          first = sym (ap (λ (l : List ℕ). getD l 0 oldEntry) both)
-
-          second : R ≡ getD (tells (numberOf (w .answer)) (i ∷ R ∷ [])) 1 oldLength
-          second = sym (ap (λ (l : List ℕ). getD l 1 oldLength) both)
+      unfolding tells
+      left-open z = left-told (i ∷ R ∷ []) (ap (λ (k : ℕ). tells k (i ∷ R ∷ [])) (sym (t .answers) ∙ z))
 
       pub left-shut : n ≢ 0 → Leaves (opening image b i) n to lent oldEntry oldEntry oldLength oldLength
-      left-shut z = subst (λ (s : Begun). Leaves s n to lent oldEntry oldEntry oldLength oldLength) is-opened (t .answers, t .leaves, t .stands, first, second)
+      left-shut z = left-told [] (no (numberOf (w .answer)) (λ k. z (t .answers ∙ k)))
         where
           no : (k : ℕ) → k ≢ 0 → tells k (i ∷ R ∷ []) ≡ []
           no zero h = absurd (h refl)
           no (suc k) h = unfold tells in refl
-
-          none : tells (numberOf (w .answer)) (i ∷ R ∷ []) ≡ []
-          none = no (numberOf (w .answer)) (λ k. z (t .answers ∙ k))
-
-          first : oldEntry ≡ getD (tells (numberOf (w .answer)) (i ∷ R ∷ [])) 0 oldEntry
-          first = sym (ap (λ (l : List ℕ). getD l 0 oldEntry) none)
-
-          second : oldLength ≡ getD (tells (numberOf (w .answer)) (i ∷ R ∷ [])) 1 oldLength
-          second = sym (ap (λ (l : List ℕ). getD l 1 oldLength) none)
 
 -- ---- what comes before it
 

@@ -1,5 +1,5 @@
 -- The next record: it is read into the front of the room, and a byte is left behind it for the line's end.
-use mathlib.Core.Path.{_≡_, refl, ap, subst, _∙_}
+use mathlib.Core.Path.{_≡_, ap, subst}
 use mathlib.Core.List.{List, [], _++_}
 use Prim.Native.Nat.{ℕ, _≤_, _<_}
 use native.Mathlib.Omega.{arith}
@@ -8,7 +8,6 @@ use lib.ListN.{length, take, drop}
 use lib.Seq.{take-at}
 use borrow.Author.Tests.{ltb-true}
 use Rattle.geometry.proofs.Tests.{either, chosen, not-chosen}
-use Rattle.requests.specs.Numbers.{numberOf}
 use Rattle.requests.specs.declared.Request.the-variants.{Read}
 use Rattle.steps.specs.Step.{After}
 use Rattle.engines.specs.Engines.{requested}

@@ -21,6 +21,9 @@ next-requires c κs = search needs
 print-piece-requires : tie.Need-print-piece-requires Inv-loop μ-loop
 print-piece-requires c κs = search needs
 
+told-requires : tie.Need-told-requires Inv-loop μ-loop
+told-requires c κs = search needs
+
 same-length : tie.Need-same-length Inv-loop μ-loop
 same-length c = search needs
 
@@ -63,6 +66,7 @@ print-lines-spec =
     loop-holds
     next-requires
     print-piece-requires
+    told-requires
     same-length
     same-length-2
     same-length-3
