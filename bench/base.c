@@ -230,10 +230,9 @@ static bool pair_is_good(const struct entry *a, const struct entry *b)
            (a->first + a->sectors <= b->first || b->first + b->sectors <= a->first);
 }
 
-/* Every rule of a good directory but the decoding one. Of a good one it tells the free sectors. */
-static bool table_is_good(const struct entry table[ENTRIES], uint32_t sectors, uint16_t *free)
+/* Every rule of a good directory but the decoding one. */
+static bool table_is_good(const struct entry table[ENTRIES], uint32_t sectors)
 {
-    uint32_t taken = 1; /* sector 0 */
     for (int i = 0; i < ENTRIES; i++) {
         if (!entry_is_good(&table[i], sectors))
             return false;
@@ -242,9 +241,7 @@ static bool table_is_good(const struct entry table[ENTRIES], uint32_t sectors, u
         for (int j = 0; j < i; j++)
             if (table[j].kind != FREE && !pair_is_good(&table[i], &table[j]))
                 return false;
-        taken += table[i].sectors;
     }
-    *free = (uint16_t)(sectors - taken);
     return true;
 }
 
@@ -652,12 +649,11 @@ struct desk {
     const struct entry *table;
     const struct open_file *file[MOST_OPEN];
     bool refused;
-    uint16_t free;
 };
 
 static struct desk plain_desk(const struct session *s)
 {
-    struct desk d = {.table = s->table, .refused = s->refused, .free = s->free};
+    struct desk d = {.table = s->table, .refused = s->refused};
     for (int k = 0; k < MOST_OPEN; k++)
         d.file[k] = &s->files[k];
     return d;
@@ -665,7 +661,7 @@ static struct desk plain_desk(const struct session *s)
 
 static struct desk buffered_desk(const struct buffered_session *s)
 {
-    struct desk d = {.table = s->table, .refused = s->refused, .free = s->free};
+    struct desk d = {.table = s->table, .refused = s->refused};
     for (int k = 0; k < MOST_OPEN; k++)
         d.file[k] = &s->files[k].file;
     return d;
@@ -704,8 +700,7 @@ static bool is_empty(const struct desk *d)
 static bool is_legal(const struct desk *d, size_t size)
 {
     uint32_t sectors = sectors_of(size);
-    uint16_t free;
-    if (sectors == 0 || !table_is_good(d->table, sectors, &free) || d->free != free)
+    if (sectors == 0 || !table_is_good(d->table, sectors))
         return false;
     for (int k = 0; k < MOST_OPEN; k++) {
         if (!d->file[k]->used)
@@ -794,15 +789,14 @@ static struct spot position(const struct desk *d, size_t entry)
 
 /* ---- mounting ---- */
 
-/* Reads the directory of an image of so many sectors; of a good image it tells the free ones. */
-static bool read_table(const uint8_t *image, uint32_t sectors, struct entry table[ENTRIES],
-                       uint16_t *free)
+static bool read_table(const uint8_t *image, size_t size, struct entry table[ENTRIES])
 {
+    uint32_t sectors = sectors_of(size);
     if (sectors == 0)
         return false;
     for (int i = 0; i < ENTRIES; i++)
         table[i] = entry_at(image + ENTRY_BYTES * i);
-    if (!table_is_good(table, sectors, free))
+    if (!table_is_good(table, sectors))
         return false;
     for (int i = 0; i < ENTRIES; i++) {
         struct place end;
@@ -813,33 +807,23 @@ static bool read_table(const uint8_t *image, uint32_t sectors, struct entry tabl
     return true;
 }
 
-/* The figure behind a refused mounting. */
-static uint16_t all_free(uint32_t sectors)
-{
-    return (uint16_t)(sectors == 0 ? 0 : sectors - 1);
-}
-
 enum answer base_mount(const uint8_t *image, size_t size, struct session *s)
 {
-    uint32_t sectors = sectors_of(size);
     memset(s, 0, sizeof *s);
-    if (read_table(image, sectors, s->table, &s->free))
+    if (read_table(image, size, s->table))
         return DONE;
     memset(s->table, 0, sizeof s->table);
     s->refused = true;
-    s->free = all_free(sectors);
     return BAD_IMAGE;
 }
 
 enum answer base_buffered_mount(const uint8_t *image, size_t size, struct buffered_session *s)
 {
-    uint32_t sectors = sectors_of(size);
     memset(s, 0, sizeof *s);
-    if (read_table(image, sectors, s->table, &s->free))
+    if (read_table(image, size, s->table))
         return DONE;
     memset(s->table, 0, sizeof s->table);
     s->refused = true;
-    s->free = all_free(sectors);
     return BAD_IMAGE;
 }
 
@@ -939,46 +923,6 @@ struct spot base_buffered_position(const struct buffered_session *s, size_t entr
     return position(&d, entry);
 }
 
-/* Whether the byte of a truth value is one. */
-static bool is_truth(const bool *b)
-{
-    return *(const uint8_t *)b <= 1;
-}
-
-static bool file_truths(const struct open_file *f)
-{
-    return is_truth(&f->used) && is_truth(&f->beyond);
-}
-
-static bool is_session(const struct session *s)
-{
-    for (int k = 0; k < MOST_OPEN; k++)
-        if (!file_truths(&s->files[k]))
-            return false;
-    return is_truth(&s->refused);
-}
-
-static bool is_buffered_session(const struct buffered_session *s)
-{
-    for (int k = 0; k < MOST_OPEN; k++) {
-        const struct buffered_file *b = &s->files[k];
-        if (!file_truths(&b->file) || !is_truth(&b->holds) || !is_truth(&b->changed))
-            return false;
-    }
-    return is_truth(&s->refused);
-}
-
-uint16_t base_free_sectors(const void *session, size_t size)
-{
-    const struct session *plain = session;
-    const struct buffered_session *buffered = session;
-    if (size == sizeof *plain)
-        return is_session(plain) ? plain->free : 0;
-    if (size == sizeof *buffered)
-        return is_buffered_session(buffered) ? buffered->free : 0;
-    return 0;
-}
-
 /* ---- edits ---- */
 
 /* The first sector of the lowest gap of so many, or the image's sectors if there is none. */
@@ -1010,11 +954,10 @@ static void put_entry(uint8_t *b, const struct entry *e)
     put_word(b + 18, e->flags);
 }
 
-/* The tests of an adding behind 12, and its entry, in the table and in the image; its sectors are
-   no longer free. */
+/* The tests of an adding behind 12, and its entry, in the table and in the image. */
 static enum answer add(const struct desk *d, uint8_t *image, size_t size,
-                       struct entry table[ENTRIES], uint16_t *free, const uint8_t *name,
-                       size_t name_size, struct entry e, size_t *entry)
+                       struct entry table[ENTRIES], const uint8_t *name, size_t name_size,
+                       struct entry e, size_t *entry)
 {
     size_t n = 0;
     if (d->refused)
@@ -1036,22 +979,19 @@ static enum answer add(const struct desk *d, uint8_t *image, size_t size,
     memcpy(e.name, name, 8);
     e.first = (uint16_t)first;
     table[n] = e;
-    *free = (uint16_t)(*free - e.sectors);
     put_entry(image + ENTRY_BYTES * n, &e);
     *entry = n;
     return DONE;
 }
 
-/* The tests of a deleting behind 12; the entry is zeroed in the table and in the image, and its
-   sectors are free. */
+/* The tests of a deleting behind 12; the entry is zeroed in the table and in the image. */
 static enum answer delete_file(const struct desk *d, uint8_t *image, struct entry table[ENTRIES],
-                               uint16_t *free, size_t entry)
+                               size_t entry)
 {
     if (no_such_entry(d, entry))
         return NOT_THERE;
     if (slot_of(d, entry) >= 0)
         return ALREADY_OPEN;
-    *free = (uint16_t)(*free + table[entry].sectors);
     memset(&table[entry], 0, sizeof table[entry]);
     memset(image + ENTRY_BYTES * entry, 0, ENTRY_BYTES);
     return DONE;
@@ -1069,8 +1009,7 @@ enum answer base_add(uint8_t *image, size_t size, struct session *s, const uint8
     struct desk d = plain_desk(s);
     if (!is_legal(&d, size))
         return NOT_LEGAL;
-    return add(&d, image, size, s->table, &s->free, name, name_size, shaped(kind, length, sectors),
-               entry);
+    return add(&d, image, size, s->table, name, name_size, shaped(kind, length, sectors), entry);
 }
 
 enum answer base_buffered_add(uint8_t *image, size_t size, struct buffered_session *s,
@@ -1080,8 +1019,7 @@ enum answer base_buffered_add(uint8_t *image, size_t size, struct buffered_sessi
     struct desk d = buffered_desk(s);
     if (!is_legal(&d, size) || !holds_are_legal(s))
         return NOT_LEGAL;
-    return add(&d, image, size, s->table, &s->free, name, name_size, shaped(kind, length, sectors),
-               entry);
+    return add(&d, image, size, s->table, name, name_size, shaped(kind, length, sectors), entry);
 }
 
 enum answer base_delete(uint8_t *image, size_t size, struct session *s, size_t entry)
@@ -1089,7 +1027,7 @@ enum answer base_delete(uint8_t *image, size_t size, struct session *s, size_t e
     struct desk d = plain_desk(s);
     if (!is_legal(&d, size))
         return NOT_LEGAL;
-    return delete_file(&d, image, s->table, &s->free, entry);
+    return delete_file(&d, image, s->table, entry);
 }
 
 enum answer base_buffered_delete(uint8_t *image, size_t size, struct buffered_session *s,
@@ -1098,7 +1036,7 @@ enum answer base_buffered_delete(uint8_t *image, size_t size, struct buffered_se
     struct desk d = buffered_desk(s);
     if (!is_legal(&d, size) || !holds_are_legal(s))
         return NOT_LEGAL;
-    return delete_file(&d, image, s->table, &s->free, entry);
+    return delete_file(&d, image, s->table, entry);
 }
 
 /* ---- characters ---- */
@@ -1197,8 +1135,7 @@ size_t base_list(const uint8_t *image, size_t size, char *out, size_t room)
 {
     struct text t = {out, room, 0};
     struct entry table[ENTRIES];
-    uint16_t free; /* not listed */
-    if (!is_short(size) || !read_table(image, sectors_of(size), table, &free)) {
+    if (!is_short(size) || !read_table(image, size, table)) {
         put_string(&t, "BAD IMAGE\n");
         return t.size;
     }

@@ -1,4 +1,4 @@
-/* The file layer of document 01, with document 02's items 1, 3, 4 and 5, in plain C: the baseline that the proved one is measured against.
+/* The file layer of document 01, with document 02's items 1, 3 and 4, in plain C: the baseline that the proved one is measured against.
    The same work and the same checks, written plainly: sessions by pointer, bytes moved by memcpy. */
 #ifndef BASE_H
 #define BASE_H
@@ -96,15 +96,13 @@ struct buffered_file {
 struct session {
     struct entry table[ENTRIES];
     struct open_file files[MOST_OPEN];
-    bool refused;  /* from a refused mounting */
-    uint16_t free; /* sectors of the image but sector 0, less those of all used entries */
+    bool refused; /* from a refused mounting */
 };
 
 struct buffered_session {
     struct entry table[ENTRIES];
     struct buffered_file files[MOST_OPEN];
     bool refused;
-    uint16_t free;
 };
 
 /* A part of the image, shown in place; of size 0 when refused. */
@@ -152,10 +150,6 @@ enum answer base_buffered_add(uint8_t *image, size_t size, struct buffered_sessi
                               uint16_t length, uint16_t sectors, size_t *entry);
 enum answer base_buffered_delete(uint8_t *image, size_t size, struct buffered_session *s,
                                  size_t entry);
-
-/* The free sectors that the session in so many bytes stores, of either engine; 0 if they are no session:
-   of any other size, or with a truth value that is neither 0 nor 1. */
-uint16_t base_free_sectors(const void *session, size_t size);
 
 /* The listing. Returns the length of the text, and puts as much of it into `out` as fits. */
 size_t base_list(const uint8_t *image, size_t size, char *out, size_t room);

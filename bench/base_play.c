@@ -2,7 +2,6 @@
    prints what the independent program prints for `second play` of the same. A row of the script is
    eight words: code, entry, length (bytes of a write, buffer size of a read), the granule's low
    word, two that are ignored, the granule's high word, a zero. Writes use up BYTES in order. OUT becomes the image at the end.
-   Each line ends in the free sectors that the session stores.
    base_play list IMAGE: the listing. */
 #include "base.h"
 
@@ -105,12 +104,6 @@ static bool rows_are_good(struct bytes script, size_t left)
 static struct session plain;
 static struct buffered_session buffered;
 
-static unsigned free_sectors(bool with_buffers)
-{
-    return with_buffers ? base_free_sectors(&buffered, sizeof buffered)
-                        : base_free_sectors(&plain, sizeof plain);
-}
-
 /* An adding or a deleting; prints its line. */
 static void edit(bool with_buffers, struct bytes image, const uint8_t *b, size_t row,
                  const uint8_t *given)
@@ -127,7 +120,7 @@ static void edit(bool with_buffers, struct bytes image, const uint8_t *b, size_t
                                              length, sectors, &entry)
                          : base_add(image.at, image.size, &plain, given, name, first, length,
                                     sectors, &entry);
-    printf("%zu %d %zu - - %u\n", row, a, entry, free_sectors(with_buffers));
+    printf("%zu %d %zu - -\n", row, a, entry);
 }
 
 static void play(bool with_buffers, struct bytes image, struct bytes script, const uint8_t *given)
@@ -136,7 +129,7 @@ static void play(bool with_buffers, struct bytes image, struct bytes script, con
     enum answer a = with_buffers ? base_buffered_mount(image.at, image.size, &buffered)
                                  : base_mount(image.at, image.size, &plain);
     const struct entry *table = with_buffers ? buffered.table : plain.table;
-    printf("MOUNT %d %u\n", a, free_sectors(with_buffers));
+    printf("MOUNT %d\n", a);
     for (size_t at = 0, row = 0; at < script.size; at += ROW, row++) {
         const uint8_t *b = script.at + at;
         enum request code = word(b);
@@ -165,10 +158,9 @@ static void play(bool with_buffers, struct bytes image, struct bytes script, con
         struct spot spot = with_buffers ? base_buffered_position(&buffered, entry)
                                         : base_position(&plain, entry);
         if (spot.open)
-            printf("%u %d ", spot.record, spot.beyond);
+            printf("%u %d\n", spot.record, spot.beyond);
         else
-            printf("- - ");
-        printf("%u\n", free_sectors(with_buffers));
+            printf("- -\n");
         given += row_uses(code, length);
     }
 }

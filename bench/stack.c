@@ -63,7 +63,7 @@ static int make_stack(void)
 
 enum { PLAIN, BUFFERED, ENGINES };
 enum { MOUNT, NO_SESSION, ANY_REQUEST, LAST_REQUEST = ANY_REQUEST + 13, LOOK, POSITION, FIND, FIELD,
-       FREE_SECTORS, ADD, DELETE, SHOW, LINE, LIST, WORDS_PUT, DECODE, ENCODE, CHARACTER, SIZES, ROWS };
+       ADD, DELETE, SHOW, LINE, LIST, WORDS_PUT, DECODE, ENCODE, CHARACTER, SIZES, ROWS };
 static const char *const names[ROWS] = {
     [MOUNT] = "`lleuadrys_mount`",
     [NO_SESSION] = "`lleuadrys_request`, any bytes for a session",
@@ -85,7 +85,6 @@ static const char *const names[ROWS] = {
     [POSITION] = "`lleuadrys_position`",
     [FIND] = "`lleuadrys_find`",
     [FIELD] = "`lleuadrys_field`",
-    [FREE_SECTORS] = "`lleuadrys_free_sectors`",
     [ADD] = "`lleuadrys_add`",
     [DELETE] = "`lleuadrys_delete`",
     [SHOW] = "`lleuadrys_show`",
@@ -269,11 +268,6 @@ static void try_position(int engine, size_t session_size, size_t entry)
     done[POSITION][engine] += stands != LLEUADRYS_CLOSED;
 }
 
-static void try_free(int engine, size_t session_size)
-{
-    done[FREE_SECTORS][engine] += TRY(FREE_SECTORS, engine, lleuadrys_free_sectors, A(session), session_size) != 0;
-}
-
 /* A name out of the session's bytes, where an entry begins or anywhere, and every field of an entry. */
 static void try_entry(int engine, size_t session_size, size_t entry)
 {
@@ -352,7 +346,6 @@ static void walk(int engine, const uint8_t *from, unsigned steps)
         try_request(1 <= request && request <= 13 ? ANY_REQUEST + (int)request : ANY_REQUEST, engine, size, entry, request);
         try_look(engine, size, entry, any(9));
         try_position(engine, size, entry);
-        try_free(engine, size);
         try_entry(engine, size, entry);
         if (k % 16 == 0)
             try_edits(engine, size, any_entry());
@@ -367,7 +360,6 @@ static void walk(int engine, const uint8_t *from, unsigned steps)
         try_request(NO_SESSION, engine, size, entry, any(16));
         try_look(engine, size, entry, any(9));
         try_position(engine, size, entry);
-        try_free(engine, size);
         try_entry(engine, size, entry);
         if (k % 4 == 0)
             try_edits(engine, size, entry);
@@ -379,7 +371,7 @@ static void walk(int engine, const uint8_t *from, unsigned steps)
 /* Every number of lent bytes near that of a session, and images of every odd length. */
 static void try_lengths(int engine)
 {
-    static const size_t near[] = {0, 1, 517, 518, 520, 1981, 1982, 1984};
+    static const size_t near[] = {0, 1, 516, 518, 1980, 1982};
     static const size_t sizes[] = {0, 1, 359, 360, 361, 720, sizeof mixed - 1, sizeof mixed};
     for (size_t k = 0; k < sizeof near / sizeof *near; k++) {
         try_mount(engine, mixed, sizeof mixed, near[k]);
@@ -388,7 +380,6 @@ static void try_lengths(int engine)
         try_request(NO_SESSION, engine, near[k], 0, 1 + (unsigned)k);
         try_look(engine, near[k], 0, 0);
         try_position(engine, near[k], 0);
-        try_free(engine, near[k]);
     }
     for (size_t k = 0; k < sizeof sizes / sizeof *sizes; k++) {
         try_mount(engine, mixed, sizes[k], session_sizes[engine]);

@@ -10,7 +10,7 @@
 
 namespace {
 
-static_assert(LLEUADRYS_VERSION / 10000 == 4, "written for version 4");
+static_assert(LLEUADRYS_VERSION / 10000 == 3, "written for version 3");
 
 uint8_t image[LLEUADRYS_MOST_SECTORS * LLEUADRYS_SECTOR];
 

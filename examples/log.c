@@ -211,26 +211,17 @@ static void calibrate(void)
     say("closing CALIB", order(calib, LLEUADRYS_REWIND_OFFLINE));
 }
 
-/* Says how many sectors no file has, which the front panel shows. */
-static void print_free(void)
-{
-    printf("free sectors: %u\n", (unsigned)lleuadrys_free_sectors(session, sizeof session));
-}
-
 /* Adds REMARKS, writes a line into it, and deletes NOTES, whose sectors are then free. */
 static void edit_directory(void)
 {
     size_t remarks = 0, notes = 0;
-    print_free();
     say("adding REMARKS with 60 sectors", add("REMARKS", 60, &remarks));
     say("with 2", add("REMARKS", 2, &remarks));
-    print_free();
     say("once more", add("REMARKS", 2, &remarks));
     say("opening REMARKS", order(remarks, LLEUADRYS_OPEN));
     say("a line", write_line(remarks, "NOTES ARE ON PAPER NOW"));
     say("finding NOTES", find("NOTES", &notes));
     say("deleting NOTES", lleuadrys_delete(image, image_size, session, sizeof session, notes));
-    print_free();
     say("deleting REMARKS", lleuadrys_delete(image, image_size, session, sizeof session, remarks));
     say("closing REMARKS", order(remarks, LLEUADRYS_REWIND_OFFLINE));
     print_listing();

@@ -13,8 +13,8 @@
              with lleuadrys_order, which takes no pointer for them.
    CALLERS   Calls on different images and sessions may run at once. Of one image or one session there is one caller at a
              time: while a call that may change it runs, no other call may be lent the same bytes.
-   STACK     At most 1,232 bytes in the beginning of a pass listing, 912 in a line of it, 848 in a request, 592 in an adding or
-             a deleting, 512 in a listing, 464 for words, 368 in a look, 336 in a mounting, 272 for a character and 120 in any
+   STACK     At most 1,192 bytes in the beginning of a pass listing, 888 in a line of it, 824 in a request, 568 in an adding or
+             a deleting, 528 in a listing, 464 for words, 344 in a look, 272 for a character, 232 in a mounting and 120 in any
              other call, whatever is lent: measured (docs/BENCHMARKS.md). What calls itself does so at most once for each byte
              of a sector.
    IMAGE     360 times N bytes, N from 1 to 4,096: sector 0 is the directory.
@@ -24,7 +24,7 @@
              alignment. A mounting writes them, a request changes them; docs/SESSIONS.md has their form. They may be copied,
              stored in a file, and lent again later, to the same image as it was left, and to any library whose version has
              the same first number. Bytes that are no session are answered like a session that is not legal: 12. Bytes that
-             are all zero are a session with no used entry and no free sector: legal for an image of one sector alone.
+             are all zero are a session with no used entry.
    ENTRY     the number of a file in the directory, 0 to 17; any other is answered 8. lleuadrys_find gives it by name.
    GRANULE   the number of a granule of a random file, from 0 on, in 32 bits. Granules of up to 180 bytes share sectors: as
              many lie in each, one behind another from its byte 0 on, as fit in it whole, so that a file of n sectors with
@@ -68,8 +68,8 @@
 extern "C" {
 #endif
 
-/* 10,000 times the first number, 100 times the second, and the third: this is 4.0.0. */
-#define LLEUADRYS_VERSION 40000
+/* 10,000 times the first number, 100 times the second, and the third: this is 3.1.0. */
+#define LLEUADRYS_VERSION 30100
 
 /* What a request, a mounting, an adding and a deleting answer. */
 enum lleuadrys_answer {
@@ -136,8 +136,8 @@ enum lleuadrys_kind {
 
 /* Sizes in bytes, and limits. */
 enum {
-    LLEUADRYS_SESSION = 519,            /* a session; lleuadrys_session_size gives the same number */
-    LLEUADRYS_BUFFERED_SESSION = 1983,  /* one with buffers; lleuadrys_buffered_session_size */
+    LLEUADRYS_SESSION = 517,            /* a session; lleuadrys_session_size gives the same number */
+    LLEUADRYS_BUFFERED_SESSION = 1981,  /* one with buffers; lleuadrys_buffered_session_size */
     LLEUADRYS_SECTOR = 360,
     LLEUADRYS_MOST_SECTORS = 4096,      /* of an image */
     LLEUADRYS_ENTRIES = 18,             /* of a directory */
@@ -192,15 +192,8 @@ uint16_t lleuadrys_find(const uint8_t *session, size_t session_size, const uint8
    entry is free or not there, and where the bytes are no session. */
 uint32_t lleuadrys_field(const uint8_t *session, size_t session_size, size_t entry, uint16_t field);
 
-/* The free sectors that the session stores: those of the image but its first, less the sectors of all files. Right behind every
-   call on the session, from its mounting on: an adding takes the file's sectors away, a deleting gives them back, and
-   nothing else changes it. Behind a refused mounting it is all of them but the first, or 0 where the image's length is
-   wrong; and 0 where the bytes are no session. An adding of more is refused with 16; one of no more may be too, where they
-   do not stand in one gap. */
-uint16_t lleuadrys_free_sectors(const uint8_t *session, size_t session_size);
-
-/* ---- the RAD Editor's ADD and DELETE. Each changes one entry, in the image's directory and in the session, and the session's
-   free sectors, and no other byte; neither opens or closes a file, and files that are open stand as they stood. */
+/* ---- the RAD Editor's ADD and DELETE. Each changes one entry, in the image's directory and in the session, and no other byte;
+   neither opens or closes a file, and files that are open stand as they stood. */
 
 /* Adds a file: 0, with *entry the number of its entry, the lowest that was free, and its extent in the lowest gap that holds
    it. name has 8 bytes in EBCDIC, blanks (hex 40) behind it; kind is an enum lleuadrys_kind, length that of a record or

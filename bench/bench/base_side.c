@@ -33,11 +33,6 @@ static bool plain_position(const struct side_session *s, size_t entry, uint32_t 
     return spot.open;
 }
 
-static unsigned plain_free_sectors(const struct side_session *s)
-{
-    return base_free_sectors(s, sizeof(struct session));
-}
-
 static unsigned plain_add(uint8_t *image, size_t size, struct side_session *s, const uint8_t *name,
                           size_t name_size, uint16_t kind, uint16_t length, uint16_t sectors,
                           size_t *entry)
@@ -94,11 +89,6 @@ static bool buffered_position(const struct side_session *s, size_t entry, uint32
     return spot.open;
 }
 
-static unsigned buffered_free_sectors(const struct side_session *s)
-{
-    return base_free_sectors(s, sizeof(struct buffered_session));
-}
-
 static unsigned buffered_add(uint8_t *image, size_t size, struct side_session *s,
                              const uint8_t *name, size_t name_size, uint16_t kind,
                              uint16_t length, uint16_t sectors, size_t *entry)
@@ -127,12 +117,11 @@ static unsigned buffered_line(uint8_t *image, size_t size, struct side_session *
                               (char *)out, room, put);
 }
 
-const struct side_engine side_plain = {plain_mount, plain_request, plain_look,
-                                       plain_position, plain_free_sectors, plain_add,
-                                       plain_remove, plain_show, plain_line};
+const struct side_engine side_plain = {plain_mount, plain_request, plain_look, plain_position,
+                                       plain_add,   plain_remove,  plain_show, plain_line};
 const struct side_engine side_buffered = {buffered_mount, buffered_request, buffered_look,
-                                          buffered_position, buffered_free_sectors, buffered_add,
-                                          buffered_remove, buffered_show, buffered_line};
+                                          buffered_position, buffered_add, buffered_remove,
+                                          buffered_show, buffered_line};
 
 size_t side_decode(const uint8_t *code, size_t size, uint8_t *record, size_t length)
 {

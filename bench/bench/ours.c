@@ -30,10 +30,6 @@ _Static_assert(LLEUADRYS_BUFFERED_SESSION <= sizeof(struct side_session), "room"
         *beyond = stands == LLEUADRYS_BEYOND;                                                                          \
         return stands != LLEUADRYS_CLOSED;                                                                             \
     }                                                                                                                  \
-    static unsigned name##_free_sectors(const struct side_session *s)                                                  \
-    {                                                                                                                  \
-        return lleuadrys_free_sectors(s->bytes, bytes_lent);                                                           \
-    }                                                                                                                  \
     static unsigned name##_add(uint8_t *image, size_t size, struct side_session *s, const uint8_t *file_name,          \
                                size_t name_size, uint16_t kind, uint16_t length, uint16_t sectors, size_t *entry)      \
     {                                                                                                                  \
@@ -55,8 +51,8 @@ _Static_assert(LLEUADRYS_BUFFERED_SESSION <= sizeof(struct side_session), "room"
     {                                                                                                                  \
         return lleuadrys_line(image, size, s->bytes, bytes_lent, entry, length, out, room, put);                       \
     }                                                                                                                  \
-    const struct side_engine side_##name = {name##_mount,        name##_request, name##_look,   name##_position,       \
-                                            name##_free_sectors, name##_add,     name##_remove, name##_show, name##_line}
+    const struct side_engine side_##name = {name##_mount, name##_request, name##_look, name##_position,                \
+                                            name##_add,   name##_remove,  name##_show, name##_line}
 
 ENGINE(plain, LLEUADRYS_SESSION);
 ENGINE(buffered, LLEUADRYS_BUFFERED_SESSION);

@@ -23,8 +23,6 @@ struct side_engine {
                    uint32_t granule);
     /* whether the entry's file is open, and where it stands */
     bool (*position)(const struct side_session *s, size_t entry, uint32_t *record, bool *beyond);
-    /* the free sectors that the session stores */
-    unsigned (*free_sectors)(const struct side_session *s);
     /* ADD, which tells the new entry's number, and DELETE */
     unsigned (*add)(uint8_t *image, size_t size, struct side_session *s, const uint8_t *name,
                     size_t name_size, uint16_t kind, uint16_t length, uint16_t sectors,

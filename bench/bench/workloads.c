@@ -374,7 +374,6 @@ static uint32_t refuse_openings(void)
 /* Each edit has a session of its own, so that all find the same; two iterations have as many. */
 enum { EDITS = 500, DELETED = 8 };
 
-static const uint8_t new_name[8] = {0xE9, 0xE9, 0xF0, 0xF1, 0x40, 0x40, 0x40, 0x40};
 static struct side_session edited[2 * EDITS];
 static size_t edits; /* how many are done */
 
@@ -391,10 +390,11 @@ static size_t prepare_edits(void)
 /* A file of four sectors, which the lowest gap behind all the others holds. */
 static uint32_t add_files(void)
 {
+    static const uint8_t name[8] = {0xE9, 0xE9, 0xF0, 0xF1, 0x40, 0x40, 0x40, 0x40};
     uint32_t sum = 0;
     for (size_t i = 0; i < EDITS; i++) {
         size_t added = 0;
-        sum = mix(sum, engine->add(image, size, &edited[edits++], new_name, 8, BLOCKED, 80, 4, &added));
+        sum = mix(sum, engine->add(image, size, &edited[edits++], name, 8, BLOCKED, 80, 4, &added));
         sum = mix(sum, (uint32_t)added << 16 | (uint32_t)image[ENTRY_BYTES * added + 13]);
     }
     return sum;
@@ -407,29 +407,6 @@ static uint32_t delete_files(void)
         sum = mix(sum, engine->remove(image, size, &edited[edits++], entry));
         sum = mix(sum, image[ENTRY_BYTES * entry]);
     }
-    return sum;
-}
-
-/* ---- the free sectors ---- */
-
-enum { FIGURES = 1000 };
-
-/* Four files are open, and a file of four sectors was added to the seventeen. */
-static size_t prepare_figures(void)
-{
-    size_t added;
-    prepare_edits();
-    for (size_t i = 0; i < MOST_OPEN; i++)
-        must(ask(i, OPEN, NULL, 0, 0));
-    must(engine->add(image, size, &session, new_name, 8, BLOCKED, 80, 4, &added));
-    return FIGURES;
-}
-
-static uint32_t tell_figures(void)
-{
-    uint32_t sum = 0;
-    for (size_t i = 0; i < FIGURES; i++)
-        sum = mix(sum, engine->free_sectors(&session));
     return sum;
 }
 
@@ -534,7 +511,6 @@ const struct workload workloads[] = {
          refuse_openings),
     BOTH("add", "500 times ADD, 17 files, fragmented", 0, prepare_edits, add_files),
     BOTH("delete", "500 times DELETE, 17 files", DELETED, prepare_edits, delete_files),
-    BOTH("free", "asking 1,000 times for the free sectors", 0, prepare_figures, tell_figures),
     BOTH("sectors-blocked", "sum: sectors changed by 500 blocked writes", BUSLOG, prepare_stream,
          count_blocked),
     BOTH("sectors-packed", "sum: sectors changed by 500 compressed writes", PASSA, prepare_stream,

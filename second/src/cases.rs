@@ -10,12 +10,10 @@ use crate::directory::{BLOCKED, COMPRESSED, MARKED, RANDOM, UNBLOCKED};
 use crate::disk::Disk;
 use crate::edits::edit_cases;
 use crate::engine::Order;
-use crate::figures::figure_cases;
 use crate::fixed::fixed_cases;
 use crate::generate::{empty_image, fill_compressed, new_entry, put_entry};
 use crate::generate::{random_image, random_script, random_text, roomy_image, script_on, Sort};
 use crate::granules::granule_cases;
-use crate::handmade::Handmade;
 use crate::image::{BLANK, SECTOR};
 use crate::listing::listing;
 use crate::notation::script;
@@ -25,7 +23,7 @@ use crate::random::Random;
 use crate::script::Script;
 use crate::session::Engine;
 use crate::stored::read_session;
-use crate::strange::{other_figure, strange_bytes, strange_bytes_and_refused};
+use crate::strange::{strange_bytes, strange_bytes_and_refused};
 use crate::strange::{strange_session, strange_wide_session};
 
 /// A case: the rule of document 01 that it tries, an image, a script for it, and the patches of the
@@ -102,8 +100,7 @@ impl Case {
 }
 
 /// All cases: the fixed ones, those too long to be committed, those of ADD and DELETE on sessions that are
-/// mounted, those of blanks, of small granules and of the free-sector figure, the damaged ones and `count`
-/// random scripts.
+/// mounted, those of blanks and of small granules, the damaged ones and `count` random scripts.
 pub fn all_cases(seed: u64, count: usize) -> Vec<Case> {
     let mut random = Random::new(seed);
     let mut cases = fixed_cases();
@@ -111,7 +108,6 @@ pub fn all_cases(seed: u64, count: usize) -> Vec<Case> {
     cases.extend(edit_cases().into_iter().filter(Case::is_mounted));
     cases.extend(blank_cases());
     cases.extend(granule_cases().into_iter().filter(Case::is_mounted));
-    cases.extend(figure_cases().into_iter().filter(Case::is_mounted));
     cases.extend(foreign_cases(&mut random, 40));
     cases.extend(damaged_cases(&mut random));
     for number in 0..count {
@@ -351,37 +347,14 @@ fn shared_image(seed: u64, number: usize, sort: Sort) -> Vec<u8> {
 /// Case `number` of a wide run: of four, one begins with a session that no mounting hands out.
 pub fn wide_case(seed: u64, number: usize, requests: usize) -> Case {
     if numbered(!seed, 2 * number).chance(25) {
-        figured_case(seed, number, requests, WRONG_FIGURES)
+        session_case(seed, number, requests, Sort::Wide)
     } else {
         random_case(seed, number, requests, Sort::Wide)
     }
 }
 
-/// How many in a hundred strange sessions of a wide run have another figure than the right one.
-const WRONG_FIGURES: usize = 12;
-
-/// Random case `number` of a seed that begins with a strange session. So many in a hundred have another figure
-/// than the right one.
-pub fn figured_case(seed: u64, number: usize, requests: usize, wrong: usize) -> Case {
-    let (case, mut made) = strange_case(seed, number, requests, Sort::Wide);
-    let mut random = numbered(seed ^ 0xF4EE, number);
-    if random.chance(wrong) {
-        made = other_figure(&mut random, made);
-    }
-    Case {
-        name: format!("figure-script-{number:05}"),
-        ..case.with_sessions(made.patches())
-    }
-}
-
-/// Random case `number` of a seed that begins with a strange session of the right figure.
+/// Random case `number` of a seed that begins with a strange session, its image disturbed by half.
 pub fn session_case(seed: u64, number: usize, requests: usize, sort: Sort) -> Case {
-    let (case, made) = strange_case(seed, number, requests, sort);
-    case.with_sessions(made.patches())
-}
-
-/// A case, and the strange session that it begins with; its image is disturbed by half.
-fn strange_case(seed: u64, number: usize, requests: usize, sort: Sort) -> (Case, Handmade) {
     let mut image = shared_image(seed, number, sort);
     let mut random = numbered(!seed, 2 * number + 1);
     let mut disturbed = image.clone();
@@ -396,15 +369,15 @@ fn strange_case(seed: u64, number: usize, requests: usize, sort: Sort) -> (Case,
         Sort::First => strange_bytes(&mut random, &image, &session),
         Sort::All | Sort::Wide => strange_bytes_and_refused(&mut random, &image, &session),
     };
-    let session = read_session(&made.buffered()).unwrap_or(session);
+    let session = read_session(made.buffered()).unwrap_or(session);
     let script = script_on(&mut random, &session, image.len() / SECTOR, requests, sort);
-    let case = Case::new(
+    Case::new(
         format!("{}session-script-{number:05}", prefix(sort)),
         "A session is legal exactly if ...; requests in any order",
         image,
         script,
-    );
-    (case, made)
+    )
+    .with_sessions(made.patches())
 }
 
 /// The random numbers of a seed's part.

@@ -6,10 +6,9 @@ use std::path::Path;
 
 use crate::blanks::blank_cases;
 use crate::bundle::{bundle, expected, MOST_BUNDLED};
-use crate::cases::{figured_case, foreign_cases, random_case, session_case, Case};
+use crate::cases::{foreign_cases, random_case, session_case, Case};
 use crate::damage::damaged_cases;
 use crate::edits::edit_cases;
-use crate::figures::figure_cases;
 use crate::fixed::fixed_cases;
 use crate::generate::Sort;
 use crate::granules::granule_cases;
@@ -35,15 +34,9 @@ const WIDE: usize = 40;
 const SESSIONS: usize = 20;
 const MOST_PATCHES: usize = 300;
 
-/// How many random scripts on sessions whose figure may be wrong are committed, how many in a hundred of them
-/// have such a figure, and their seed, so that they are other ones than those before.
-const FIGURES: usize = 60;
-const WRONG_FIGURES: usize = 30;
-const FIGURE_SEED: u64 = SEED + 5;
-
 /// The committed cases, in order: the fixed ones, other writers' codes, damage, random scripts, then
 /// sessions of any origin; then those of ADD and DELETE, fixed and random; then those of blanks; then those
-/// of small granules, fixed and random; then those of the free-sector figure, fixed and random.
+/// of small granules, fixed and random.
 pub fn committed_cases() -> Vec<Case> {
     let mut random = Random::new(SEED);
     let mut cases = fixed_cases();
@@ -61,32 +54,18 @@ pub fn committed_cases() -> Vec<Case> {
     cases.extend(granule_cases());
     cases.extend((0..WIDE).map(|number| random_case(SEED, number, 60, Sort::Wide)));
     cases.extend(small_session_scripts(Sort::Wide));
-    cases.extend(figure_cases());
-    cases.extend(small_figure_scripts());
     cases.retain(|case| case.image.len() <= MOST_BUNDLED);
     cases
 }
 
 /// Random scripts on sessions of any origin that some few patches make.
 fn small_session_scripts(sort: Sort) -> Vec<Case> {
+    let few = |case: &Case| case.sessions.iter().map(Vec::len).sum::<usize>() <= MOST_PATCHES;
     (0..)
         .map(|number| session_case(SEED, number, 40, sort))
-        .filter(has_few_patches)
+        .filter(few)
         .take(SESSIONS)
         .collect()
-}
-
-/// The same, and the figure may be wrong.
-fn small_figure_scripts() -> Vec<Case> {
-    (0..)
-        .map(|number| figured_case(FIGURE_SEED, number, 40, WRONG_FIGURES))
-        .filter(has_few_patches)
-        .take(FIGURES)
-        .collect()
-}
-
-fn has_few_patches(case: &Case) -> bool {
-    case.sessions.iter().map(Vec::len).sum::<usize>() <= MOST_PATCHES
 }
 
 /// Writes the six files below a directory, where they stand below the repository's.

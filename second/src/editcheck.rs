@@ -1,13 +1,13 @@
 //! The promises of ADD and DELETE, stated anew and by brute force over sectors: what each must answer, the
-//! one entry that changes, and what comes of it afterwards; and the free-sector figure, counted sector by
-//! sector. Nothing of `editing.rs` is used but the requests themselves.
+//! one entry that changes, and what comes of it afterwards. Nothing of `editing.rs` is used but the
+//! requests themselves.
 
 use crate::editing::{add, delete, Asked};
 use crate::engine;
 use crate::image::{number_of_sectors, word};
 use crate::script::{Code, Row};
 use crate::selfcheck::{must, Check, Side};
-use crate::session::{mount, Session};
+use crate::session::mount;
 
 /// Holds a request that was performed on one side to the rules; nothing, if it is none of the two.
 pub fn check_edit(before: &Side, after: &Side, row: &Row, data: &[u8], said: Said) -> Check {
@@ -147,62 +147,8 @@ fn check_entry(before: &Side, after: &Side, number: usize, bytes: [u8; 20]) -> C
     entry.sectors = word(&bytes, 14);
     entry.count = u32::from(word(&bytes, 16));
     entry.flags = word(&bytes, 18);
-    session.free = counted_free(after) as u16;
-    must(
-        session == after.session,
-        "the table's entry and the figure, and no state",
-    )
+    must(session == after.session, "the table's entry, and no state")
 }
-
-// ---------------------------------------------------------------------------------------------
-// The free-sector figure.
-
-/// The free sectors, one by one.
-fn counted_free(side: &Side) -> usize {
-    runs(side, 1).len()
-}
-
-/// "keep it right from mounting on": the figure of a legal session is the number of sectors in 1 to N − 1
-/// that are in the extent of no used entry. No request but an ADD or DELETE answered 0 changes it, and these
-/// change it by the sectors of their file.
-pub fn check_figure(before: &Side, after: &Side, row: &Row, said: Said) -> Check {
-    let (old, new) = (before.session.free, after.session.free);
-    let sectors_before = |number: usize| before.session.table[number].sectors;
-    match (row.code, said) {
-        (Code::Add, (0, _)) => {
-            let wanted = old.checked_sub(row.more[0]);
-            must(wanted == Some(new), "ADD takes the sectors away")?;
-        }
-        (Code::Delete, (0, _)) => {
-            let wanted = old.checked_add(sectors_before(usize::from(row.entry)));
-            must(wanted == Some(new), "DELETE adds the sectors")?;
-        }
-        _ => must(old == new, "no other request changes the figure")?,
-    }
-    must(
-        said.0 == 12 || usize::from(new) == counted_free(after),
-        "the figure is the number of free sectors",
-    )
-}
-
-/// The figure of a mounting, also of a refused one: "N − 1, or 0 if the length is wrong".
-pub fn check_figure_of_mounting(image: &[u8], answer: u8, session: &Session) -> Check {
-    let lawful = (1..=4_096).any(|n| image.len() == n * 360);
-    let side = Side {
-        image: image.to_vec(),
-        session: session.clone(),
-    };
-    let wanted = match answer {
-        0 => counted_free(&side),
-        _ if lawful => image.len() / 360 - 1,
-        _ => 0,
-    };
-    let right = usize::from(session.free) == wanted;
-    must(right, "the figure of a mounting")
-}
-
-// ---------------------------------------------------------------------------------------------
-// What comes of what they do.
 
 fn check_added(before: &Side, after: &Side, number: usize, asked: &Asked) -> Check {
     let first = runs(before, usize::from(asked.sectors))[0];
@@ -289,8 +235,8 @@ fn check_deleted(before: &Side, after: &Side, number: usize) -> Check {
     )
 }
 
-/// "whenever no file is open, mounting the image afresh gives the same": the table and the figure too, and
-/// no word of a refused mounting.
+/// "whenever no file is open, mounting the image afresh gives the same": the table too, and no word of a
+/// refused mounting.
 pub fn check_fresh_mounting(side: &Side) -> Check {
     let (answer, session) = mount(side.session.engine, &side.image);
     must(answer.number() == 0, "a fresh mounting is good")?;
@@ -298,6 +244,5 @@ pub fn check_fresh_mounting(side: &Side) -> Check {
         session.table == side.session.table,
         "a fresh mounting's table",
     )?;
-    must(session.free == side.session.free, "its figure")?;
     must(!session.refused, "it says that it was not refused")
 }

@@ -1,8 +1,7 @@
 //! Document 02, item 1: the RAD Editor's ADD and DELETE, the same in both engines.
 //!
 //! Both go by the session's table and never read sector 0. "Both change that one directory entry and no
-//! other byte": nothing is opened or closed, no buffer is put back, and four open files stop neither. Both
-//! change the session's free-sector figure (item 5), and no other request does.
+//! other byte": nothing is opened or closed, no buffer is put back, and four open files stop neither.
 
 use crate::answer::{settle, Answer, Outcome};
 use crate::directory::{length_is_good, name_is_good, Entry, Table};
@@ -41,8 +40,6 @@ pub fn add(image: &mut [u8], session: &mut Session, asked: &Asked) -> Result<usi
         flags: 0,
     };
     put_entry(image, session, number, entry);
-    // "An adding that is answered 0 takes the file's sectors away"
-    session.free = session.free.wrapping_sub(entry.sectors);
     Ok(number)
 }
 
@@ -60,9 +57,7 @@ fn try_delete(image: &mut [u8], session: &mut Session, number: usize) -> Outcome
     if session.slot_of(number).is_some() {
         return Err(Answer::OpenAlready); // 9
     }
-    let sectors = session.table[number].sectors;
     put_entry(image, session, number, Entry::default());
-    session.free = session.free.wrapping_add(sectors); // "a deleting adds them"
     Ok(Answer::Done)
 }
 

@@ -11,7 +11,7 @@ use crate::layout::{capacity, unblocked_capacity, Place, MOST_SHARING};
 use crate::model::Model;
 use crate::random::Random;
 use crate::script::{Code, Row, Script};
-use crate::session::{right_figure, Engine, OpenFile, Session, MOST_OPEN};
+use crate::session::{Engine, OpenFile, Session, MOST_OPEN};
 
 // ---------------------------------------------------------------------------------------------
 // Images.
@@ -774,7 +774,6 @@ impl Maker<'_> {
             table: self.table,
             open: [OpenFile::UNUSED; MOST_OPEN],
             refused: self.refused,
-            free: right_figure(&self.table, self.n).unwrap_or(0),
         };
         let mut image = empty_image(self.n);
         if row.code == Code::Add {

@@ -1,11 +1,11 @@
 //! Sessions made by hand, legal or not: what a mounting hands out, with some of its bytes changed, for
 //! both engines at once.
 
-use crate::directory::{ENTRIES, FREE};
-use crate::image::{word, SECTOR};
+use crate::directory::ENTRIES;
+use crate::image::SECTOR;
 use crate::patch::{difference, Patch};
 use crate::session::{mount, Engine, Session, MOST_OPEN};
-use crate::stored::{figure_at, put_number, refused_at, state_bytes, state_start, store, Field};
+use crate::stored::{put_number, refused_at, state_bytes, state_start, store, Field};
 use crate::stored::{BUFFER, CHANGED, ENTRY, HELD_SECTOR, HOLDS, IN_USE, STORED_ENTRY};
 
 const ENGINES: [Engine; 2] = [Engine::Plain, Engine::Buffered];
@@ -15,10 +15,6 @@ const ENGINES: [Engine; 2] = [Engine::Plain, Engine::Buffered];
 pub struct Handmade {
     mounted: [Vec<u8>; 2],
     bytes: [Vec<u8>; 2],
-    /// The whole sectors of the image.
-    n: usize,
-    /// The free-sector figure, if it is told; else it is the right one for the table and the image.
-    figure: Option<u16>,
 }
 
 impl Handmade {
@@ -28,8 +24,6 @@ impl Handmade {
         Handmade {
             bytes: mounted.clone(),
             mounted,
-            n: image.len() / SECTOR,
-            figure: None,
         }
     }
 
@@ -51,7 +45,6 @@ impl Handmade {
     pub fn over(self, image: &[u8]) -> Handmade {
         Handmade {
             bytes: self.bytes,
-            figure: self.figure,
             ..Handmade::mounted(image)
         }
     }
@@ -138,43 +131,14 @@ impl Handmade {
         (0..MOST_OPEN).fold(self, |made, slot| made.set(slot, IN_USE, 0))
     }
 
-    /// The free-sector figure is this one, right or not.
-    pub fn free(mut self, figure: u16) -> Handmade {
-        self.figure = Some(figure);
-        self
-    }
-
-    /// The figure that is right for the table and the image. If the table's files have more sectors than there
-    /// are none is, and it is so modulo 65,536; of a wrong length the whole sectors count.
-    pub fn right_figure(&self) -> u16 {
-        let [plain, _] = &self.bytes;
-        let entries = plain.chunks(STORED_ENTRY).take(ENTRIES);
-        let used = entries.filter(|entry| word(entry, 8) != FREE);
-        let taken = used.fold(0u16, |sum, entry| sum.wrapping_add(word(entry, 14)));
-        let all = self.n.saturating_sub(1) as u16;
-        all.wrapping_sub(taken)
-    }
-
-    /// The bytes of both engines' sessions. This is where the figure gets right, whatever was told of the table
-    /// and the image, unless it was told itself.
-    fn stored(&self) -> [Vec<u8>; 2] {
-        let figure = self.figure.unwrap_or_else(|| self.right_figure());
-        let mut stored = self.bytes.clone();
-        for (engine, bytes) in ENGINES.into_iter().zip(&mut stored) {
-            bytes[figure_at(engine)..].copy_from_slice(&figure.to_le_bytes());
-        }
-        stored
-    }
-
     /// The bytes for the buffered engine.
-    pub fn buffered(&self) -> Vec<u8> {
-        let [_, buffered] = self.stored();
+    pub fn buffered(&self) -> &[u8] {
+        let [_, buffered] = &self.bytes;
         buffered
     }
 
     /// What is patched of the plain and of the buffered engine's session.
     pub fn patches(&self) -> [Vec<Patch>; 2] {
-        let stored = self.stored();
-        std::array::from_fn(|engine| difference(&self.mounted[engine], &stored[engine]))
+        std::array::from_fn(|engine| difference(&self.mounted[engine], &self.bytes[engine]))
     }
 }

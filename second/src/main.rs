@@ -1,4 +1,4 @@
-//! A second, independent implementation of the file layer that document 01 specifies, with items 1 to 5 of
+//! A second, independent implementation of the file layer that document 01 specifies, with items 1 to 4 of
 //! document 02.
 //!
 //! Written from these documents alone, to be held against them: every rule stands beside the sentence
@@ -20,7 +20,6 @@ mod editcheck;
 mod editing;
 mod edits;
 mod engine;
-mod figures;
 mod fixed;
 mod generate;
 mod granulecheck;

@@ -88,12 +88,6 @@ impl Model {
         free
     }
 
-    /// The free-sector figure: the free sectors are counted, one by one.
-    pub fn figure(&self) -> usize {
-        let free = self.free_sectors();
-        free.iter().filter(|&&is_free| is_free).count()
-    }
-
     /// A new file: every run of sectors is tried, from the lowest on.
     fn add(&mut self, row: &Row, name: &[u8]) -> Result<usize, u8> {
         let (kind, r) = (usize::from(row.entry), usize::from(row.granule));

@@ -44,36 +44,34 @@ pub struct Played {
 /// lent the first bytes, as many as its length, of one buffer, which begins as zeros and is never
 /// cleared; "what a write is given stands elsewhere".
 pub fn play(engine: Engine, mut image: Vec<u8>, patches: &[Patch], script: &Script) -> Played {
-    let (answer, mounted) = mount(engine, &image);
-    let mut session = patched(&mounted, patches);
+    let (answer, mut session) = patched_session(engine, &image, patches);
     let mut lent = vec![0; LENT];
-    let mut text = format!("MOUNT {} {}\n", answer.number(), mounted.free);
+    let mut text = format!("MOUNT {}\n", answer.number());
     for (number, (row, data)) in script.steps().into_iter().enumerate() {
         let buffer = &mut lent[..usize::from(row.length)];
         let performed = perform_on(&mut image, session.as_mut(), &row, data, buffer);
         let _ = writeln!(
             text,
-            "{number} {} {} {} {}",
+            "{number} {} {} {}",
             performed.answer.number(),
             performed.third(),
-            state(session.as_ref().filter(|_| !row.code.edits()), row.entry),
-            free(session.as_ref())
+            state(session.as_ref().filter(|_| !row.code.edits()), row.entry)
         );
     }
     Played { text, image }
 }
 
-/// The session that the bytes of one are when they are patched; none if they are no session.
-pub fn patched(mounted: &Session, patches: &[Patch]) -> Option<Session> {
-    let mut bytes = store(mounted);
+/// The answer of a mounting, and the session that its bytes are when they are patched; none if they are
+/// no session.
+pub fn patched_session(
+    engine: Engine,
+    image: &[u8],
+    patches: &[Patch],
+) -> (Answer, Option<Session>) {
+    let (answer, mounted) = mount(engine, image);
+    let mut bytes = store(&mounted);
     put_patches(&mut bytes, patches);
-    read_session(&bytes)
-}
-
-/// FREE: "the number of free sectors that the session stores", right or not; "Where the bytes of the session
-/// are no session ... it is 0".
-fn free(session: Option<&Session>) -> u16 {
-    session.map_or(0, |session| session.free)
+    (answer, read_session(&bytes))
 }
 
 /// POSITION and BEYOND of an entry's file, `- -` if it is not open, or if there is no session to ask. The

@@ -1,6 +1,6 @@
 //! Runs both engines and the tiny model side by side and holds them to document 01's promises, as document
-//! 02's items 1, 3 and 5 have them. What ADD and DELETE must do and what the figure is is in `editcheck.rs`,
-//! where granules lie in `granulecheck.rs`, what the pass listing shows in `showcheck.rs`.
+//! 02's items 1 and 3 have them. What ADD and DELETE must do is in `editcheck.rs`, where granules lie in
+//! `granulecheck.rs`, what the pass listing shows in `showcheck.rs`.
 
 use crate::answer::{Answer, ANSWERS};
 use crate::cases::{all_cases, Case};
@@ -8,10 +8,9 @@ use crate::coding;
 use crate::directory::{
     directory_is_good, Entry, BLOCKED, COMPRESSED, ENTRIES, ENTRY_BYTES, RANDOM,
 };
-use crate::editcheck::{check_edit, check_figure, check_figure_of_mounting, check_fresh_mounting};
+use crate::editcheck::{check_edit, check_fresh_mounting};
 use crate::edits::edit_cases;
 use crate::engine::Order;
-use crate::figures::figure_cases;
 use crate::generate::{
     blank_groups, extent_mut, foreign_code, random_script, random_text, roomy_image, script_on,
     Sort,
@@ -21,7 +20,7 @@ use crate::granules::granule_cases;
 use crate::image::{sector, sector_mut, BLANK, SECTOR};
 use crate::layout::{blocked_place, capacity, sectors_per_record, Place, MOST_RECORDS};
 use crate::model::{hand_code, hand_decode, Model};
-use crate::play::{patched, perform, Performed};
+use crate::play::{patched_session, perform, Performed};
 use crate::random::Random;
 use crate::script::{Code, Row, Script};
 use crate::session::{mount, Buffer, Engine, OpenFile, Session};
@@ -29,7 +28,7 @@ use crate::sessions::session_cases;
 use crate::showcheck::check_shown;
 use crate::shown::shown_cases;
 use crate::stored::{read_session, store};
-use crate::strange::{other_figure, strange_bytes_and_refused, strange_wide_session};
+use crate::strange::{strange_bytes_and_refused, strange_wide_session};
 use crate::wideshow::wide_show_case;
 
 /// Random pass listings that are checked for each script.
@@ -191,7 +190,6 @@ impl Run {
         let side = |engine| {
             let (answer, session) = mount(engine, image);
             must(answer == Answer::Done, "a good image is mounted")?;
-            check_figure_of_mounting(image, 0, &session)?;
             Ok::<Side, String>(Side {
                 image: image.to_vec(),
                 session,
@@ -228,7 +226,6 @@ impl Run {
     fn check_sessions_agree(&self) -> Check {
         let (plain, buffered) = (&self.plain.session, &self.buffered.session);
         must(plain.table == buffered.table, "same tables")?;
-        must(plain.free == buffered.free, "same figures")?;
         for (one, other) in plain.open.iter().zip(&buffered.open) {
             let without_buffer = OpenFile {
                 buffer: Buffer::EMPTY,
@@ -248,10 +245,6 @@ impl Run {
         must(answer == performed.answer.number(), "the model's answer")?;
         must(moved == performed.moved, "the model's bytes")?;
         must(added == performed.added, "the model's new entry")?;
-        must(
-            model.figure() == usize::from(self.plain.session.free),
-            "the model's figure",
-        )?;
         must(
             model.ground == self.plain.image[SECTOR..],
             "the model's ground",
@@ -493,9 +486,7 @@ fn perform_checked(side: &mut Side, row: &Row, data: &[u8]) -> Result<Performed,
     let mut buffer = vec![FILLER; usize::from(row.length)];
     let performed = perform(&mut side.image, &mut side.session, row, data, &mut buffer);
     let answer = performed.answer;
-    let said = (answer.number(), performed.added);
-    check_edit(&before, side, row, data, said)?;
-    check_figure(&before, side, row, said)?;
+    check_edit(&before, side, row, data, (answer.number(), performed.added))?;
     check_granule(&before, side, row, data, answer)?;
     if answer.is_refusal() {
         // ""Nothing changed" covers image, session and caller's buffer."
@@ -648,21 +639,13 @@ fn forget_buffers(session: &mut Session) {
     }
 }
 
-/// The cases of sessions, those of ADD and DELETE, those of small granules and those of the figure: what holds
-/// for either engine by itself.
+/// The cases of sessions, those of ADD and DELETE and those of small granules: what holds for either engine
+/// by itself.
 fn check_session_cases(tally: &mut Tally) -> Check {
-    let cases = [
-        session_cases(),
-        edit_cases(),
-        granule_cases(),
-        figure_cases(),
-    ];
-    for case in cases.concat() {
+    for case in [session_cases(), edit_cases(), granule_cases()].concat() {
         for engine in [Engine::Plain, Engine::Buffered] {
-            let (answer, mounted) = mount(engine, &case.image);
-            check_figure_of_mounting(&case.image, answer.number(), &mounted)
-                .map_err(|why| format!("case {}: {why}", case.name))?;
-            let session = patched(&mounted, case.session_patches(engine));
+            let patches = case.session_patches(engine);
+            let (_, session) = patched_session(engine, &case.image, patches);
             let Some(session) = session else {
                 tally.no_sessions += 1;
                 continue;
@@ -686,11 +669,8 @@ fn check_session_cases(tally: &mut Tally) -> Check {
 fn check_bytes(random: &mut Random, image: &[u8], session: &Session, tally: &mut Tally) -> Check {
     let back = read_session(&store(session));
     must(back.as_ref() == Some(session), "a session comes back")?;
-    let mut made = strange_bytes_and_refused(random, image, session);
-    if random.chance(15) {
-        made = other_figure(random, made);
-    }
-    let Some(session) = read_session(&made.buffered()) else {
+    let made = strange_bytes_and_refused(random, image, session);
+    let Some(session) = read_session(made.buffered()) else {
         tally.no_sessions += 1;
         return Ok(());
     };
@@ -738,7 +718,7 @@ fn check_illegal(random: &mut Random, image: &[u8], session: &Session, tally: &m
 }
 
 /// The ways of `break_session`.
-const WAYS: usize = 32;
+const WAYS: usize = 25;
 
 /// Breaks one rule of a legal session; false if this session has nothing to break that way.
 fn break_session(
@@ -785,26 +765,9 @@ fn break_session(
         13 => entry.count = capacity(entry).unwrap_or(MOST_RECORDS) as u32 + 1,
         14 => entry.count += 1 << 16, // a word's worth more
         24 => session.refused = true,
-        25.. => return break_figure(session, n, way),
         _ => return break_open_file(session, way),
     }
     true
-}
-
-/// Another figure: false if it is the right one by chance.
-fn break_figure(session: &mut Session, n: usize, way: usize) -> bool {
-    let right = session.free;
-    let n = n as u16;
-    session.free = match way {
-        25 => right + 1,
-        26 => right.wrapping_sub(1),
-        27 => right.swap_bytes(),
-        28 => n - 1,
-        29 => n - 1 - right, // those that are taken
-        30 => right ^ 0x8000,
-        _ => 0,
-    };
-    session.free != right
 }
 
 fn break_open_file(session: &mut Session, way: usize) -> bool {

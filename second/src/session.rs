@@ -45,8 +45,8 @@ pub struct OpenFile {
     pub buffer: Buffer,
 }
 
-/// A session: the table of entries, with the count and flags as they are by now, the open files, and what
-/// it says of itself.
+/// A session: the table of entries, with the count and flags as they are by now,
+/// and the open files.
 #[derive(Clone, Debug, PartialEq, Eq)]
 pub struct Session {
     pub engine: Engine,
@@ -54,8 +54,6 @@ pub struct Session {
     pub open: [OpenFile; MOST_OPEN],
     /// "The session from a refused mounting says that it is one".
     pub refused: bool,
-    /// Document 02, item 5: the free-sector figure, "kept right from mounting on".
-    pub free: u16,
 }
 
 impl Buffer {
@@ -98,31 +96,9 @@ pub fn mount(engine: Engine, image: &[u8]) -> (Answer, Session) {
         table,
         open: [OpenFile::UNUSED; MOST_OPEN],
         refused: !good,
-        free: figure_of_mounting(image, &table),
     };
     let answer = if good { Answer::Done } else { Answer::BadImage };
     (answer, session)
-}
-
-/// The figure that a mounting stores. "It is N − 1 less the sectors of all used entries"; "A refused
-/// mounting stores N − 1, or 0 if the length is wrong": its table has no used entry.
-fn figure_of_mounting(image: &[u8], table: &Table) -> u16 {
-    let figure = number_of_sectors(image).and_then(|n| right_figure(table, n));
-    figure.unwrap_or(0)
-}
-
-/// "N − 1 less the sectors of all used entries": none if they have more sectors than that. An image of
-/// lawful length has at most 4,096 sectors.
-pub fn right_figure(table: &Table, n: usize) -> Option<u16> {
-    let all = n.checked_sub(1)?;
-    let left = all.checked_sub(sectors_used(table))?;
-    u16::try_from(left).ok()
-}
-
-/// "the sectors of all used entries"
-fn sectors_used(table: &Table) -> usize {
-    let used = table.iter().filter(|entry| entry.is_used());
-    used.map(|entry| usize::from(entry.sectors)).sum()
 }
 
 impl Session {
@@ -152,19 +128,12 @@ impl Session {
     /// directory rule but the decoding one, at most four files are open, each a different used
     /// entry, ..."  (There are only four open-file states.) And by document 02: "The session from a
     /// refused mounting says that it is one, and if it says so with a used entry or an open file it
-    /// falls under 12."; "a session whose stored figure differs is not legal".
+    /// falls under 12."
     pub fn is_legal(&self, image: &[u8]) -> bool {
         number_of_sectors(image).is_some_and(|n| table_is_good(&self.table, n))
             && self.open_entries_differ()
             && self.open_files().all(|file| self.open_file_is_legal(file))
             && (!self.refused || self.is_empty())
-            && self.figure_is_right(image)
-    }
-
-    /// By the session's table, and "N is the lent image's"; "The rule has no exception for a session from
-    /// a refused mounting". That the length is lawful is a rule of its own.
-    fn figure_is_right(&self, image: &[u8]) -> bool {
-        right_figure(&self.table, image.len() / SECTOR) == Some(self.free)
     }
 
     /// "with no used entry and nothing open"

@@ -992,8 +992,8 @@ fn past_the_end(words: &str) -> Vec<Case> {
     let opened = eight_mounted().open(0, 1);
     let plain = on_eight("past-plain", rule, &opened, words);
     let [mut one, mut other] = plain.sessions.clone();
-    one.push(Patch { at: 519, byte: 2 });
-    other.push(Patch { at: 1_983, byte: 2 });
+    one.push(Patch { at: 517, byte: 2 });
+    other.push(Patch { at: 1_981, byte: 2 });
     for at in [65_536, 0x7FFF_FFFF, 0xFFFF_FFFF] {
         one.push(Patch { at, byte: 255 });
         other.push(Patch { at, byte: 255 });

@@ -1,8 +1,8 @@
 //! A session in bytes. This form is not document 01's: it is that of SESSIONS.md.
 //!
-//! 519 bytes for the plain engine, 1,983 for the buffered one: "the table: 18 entries of 22 bytes",
-//! then "four open-file states, of 30 bytes each, or of 396 with buffers", then "what the session says of
-//! itself" in three: whether it is from a refused mounting, and the free sectors.
+//! 517 bytes for the plain engine, 1,981 for the buffered one: "the table: 18 entries of 22 bytes",
+//! then "four open-file states, of 30 bytes each, or of 396 with buffers", then one byte: whether it is
+//! from a refused mounting.
 
 use crate::directory::{Entry, ENTRIES};
 use crate::image::{put_word, word, SECTOR};
@@ -39,9 +39,8 @@ pub const END_BYTE: Field = field(26, 4);
 pub const HOLDS: Field = field(30, 1);
 pub const HELD_SECTOR: Field = field(31, 4);
 pub const CHANGED: Field = field(35, 1);
-/// What a session says of itself, in the three bytes behind its states.
+/// What a session says of itself: the one byte behind its states.
 const REFUSED: Field = field(0, 1);
-const FREE: Field = field(1, 2);
 /// Where the 360 bytes of the buffer begin in a state.
 pub const BUFFER: usize = 36;
 
@@ -58,19 +57,14 @@ pub fn state_start(engine: Engine, slot: usize) -> usize {
     STATES + slot * state_bytes(engine)
 }
 
-/// Where a session says whether it is from a refused mounting: the first of its last three bytes.
+/// Where a session says whether it is from a refused mounting: its last byte.
 pub fn refused_at(engine: Engine) -> usize {
     state_start(engine, MOST_OPEN)
 }
 
-/// Where a session has its free-sector figure: its last two bytes, the low one first.
-pub fn figure_at(engine: Engine) -> usize {
-    refused_at(engine) + FREE.at
-}
-
-/// The bytes of a session: 519 or 1,983.
+/// The bytes of a session: 517 or 1,981.
 fn session_bytes(engine: Engine) -> usize {
-    figure_at(engine) + FREE.size
+    refused_at(engine) + 1
 }
 
 // ---------------------------------------------------------------------------------------------
@@ -85,9 +79,7 @@ pub fn store(session: &Session) -> Vec<u8> {
     for (to, file) in states.zip(&session.open) {
         store_file(session.engine, to, file);
     }
-    let of_itself = &mut bytes[refused_at(session.engine)..];
-    put_number(of_itself, REFUSED, u64::from(session.refused));
-    put_number(of_itself, FREE, u64::from(session.free));
+    bytes[refused_at(session.engine)] = u8::from(session.refused);
     bytes
 }
 
@@ -119,7 +111,7 @@ fn store_file(engine: Engine, to: &mut [u8], file: &OpenFile) {
     }
 }
 
-/// Puts a number into a state, or into what a session says of itself, low byte first.
+/// Puts a number into a state, low byte first.
 pub fn put_number(state: &mut [u8], field: Field, value: u64) {
     let bytes = value.to_le_bytes();
     state[field.at..field.at + field.size].copy_from_slice(&bytes[..field.size]);
@@ -136,14 +128,12 @@ pub fn read_session(bytes: &[u8]) -> Option<Session> {
         let start = state_start(engine, slot);
         *file = read_file(engine, &bytes[start..start + state_bytes(engine)])?;
     }
-    let of_itself = &bytes[refused_at(engine)..];
     let entry = |i: usize| read_entry(&bytes[i * STORED_ENTRY..(i + 1) * STORED_ENTRY]);
     Some(Session {
         engine,
         table: std::array::from_fn(entry),
         open,
-        refused: truth(of_itself, REFUSED)?,
-        free: number(of_itself, FREE) as u16,
+        refused: truth(&bytes[refused_at(engine)..], REFUSED)?,
     })
 }
 
@@ -201,7 +191,7 @@ fn read_buffer(from: &[u8]) -> Option<Buffer> {
 }
 
 /// "A byte that is 0 or 1 by these tables and has another value, in any of the four states, in use or
-/// not, or among the last three bytes, makes the bytes no session."
+/// not, or at the end, makes the bytes no session."
 fn truth(state: &[u8], field: Field) -> Option<bool> {
     match number(state, field) {
         0 => Some(false),

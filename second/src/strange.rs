@@ -166,25 +166,6 @@ pub fn strange_bytes_and_refused(random: &mut Random, image: &[u8], session: &Se
     }
 }
 
-/// Another figure than the right one, mostly.
-pub fn other_figure(random: &mut Random, made: Handmade) -> Handmade {
-    let right = made.right_figure();
-    let any = random.between(0, 65_535) as u16;
-    let figure = random.pick(&[
-        right.wrapping_add(1),
-        right.wrapping_sub(1),
-        right.wrapping_add(1),
-        right.wrapping_sub(1),
-        right.wrapping_add(256),
-        right.swap_bytes(),
-        right.wrapping_mul(2),
-        0,
-        any,
-        65_535,
-    ]);
-    made.free(figure)
-}
-
 /// The table has a closed file's entry elsewhere, by another name, or not at all; the directory has it.
 fn other_entry(random: &mut Random, made: Handmade, session: &Session) -> Handmade {
     let is_used = |&number: &usize| session.table[number].is_used();

@@ -24,7 +24,6 @@ use Rattle.calling.specs.Mounted.{mount_number, mount_bytes}
 use Rattle.asking.specs.Requested.{requested}
 use Rattle.looking.proofs.Shown.{look_is}
 use Rattle.callers.specs.Lent.{lent_engine, left_of, Called}
-use Rattle.callers.proofs.Kept.{seen-is}
 use Rattle.requests.specs.declared.Asked.TheVariants.{For}
 use Rattle.requests.specs.declared.Edit.{Edit}
 use Rattle.requests.specs.declared.Edit.TheVariants.{Add, Delete}
@@ -124,7 +123,6 @@ called = record {
   adds = adds_same;
   deletes = deletes-same;
   positions = λ b. position (has_buffers b) b;
-  sees = λ b. sym (seen-is (has_buffers b) b);
   shows = shows;
   places = look_is;
   number = number-told;

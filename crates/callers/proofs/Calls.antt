@@ -1,12 +1,11 @@
 -- A run of the calls from C is the run of the engine in lent bytes that their number says, and so that of the tapes and rows: a request leaves as many bytes.
 use mathlib.Core.Path.{◌≡◌, refl, sym, ap, ap₂, ◌∙◌, fun_ext}
-use mathlib.Core.Bool.{Bool, true, false}
+use mathlib.Core.Bool.{Bool, true}
 use mathlib.Core.List.{List, [], ◌∷◌, map}
 use Prim.Native.Nat.{ℕ}
 use lib.ListN.{length}
 use Rattle.geometry.specs.Lists.{numbers_from}
-use Rattle.geometry.specs.Sizes.{entries, sectors_of, lawful_length}
-use Rattle.directory.specs.Sectors.{free_sectors}
+use Rattle.geometry.specs.Sizes.{entries}
 use Rattle.mounting.specs.Mounting.{mounts, plain_mount}
 use Rattle.requests.specs.Codes.{codes, asked_for}
 use Rattle.requests.specs.declared.Asked.TheVariants.{For}
@@ -23,14 +22,13 @@ use Rattle.storing.specs.Stored.{size_of, has_buffers, lent_session}
 use Rattle.storing.proofs.Read.{told-by-size, session-size}
 use Rattle.calling.specs.Mounted.{mount_bytes}
 use Rattle.asking.specs.Requested.{Left}
-use Rattle.demands.specs.Engine.{Engine, Standing, if_look, shown_by, spots_of, answered, step_of, report_of, edited, edit_of, edit_report_of, next, report_for, reports, run, heard, mounted, are_bytes, give_bytes, in_bytes}
+use Rattle.demands.specs.Engine.{Engine, Standing, if_look, shown_by, spots_of, answered, step_of, report_of, edited, edit_of, edit_report_of, next, report_for, reports, heard, mounted, are_bytes, give_bytes}
 use Rattle.demands.proofs.Answers.{bytes-image, bytes-given}
 use Rattle.callers.specs.Lent.{lent_engine, left_of}
-use Rattle.callers.specs.Calls.{call, told_by, call_report, edit_call, edit_call_report, asked_call, call_leaves, call_reports, calls_leave, call_heard, Calling, Panel, Coded}
+use Rattle.callers.specs.Calls.{call, told_by, call_report, edit_call, edit_call_report, asked_call, call_leaves, call_reports, call_heard, Calling, Coded}
 use Rattle.callers.proofs.Called.{called}
 use Rattle.callers.proofs.Demands.{lent-faithful}
 use Rattle.callers.proofs.Kept.{starts}
-use Rattle.callers.proofs.Lent.{lent-figured}
 use Rattle.callers.proofs.Runs.{next-bytes, next-size, first_gives, rest_gives}
 use Rattle.requests.specs.declared.Answer.TheVariants.{Done}
 use Rattle.requests.specs.declared.Edit.{Edit}
@@ -134,19 +132,6 @@ module _ (u : Bool) where
       (ap (λ (v : Standing (List ℕ)). call_heard v rest) (any-leaves w t a)
       ∙ heard-is rest (next E w a) (then-told a rest w t bytes h) (then-bytes a rest w t bytes h) (rest_gives u a rest h))
 
-  leaves-are : (asked : List Asking) (w : Standing (List ℕ)) → has_buffers w.session ≡ u → are_bytes w.image ≡ true → give_bytes asked ≡ true → calls_leave w asked ≡ run E w asked
-  unfolding calls_leave run
-  leaves-are [] w t bytes h = refl
-  leaves-are (a ∷ rest) w t bytes h =
-      ap (λ (v : Standing (List ℕ)). calls_leave v rest) (any-leaves w t a)
-      ∙ leaves-are rest (next E w a) (then-told a rest w t bytes h) (then-bytes a rest w t bytes h) (rest_gives u a rest h)
-
-  -- and as many bytes
-  told-after : (asked : List Asking) (w : Standing (List ℕ)) → has_buffers w.session ≡ u → are_bytes w.image ≡ true → give_bytes asked ≡ true → has_buffers (run E w asked).session ≡ u
-  unfolding run
-  told-after [] w t bytes h = t
-  told-after (a ∷ rest) w t bytes h = told-after rest (next E w a) (then-told a rest w t bytes h) (then-bytes a rest w t bytes h) (rest_gives u a rest h)
-
   -- ---- from a mounting
 
   start-told : (image : List ℕ) → has_buffers (mounted E image).session ≡ u
@@ -170,40 +155,6 @@ calling = record {
       ∙ (lent-faithful u).serves image ok asked fit
       ∙ ap (model_reports (models_of image))
       (sym (ap (λ (v : Standing (List ℕ)). call_heard v asked) (start_is u image b l) ∙ heard-is u asked (mounted (lent_engine u) image) (start-told u image) bytes (bytes-given image asked fit)));
-}
-
--- ---- the free sectors that are told
-
-module _ (u : Bool) (image b : List ℕ) (l : length b ≡ size_of u) (asked : List Asking) (fit : in_bytes image asked ≡ true) where
-  abbrev begun : Standing (List ℕ)
-  begun = mounted (lent_engine u) image
-
-  bytes : are_bytes begun.image ≡ true
-  unfolding mounted
-  bytes = bytes-image image asked fit
-
-  -- behind the run of calls stands the run of the engine
-  then_is : calls_leave (record { image = image; session = mount_bytes image b }) asked ≡ run (lent_engine u) begun asked
-  then_is = ap (λ (v : Standing (List ℕ)). calls_leave v asked) (start_is u image b l) ∙ leaves-are u asked begun (start-told u image) bytes (bytes-given image asked fit)
-
-  -- and what is told of its session is what the engine sees
-  seen-then : lent_session (run (lent_engine u) begun asked).session ≡ (lent_engine u).seen (run (lent_engine u) begun asked).session
-  seen-then =
-      called.sees (run (lent_engine u) begun asked).session
-      ∙ ap (λ (v : Bool). (lent_engine v).seen (run (lent_engine u) begun asked).session) (told-after u asked begun (start-told u image) bytes (bytes-given image asked fit))
-
-  panel-shows : lawful_length image ≡ true → (w : Standing (List ℕ)) → w ≡ calls_leave (record { image = image; session = mount_bytes image b }) asked
-      → (lent_session w.session).says.free ≡ free_sectors (sectors_of w.image) (lent_session w.session).table
-  panel-shows ok w is =
-      rw (is, then_is, seen-then) ((lent-figured u).right image (bytes-image image asked fit) ok asked (bytes-given image asked fit))
-
-  panel-none : lawful_length image ≡ false → (lent_session (calls_leave (record { image = image; session = mount_bytes image b }) asked).session).says.free ≡ 0
-  panel-none l = rw (then_is, seen-then) ((lent-figured u).wrong_length image l asked)
-
-pub panel : Panel
-panel = record {
-  shows = λ u image b l ok asked fit. panel-shows u image b l asked fit ok;
-  wrong_length = λ u image b l no asked fit. panel-none u image b l asked fit no;
 }
 
 pub coded : Coded

@@ -46,11 +46,10 @@ use Rattle.demands.proofs.Bytes.{Bytes, effects-bytes}
 use Rattle.demands.proofs.Illegal.{nothing-changed}
 use Rattle.demands.proofs.Passing.{start}
 use Rattle.demands.proofs.Sound.{sound-of, SoundBench, all_sound}
-use Rattle.storing.specs.Fits.{fits, are_bytes, are_all, entry_fits, file_fits, held_fits, saying_fits, session_fits, buffered_fits}
+use Rattle.storing.specs.Fits.{fits, are_bytes, are_all, entry_fits, file_fits, held_fits, session_fits, buffered_fits}
 use Rattle.callers.proofs.Next.{below, are-every, are-many, set-are, entry-parts, entry-then, file-then-fits}
 use Rattle.callers.proofs.Read.{fresh-fits}
 use Rattle.editing.proofs.Entries.{every-weaker}
-use Rattle.editing.proofs.Fits.{all_three}
 
 -- ---- an array of bytes
 
@@ -122,15 +121,11 @@ files-bare (f ∷ fs) h =
 module _ (s : BufferedSession) (h : buffered_fits s ≡ true) where
   table-are : are_all entries entry_fits s.table ≡ true
   unfolding buffered_fits
-  table-are = all_get_d _ 0 h
+  table-are = and_left (are_all entries entry_fits s.table) (are_all most_open held_fits s.files) h
 
   files-are : are_all most_open held_fits s.files ≡ true
   unfolding buffered_fits
-  files-are = all_get_d _ 1 h
-
-  says-fits : saying_fits s.says ≡ true
-  unfolding buffered_fits
-  says-fits = all_get_d _ 2 h
+  files-are = and_right (are_all entries entry_fits s.table) (are_all most_open held_fits s.files) h
 
   pub helds-every : every held_fits s.files ≡ true
   helds-every = are-every most_open held_fits s.files files-are
@@ -138,9 +133,9 @@ module _ (s : BufferedSession) (h : buffered_fits s ≡ true) where
   pub bare-fits : session_fits (bare s) ≡ true
   unfolding session_fits bare are_all
   bare-fits =
-      all_three _ _ _ table-are
+      and_both _ _ table-are
       (and_both _ _ (eq-eqb (length (map (λ f. f.file) s.files)) most_open (length-map s.files (λ f. f.file) ∙ are-many most_open held_fits s.files files-are))
-      (files-bare s.files helds-every)) says-fits
+      (files-bare s.files helds-every))
 
   pub held-of-fits : (i : ℕ) → held_fits (held_of s i) ≡ true
   unfolding held_of
@@ -158,8 +153,8 @@ module _ (s : BufferedSession) (h : buffered_fits s ≡ true) where
       → buffered_fits (record { says = s.says; table = set s.table i e; files = set s.files k f }) ≡ true
   unfolding buffered_fits
   next_fits i k e f a b =
-      all_three _ _ _ (set-are entries entry_fits s.table i e (are-many entries entry_fits s.table table-are) (are-every entries entry_fits s.table table-are) a)
-      (set-are most_open held_fits s.files k f (are-many most_open held_fits s.files files-are) helds-every b) says-fits
+      and_both _ _ (set-are entries entry_fits s.table i e (are-many entries entry_fits s.table table-are) (are-every entries entry_fits s.table table-are) a)
+      (set-are most_open held_fits s.files k f (are-many most_open held_fits s.files files-are) helds-every b)
 
 -- what fits is of its type
 pub fits-typed : (s : BufferedSession) → buffered_fits s ≡ true → typed s ≡ true

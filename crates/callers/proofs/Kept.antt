@@ -20,10 +20,8 @@ use Rattle.demands.proofs.Counts.{plain-counts}
 use Rattle.demands.proofs.Plain.{plain-faithful}
 use Rattle.demands.proofs.Orderly.{plain-orderly, buffered-orderly}
 use Rattle.demands.proofs.Passing.{plain-passing, buffered-passing}
-use Rattle.promises.specs.Figure.{Figured}
 use Rattle.promises.specs.Granules.{GranuleWrites}
 use Rattle.promises.specs.Quiet.{Quiet}
-use Rattle.promises.proofs.Figure.{plain-figured, buffered-figured}
 use Rattle.promises.proofs.Granules.{plain-granules, buffered-granules}
 use Rattle.promises.proofs.Quiet.{plain_quiet, buffered-quiet}
 use Rattle.callers.specs.Lent.{engine_of, read_by, stored_by, lent_engine}
@@ -65,13 +63,9 @@ pub quiet : (u : Bool) → Quiet (engine_of u)
 quiet true = buffered-quiet
 quiet false = plain_quiet
 
-pub figured : (u : Bool) → Figured (engine_of u)
-figured true = buffered-figured
-figured false = plain-figured
-
 -- ---- what is read
 
-pub seen-is : (u : Bool) (b : List ℕ) → (engine_of u).seen (read_by u b) ≡ session_in u b
+seen-is : (u : Bool) (b : List ℕ) → (engine_of u).seen (read_by u b) ≡ session_in u b
 seen-is true b = refl
 seen-is false b = plain-holds-nothing b
 

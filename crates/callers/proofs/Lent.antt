@@ -16,11 +16,10 @@ use Rattle.steps.specs.Step.{held_of}
 use Rattle.tapes.specs.Model.{Asked, models_of, nothing_open}
 use Rattle.tapes.specs.Runs.{Asking, Heard, touched}
 use Rattle.storing.specs.Stored.{session_in}
-use Rattle.demands.specs.Engine.{plain_engine, buffered_engine, Standing, step_of, run, mounted, are_bytes, in_bytes}
-use Rattle.demands.specs.Demand1.{Passes, Running}
+use Rattle.demands.specs.Engine.{plain_engine, buffered_engine, Standing, run, mounted, in_bytes}
+use Rattle.demands.specs.Demand1.{Running}
 use Rattle.demands.specs.Demand2.{closing, ReadsBack, RoomAlone}
 use Rattle.promises.specs.Edits.{Editable, Adding}
-use Rattle.promises.specs.Figure.{figure_at, Figured}
 use Rattle.demands.specs.Demand3.{belongs, Outside, Agreeing, Agree}
 use Rattle.promises.specs.Buffer.{Buffering, Holding}
 use Rattle.promises.specs.Writes.{plain_count, buffered_count, in_run, records, Counted, Writing, Saving}
@@ -28,16 +27,13 @@ use Rattle.promises.proofs.Adding.{adds}
 use Rattle.demands.proofs.Agree.{agree}
 use Rattle.promises.proofs.Editable.{editable}
 use Rattle.promises.proofs.Buffering.{buffering}
-use Rattle.promises.proofs.Figure.{figured}
 use Rattle.promises.proofs.Holding.{holding}
 use Rattle.promises.proofs.Writes.{plain-counted, buffered-counted, saving}
 use Rattle.demands.proofs.Running.{running}
 use Rattle.demands.proofs.ReadsBack.{reads-back, room-alone}
-use Rattle.demands.proofs.Sound.{sound-image}
 use Rattle.callers.specs.Lent.{engine_of, lent_engine, lent_plain, lent_buffered}
 use Rattle.callers.proofs.Demands.{lent-orderly, lent-passing, lent-faithful, lent-buffering, plain-same, buffered-same, lent-counted, value-writing, lent-sum}
-use Rattle.callers.proofs.Kept as kept
-use Rattle.callers.proofs.Runs.{opened, opened-then, then-opened, then-reports, then-heard, then-models, then-image}
+use Rattle.callers.proofs.Runs.{opened, then-opened, then-reports, then-heard, then-models, then-image}
 
 -- ---- demand 1
 
@@ -59,17 +55,6 @@ lent-editable u = editable (lent_engine u) (lent-orderly u)
 
 pub lent-adding : (u : Bool) → Adding (lent_engine u)
 lent-adding u = adds (lent_engine u) (lent-faithful u)
-
--- ---- the free sectors
-
-lent-stays : (u : Bool) (w : Standing (List ℕ)) → Passes (lent_engine u) w → (a : Asked) → are_bytes a.given ≡ true
-    → figure_at (lent_engine u) (step_of (lent_engine u) w a) ≡ figure_at (lent_engine u) w
-lent-stays u w p a gives =
-    ap (figure_at (engine_of u)) (opened-then u w a (sound-image w.image _ p.is_sound) gives)
-    ∙ (kept.figured u).stays (opened u w) (record { is_sound = p.is_sound; is_legal = p.is_legal }) a gives
-
-pub lent-figured : (u : Bool) → Figured (lent_engine u)
-lent-figured u = figured (lent_engine u) (lent-orderly u) (lent-passing u) (lent-running u) (lent-faithful u) (lent-stays u)
 
 -- ---- demand 3
 

@@ -13,7 +13,7 @@ use Rattle.geometry.specs.Lists.{all, every, first_with}
 use Rattle.geometry.specs.Places.{origin}
 use Rattle.geometry.specs.Sizes.{sector, entries, most_open, most_sectors, compressed}
 use Rattle.geometry.proofs.Tests.{and_left, and_right, and_both, all_get_d, every_any, every_set, either, not_chosen}
-use Rattle.editing.proofs.Fits.{free-fits, all_three}
+use Rattle.editing.proofs.Fits.{free-fits}
 use Rattle.geometry.specs.declared.Place.{Place}
 use Rattle.directory.specs.Entries.{entry_at, free_entry, is_free, is_kind}
 use Rattle.directory.specs.Stamp.{restamped}
@@ -40,7 +40,7 @@ use Rattle.demands.specs.Engine.{plain_engine}
 use Rattle.demands.proofs.Orderly.{plain-orderly}
 use Rattle.demands.proofs.Illegal.{nothing-changed}
 use Rattle.sessions.proofs.Unheld.{unheld-legal}
-use Rattle.storing.specs.Fits.{fits, are_bytes, are_all, entry_fits, file_fits, saying_fits, session_fits}
+use Rattle.storing.specs.Fits.{fits, are_bytes, are_all, entry_fits, file_fits, session_fits}
 
 -- ---- numbers
 
@@ -166,15 +166,11 @@ are-many n p xs h = eqb-true (length xs) n (and_left (eqb (length xs) n) (every 
 module _ (s : Session) (h : session_fits s ≡ true) where
   pub table-are : are_all entries entry_fits s.table ≡ true
   unfolding session_fits
-  table-are = all_get_d _ 0 h
+  table-are = and_left (are_all entries entry_fits s.table) (are_all most_open file_fits s.files) h
 
   pub files-are : are_all most_open file_fits s.files ≡ true
   unfolding session_fits
-  files-are = all_get_d _ 1 h
-
-  pub says-fits : saying_fits s.says ≡ true
-  unfolding session_fits
-  says-fits = all_get_d _ 2 h
+  files-are = and_right (are_all entries entry_fits s.table) (are_all most_open file_fits s.files) h
 
   pub table-every : every entry_fits s.table ≡ true
   table-every = are-every entries entry_fits s.table table-are
@@ -239,8 +235,8 @@ module _ (image : List ℕ) (s : Session) (ok : legal image s ≡ true) (fit : s
   pub session-then : session_fits (session_next a q c s i) ≡ true
   unfolding session_fits
   session-then =
-      all_three _ _ _ (set-are entries entry_fits s.table i (entry_next a q c) (table-many s fit) (table-every s fit) entry-then)
-      (set-are most_open file_fits s.files (slot_of s.files i) (file_next a q c) (files-four s fit) (files-every s fit) file-then-fits) (says-fits s fit)
+      and_both _ _ (set-are entries entry_fits s.table i (entry_next a q c) (table-many s fit) (table-every s fit) entry-then)
+      (set-are most_open file_fits s.files (slot_of s.files i) (file_next a q c) (files-four s fit) (files-every s fit) file-then-fits)
 
 -- ---- a request in the plain engine
 

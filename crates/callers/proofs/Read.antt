@@ -19,8 +19,7 @@ use Rattle.tables.proofs.Entries.{name-is}
 use Rattle.tables.proofs.Rows.{length-row}
 use Rattle.sessions.specs.Session.{fresh}
 use Rattle.sessions.specs.declared.OpenFile.{OpenFile}
-use Rattle.editing.proofs.Fits.{all_three}
-use Rattle.storing.specs.Fits.{fits, are_bytes, are_all, entry_fits, file_fits, held_fits, saying_fits, buffered_fits}
+use Rattle.storing.specs.Fits.{fits, are_bytes, are_all, entry_fits, file_fits, held_fits, buffered_fits}
 use Rattle.storing.specs.Stored.{said_at, saying_in, held_width, files_at, width, size_of, place_in, file_in, held_in, state_in, is_session, table_in, states_in, session_in, unlawful}
 use Rattle.storing.proofs.Parts.{part_bytes}
 use Rattle.storing.proofs.Read.{session-is, session-none, session-bytes, session-size}
@@ -100,11 +99,6 @@ module _ (b : List ℕ) (bytes : every is_byte b ≡ true) where
   state-fits true at l = held_fits_lem at l
   state-fits false at l = fresh-fits (file_in b at) (file-fits at)
 
-  -- two bytes of what a session says of itself
-  said-small : (at : ℕ) → saying_fits (saying_in b at) ≡ true
-  unfolding saying_fits saying_in
-  said-small at = part-fits (at + 1) 2
-
 -- ---- rows of them
 
 row_fits : {A : Type 0} (g : List ℕ → ℕ → A) (p : A → Bool) (w : ℕ) (b : List ℕ) → ((at : ℕ) → at + w ≤ length b → p (g b at) ≡ true)
@@ -123,17 +117,17 @@ row-are g p w b one n at l = and_both _ _ (eq-eqb (length (row_in g w n b at)) n
 -- ---- sessions
 
 none-fits : buffered_fits unlawful ≡ true
-unfolding buffered_fits unlawful are_all every entry_fits file_fits held_fits saying_fits all are_bytes fits
+unfolding buffered_fits unlawful are_all every entry_fits file_fits held_fits all are_bytes fits
 none-fits = refl
 
 module _ (u : Bool) (b : List ℕ) where
   told-fits : is_session u b ≡ true → buffered_fits (record { says = saying_in b (said_at u); table = table_in b; files = states_in u b }) ≡ true
   unfolding buffered_fits entries_in states_in size_of
   told-fits h =
-      let l : length b ≡ files_at + width u * most_open + 3 = session-size u b h in
+      let l : length b ≡ files_at + width u * most_open + 1 = session-size u b h in
       let y : every is_byte b ≡ true = session-bytes u b h in
-      all_three _ _ _ (row-are (entry_in two_words_wide) entry_fits two_words_wide b (entry-fits b y) entries 0 (omega arith))
-      (row-are (state_in u) held_fits (width u) b (state-fits b y u) most_open files_at (omega arith)) (said-small b y (said_at u))
+      and_both _ _ (row-are (entry_in two_words_wide) entry_fits two_words_wide b (entry-fits b y) entries 0 (omega arith))
+      (row-are (state_in u) held_fits (width u) b (state-fits b y u) most_open files_at (omega arith))
 
   pub read_fits : buffered_fits (session_in u b) ≡ true
   read_fits = either (is_session u b) (λ h. rw (session-is u b h) (told-fits h)) (λ h. rw (session-none u b h) none-fits)

@@ -1,15 +1,15 @@
 -- A session that is mounted fits its bytes: the directory's rules bound every number of an entry, and a name is of capitals, digits and blanks.
 use mathlib.Core.Path.{◌≡◌, refl, sym, ◌∙◌}
-use mathlib.Core.Bool.{true, false, ◌&&◌}
+use mathlib.Core.Bool.{Bool, true, false, ◌&&◌}
 use mathlib.Core.List.{List, [], ◌∷◌, map}
-use Prim.Native.Nat.{ℕ, ◌-◌, ◌≤◌}
+use Prim.Native.Nat.{ℕ, ◌≤◌}
 use native.Mathlib.Omega.{arith}
 use lib.Dec.{eqb}
 use lib.ListN.{length, replicate, length-map}
 use borrow.Author.Tests.{eqb-true, eqb-false, eq-eqb}
 use Rattle.geometry.specs.Bytes.{word, is_byte}
 use Rattle.geometry.specs.Lists.{all, every}
-use Rattle.geometry.specs.Sizes.{entries, most_open, most_sectors, sectors_of, lawful_length}
+use Rattle.geometry.specs.Sizes.{entries, most_open, most_sectors, sectors_of}
 use Rattle.geometry.proofs.Places.{lawful-most}
 use Rattle.geometry.proofs.Tests.{and_left, and_right, and_both, either, all_get_d, every_any, every-from}
 use Rattle.directory.specs.Entries.{free_entry, entry_at, is_free, entry_bytes, table_of}
@@ -20,15 +20,13 @@ use Rattle.directory.proofs.Table.{length-table, table-name}
 use Rattle.directory.specs.declared.Entry.{Entry}
 use Rattle.sessions.specs.Session.{idle, fresh, unheld}
 use Rattle.sessions.specs.declared.OpenFile.{OpenFile}
-use Rattle.sessions.specs.declared.Saying.{Saying}
 use Rattle.sessions.specs.declared.Session.{Session}
-use Rattle.mounting.specs.Mounting.{mounts, start_with, mounted_saying, refused_saying, plain_mount, buffered_mount}
+use Rattle.mounting.specs.Mounting.{mounts, start_with, plain_mount, buffered_mount}
 use Rattle.mounting.proofs.Mounted.{mounts-length, mounts-good}
-use Rattle.storing.specs.Fits.{fits, are_bytes, are_all, entry_fits, file_fits, held_fits, saying_fits, session_fits, buffered_fits}
-use Rattle.editing.proofs.Fits.{said_fits, all_three}
+use Rattle.storing.specs.Fits.{fits, are_bytes, are_all, entry_fits, file_fits, held_fits, session_fits, buffered_fits}
 use Rattle.editing.proofs.Entries.{every-weaker, same_byte, are-bytes, used-fits}
 use Rattle.callers.proofs.Read.{pow-some, fresh-fits}
-use Rattle.callers.proofs.Next.{below, entry_whole, table-every, table-many, files-every, files-four, says-fits}
+use Rattle.callers.proofs.Next.{below, entry_whole, table-every, table-many, files-every, files-four}
 
 -- ---- an entry of a good table
 
@@ -76,28 +74,20 @@ idles-fit : are_all most_open file_fits (replicate most_open idle) ≡ true
 unfolding are_all every file_fits all fits
 idles-fit = refl
 
-start_fits : (says : Saying) (t : List Entry) → are_all entries entry_fits t ≡ true → saying_fits says ≡ true → session_fits (start_with says t) ≡ true
+start_fits : (r : Bool) (t : List Entry) → are_all entries entry_fits t ≡ true → session_fits (start_with r t) ≡ true
 unfolding session_fits start_with
-start_fits says t h f = all_three _ _ _ h idles-fit f
+start_fits r t h = and_both _ _ h idles-fit
 
 frees-fit : are_all entries entry_fits (replicate entries free_entry) ≡ true
 unfolding are_all every entry_fits all fits are_bytes
 frees-fit = refl
 
--- no image of lawful length has that many sectors
-refused-small : (image : List ℕ) → saying_fits (refused_saying image) ≡ true
-unfolding saying_fits
-refused-small image = either (lawful_length image)
-    (λ (l : lawful_length image ≡ true). rw (l, refused_saying) (below 2 (sectors_of image - 1) (omega (arith, lawful-most image l))))
-    (λ (l : lawful_length image ≡ false). rw (l, refused_saying) (below 2 0 (omega arith)))
-
 pub mount-fits : (image : List ℕ) → session_fits (plain_mount image).session ≡ true
 unfolding plain_mount
 mount-fits image = either (mounts image)
-    (λ (m : mounts image ≡ true). rw (m, plain_mount) (start_fits (mounted_saying image) (table_of image)
-    (good-fits (sectors_of image) (table_of image) (lawful-most image (mounts-length image m)) (mounts-good image m) (table-name image) (length-table image))
-    (said_fits (sectors_of image) (table_of image) (mounted_saying image) (lawful-most image (mounts-length image m)) refl)))
-    (λ (m : mounts image ≡ false). rw (m, plain_mount) (start_fits (refused_saying image) (replicate entries free_entry) frees-fit (refused-small image)))
+    (λ (m : mounts image ≡ true). rw (m, plain_mount) (start_fits false (table_of image)
+    (good-fits (sectors_of image) (table_of image) (lawful-most image (mounts-length image m)) (mounts-good image m) (table-name image) (length-table image))))
+    (λ (m : mounts image ≡ false). rw (m, plain_mount) (start_fits true (replicate entries free_entry) frees-fit))
 
 -- ---- and with buffers that hold nothing
 
@@ -109,8 +99,8 @@ freshes-fit (f ∷ fs) h = and_both (held_fits (fresh f)) _ (fresh-fits f (and_l
 pub unheld-fits : (s : Session) → session_fits s ≡ true → buffered_fits (unheld s) ≡ true
 unfolding buffered_fits unheld are_all
 unheld-fits s h =
-    all_three _ _ _ (and_both _ _ (eq-eqb (length s.table) entries (table-many s h)) (table-every s h))
-    (and_both _ _ (eq-eqb (length (map fresh s.files)) most_open (length-map s.files fresh ∙ files-four s h)) (freshes-fit s.files (files-every s h))) (says-fits s h)
+    and_both _ _ (and_both _ _ (eq-eqb (length s.table) entries (table-many s h)) (table-every s h))
+    (and_both _ _ (eq-eqb (length (map fresh s.files)) most_open (length-map s.files fresh ∙ files-four s h)) (freshes-fit s.files (files-every s h)))
 
 pub mount-fits-buffered : (image : List ℕ) → buffered_fits (buffered_mount image).session ≡ true
 unfolding buffered_mount

@@ -1,11 +1,10 @@
 -- What C sees of a run of its calls, from a mounting on: each a request by its code, an adding or a deleting, on the image and the session's bytes that the one
 -- before it left.
 -- Definitions only.
-use Rattle.std.specs.Prelude.{◌≡◌, Bool, true, false, List, [], ◌∷◌, map, ℕ, length}
+use Rattle.std.specs.Prelude.{◌≡◌, Bool, true, List, [], ◌∷◌, map, ℕ, length}
 use Rattle.geometry.specs.Bytes.{part}
 use Rattle.geometry.specs.Lists.{numbers_from}
-use Rattle.geometry.specs.Sizes.{entries, sectors_of, lawful_length}
-use Rattle.directory.specs.Sectors.{free_sectors}
+use Rattle.geometry.specs.Sizes.{entries}
 use Rattle.mounting.specs.Mounting.{mounts}
 use Rattle.requests.specs.Codes.{asked_for}
 use Rattle.sessions.specs.Session.{bare, spot_of}
@@ -70,11 +69,6 @@ unfoldable pub call_reports : Standing (List ℕ) → List Asking → List Repor
 call_reports w [] = []
 call_reports w (a ∷ rest) = asked_call w a ∷ call_reports (call_leaves w a) rest
 
--- what a run of calls leaves
-unfoldable pub calls_leave : Standing (List ℕ) → List Asking → Standing (List ℕ)
-calls_leave w [] = w
-calls_leave w (a ∷ rest) = calls_leave (call_leaves w a) rest
-
 -- as the tapes and rows hear it
 unfoldable pub call_heard : Standing (List ℕ) → List Asking → List Heard
 call_heard w [] = []
@@ -87,15 +81,6 @@ pub record Calling : Type 0 where
   pub serves : (u : Bool) (image b : List ℕ) → length b ≡ size_of u → mounts image ≡ true → (asked : List Asking) → in_bytes image asked ≡ true
       → call_reports (record { image = image; session = mount_bytes image b }) asked
       ≡ model_reports (models_of image) (call_heard (record { image = image; session = mount_bytes image b }) asked)
-
--- "The front panel shows the free sectors after every request": what the call tells that asks for them, behind any calls from a mounting on, whatever it answered
-pub record Panel : Type 0 where
-  pub shows : (u : Bool) (image b : List ℕ) → length b ≡ size_of u → lawful_length image ≡ true → (asked : List Asking) → in_bytes image asked ≡ true
-      → (w : Standing (List ℕ)) → w ≡ calls_leave (record { image = image; session = mount_bytes image b }) asked
-      → (lent_session w.session).says.free ≡ free_sectors (sectors_of w.image) (lent_session w.session).table
-  -- "or 0 if the length is wrong"
-  pub wrong_length : (u : Bool) (image b : List ℕ) → length b ≡ size_of u → lawful_length image ≡ false → (asked : List Asking) → in_bytes image asked ≡ true
-      → (lent_session (calls_leave (record { image = image; session = mount_bytes image b }) asked).session).says.free ≡ 0
 
 -- and every request has a code, by which C names it
 pub record Coded : Type 0 where

@@ -72,8 +72,6 @@ pub record Called : Type 0 where
   pub adds : (image b : List ℕ) (i kind size sectors : ℕ) (name : List ℕ) → edited_in image b 0 (Add kind size sectors) name ≡ edited_in image b i (Add kind size sectors) name
   pub deletes : (image b : List ℕ) (i : ℕ) (name : List ℕ) → edited_in image b i Delete [] ≡ edited_in image b i Delete name
   pub positions : (b : List ℕ) (i : ℕ) → spot_of (bare (lent_session b)) i ≡ (lent_engine (has_buffers b)).position b i
-  -- the session that C is told of, as the engine sees it
-  pub sees : (b : List ℕ) → lent_session b ≡ (lent_engine (has_buffers b)).seen b
   -- what is shown, and that C is told its place and size
   pub shows : (image b : List ℕ) (i g : ℕ) → look_in image b i g ≡ (lent_engine (has_buffers b)).look image b i g
   pub places : (image b : List ℕ) (i g old : ℕ) → part image (look_place image b i g old) (length (look_in image b i g)) ≡ look_in image b i g

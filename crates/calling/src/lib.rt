@@ -8,7 +8,7 @@ ghost use Rattle.calling.specs.Mounted.{mount_number, mount_bytes};
 
 use finding::spot_in;
 use looking::look;
-use mounting::start_saying;
+use mounting::mounts;
 use numbering::tell;
 use storing::{Form, put_start};
 
@@ -20,9 +20,9 @@ pub fn mount(image: &[u8], session: &mut [u8]) -> u16
 {
     let n = session.len();
     if (n == Form::SESSION) | (n == Form::BUFFERED) {
-        let says = start_saying(image);
-        put_start(session, image, says);
-        if says.refused { 11 } else { 0 }
+        let good = mounts(image);
+        put_start(session, image, good);
+        if good { 0 } else { 11 }
     } else {
         12
     }

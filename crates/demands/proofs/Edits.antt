@@ -23,7 +23,7 @@ use Rattle.requests.proofs.InOrder.{edits-in-order}
 use Rattle.sessions.specs.Session.{bare, unheld, extent, legal, buffered_legal, typed}
 use Rattle.sessions.proofs.Legal.{lawful-length, good-table, bare-legal}
 use Rattle.sessions.proofs.Unheld.{unheld-legal}
-use Rattle.steps.specs.Edit.{edited_number, edited_entry, edited_saying, told_of, table_edited, says_edited, Edited, edit_answer_by, edit_by, plain_edit, buffered_edit_answer, buffered_edit}
+use Rattle.steps.specs.Edit.{edited_number, edited_entry, told_of, table_edited, Edited, edit_answer_by, edit_by, plain_edit, buffered_edit_answer, buffered_edit}
 use Rattle.steps.proofs.Edited.{Edits, done-legal, eight-done, added-done, edit-either, longest-most}
 use Rattle.steps.proofs.Laid.{length-laid, laid-outside, extent-laid}
 use Rattle.steps.proofs.Unheld.{held_none, plain-as-held}
@@ -40,7 +40,6 @@ use Rattle.requests.specs.declared.Edit.{Edit}
 use Rattle.requests.specs.declared.Edit.TheVariants.{Add, Delete}
 use Rattle.requests.specs.declared.Refusal.{Refusal}
 use Rattle.sessions.specs.declared.BufferedSession.{BufferedSession}
-use Rattle.sessions.specs.declared.Saying.{Saying}
 use Rattle.sessions.specs.declared.Session.{Session}
 
 pub edits-along : (x : Edit) → (in_order (edit_tests x) ≡ true) × (every in_line (edit_tests x) ≡ true)
@@ -88,16 +87,13 @@ module _ (image : List ℕ) (s : BufferedSession) (i : ℕ) (x : Edit) (name : L
   abbrev e : Entry
   e = edited_entry x (sectors_of image) s.table name
 
-  abbrev then : Saying
-  then = edited_saying x s.says (entry_at s.table n)
-
   -- of an edit: what holds of one that lays an entry, and of one that is refused
   either_way : (P : Edited BufferedSession → Type 0)
-      → (buffered_edit_answer image s i x name ≡ Done → P (record { answer = Done; told = told_of x n; image = lay_entry one_word_wide entries image n e; session = with_entry s then n e }))
+      → (buffered_edit_answer image s i x name ≡ Done → P (record { answer = Done; told = told_of x n; image = lay_entry one_word_wide entries image n e; session = with_entry s n e }))
       → ((y : Refusal) → buffered_edit_answer image s i x name ≡ Refused y → P (record { answer = Refused y; told = []; image = image; session = s }))
       → P (buffered_edit image s i x name)
   unfolding bare
-  either_way P done refused = edit-either (buffered_legal image s) (λ says table. record { says = says; table = table; files = s.files }) image (bare s) i x name P done refused
+  either_way P done refused = edit-either (buffered_legal image s) (λ table. record { says = s.says; table = table; files = s.files }) image (bare s) i x name P done refused
 
   pub buffered-proper-edit : ProperEdit buffered_engine image s i x name (buffered_edit image s i x name)
   unfolding bare is_refusal
@@ -126,12 +122,12 @@ module _ (image : List ℕ) (s : BufferedSession) (i : ℕ) (x : Edit) (name : L
       either_way (λ (r : Edited BufferedSession). extent (entry_at s.table k) r.image ≡ extent (entry_at s.table k) image)
       (λ d.
       let ok : buffered_legal image s ≡ true = done-legal (buffered_legal image s) image (bare s) i x name d in
-      let z : Edits (sectors_of image) (bare s) then n e = buffered-edits image s ok t i x name d in
+      let z : Edits (sectors_of image) (bare s) n e = buffered-edits image s ok t i x name d in
       extent-laid image n e z.eight z.inside (entry_at s.table k) (lies (sectors_of image) s.table (good-table image (bare s) (bare-legal image s ok)) k (eqb-false _ 0 u)).starts)
       (λ y d. refl)
 
   module _ (fine : sound image s ≡ true) (ok : buffered_legal image s ≡ true) (gives : Bytes name) where
-    edits : buffered_edit_answer image s i x name ≡ Done → Edits (sectors_of image) (bare s) then n e
+    edits : buffered_edit_answer image s i x name ≡ Done → Edits (sectors_of image) (bare s) n e
     edits d = buffered-edits image s ok (sound-typed image s fine) i x name d
 
     made : buffered_edit_answer image s i x name ≡ Done → Bytes (entry_of one_word_wide e)
@@ -143,9 +139,9 @@ module _ (image : List ℕ) (s : BufferedSession) (i : ℕ) (x : Edit) (name : L
     buffered-edit-passes =
         either_way (λ (r : Edited BufferedSession). (sound r.image r.session ≡ true) × (buffered_legal r.image r.session ≡ true))
         (λ d. (
-          sound-of (lay_entry one_word_wide entries image n e) (with_entry s then n e) (laid-bytes image n e (sound-image image s fine) (made d))
-              (typed-entry s (sound-typed image s fine) then n e (edits d).eight) (sound-buffers image s fine),
-          entry-legal image s ok then n e (edits d),
+          sound-of (lay_entry one_word_wide entries image n e) (with_entry s n e) (laid-bytes image n e (sound-image image s fine) (made d))
+              (typed-entry s (sound-typed image s fine) n e (edits d).eight) (sound-buffers image s fine),
+          entry-legal image s ok n e (edits d),
         ))
         (λ y d. (fine, ok))
 
@@ -153,7 +149,7 @@ module _ (image : List ℕ) (s : BufferedSession) (i : ℕ) (x : Edit) (name : L
 
 module _ (image : List ℕ) (s : Session) (i : ℕ) (x : Edit) (name : List ℕ) where
   stays_plain : (y : Refusal) → (plain_edit image s i x name).answer ≡ Refused y → (plain_edit image s i x name).session ≡ s
-  unfolding edit_by table_edited says_edited
+  unfolding edit_by table_edited
   stays_plain y h = rw h
 
   pub plain-proper-edit : ProperEdit plain_engine image s i x name (plain_edit image s i x name)

@@ -12,8 +12,7 @@ use Rattle.geometry.specs.Sizes.{sector, random, sectors_of}
 use Rattle.geometry.proofs.Bytes.{Apart}
 use Rattle.geometry.proofs.Tests.{either, or-either}
 use Rattle.directory.specs.Entries.{entry_at, is_free, is_kind, is_marked}
-use Rattle.directory.specs.Sectors.{is_taken}
-use Rattle.gaps.specs.Gaps.{stands_free, lowest_gap}
+use Rattle.gaps.specs.Gaps.{stands_free, is_taken, lowest_gap}
 use Rattle.shapes.specs.Made.{file_made}
 use Rattle.gaps.proofs.Gaps.{gap-stands, gap_same}
 use Rattle.gaps.proofs.Taken.{gap-apart}

@@ -12,9 +12,8 @@ use Rattle.geometry.specs.Sizes.{sectors_of, lawful_length}
 use Rattle.names.specs.Names.{capital, digit, rest_of_name, is_name}
 use Rattle.directory.specs.Entries.{entry_from, entry_bytes, entries_from, table_of, free_entry, entry_at, is_marked}
 use Rattle.directory.specs.Rules.{kind_known, free_is_zero, name_good, names_differ, extent_inside, extents_apart, flags_known, longest, length_good, count_good, random_bare, table_rules, table_good}
-use Rattle.directory.specs.Sectors.{sectors_taken, sectors_used, free_sectors}
 use Rattle.requests.proofs.First.{not-legal}
-use Rattle.sessions.specs.Session.{idle, fresh, bare, is_of, open_files, of_used_entry, of_other, position_good, beyond_good, place_good, places_good, held_good, saying_good, figure_good, session_rules, legal, buffered_legal}
+use Rattle.sessions.specs.Session.{idle, fresh, bare, is_of, open_files, of_used_entry, of_other, position_good, beyond_good, place_good, places_good, held_good, saying_good, session_rules, legal, buffered_legal}
 use Rattle.steps.specs.Next.{facts_of}
 use Rattle.steps.specs.Step.{After, buffered_answer}
 use Rattle.demands.specs.Engine.{Engine}
@@ -48,7 +47,7 @@ module _ (E : Engine) (orderly : Orderly E) (image : List ℕ) (s : E.Session) (
 
 -- legality, with what it computes by
 is_legal : List ℕ → BufferedSession → Bool
-unfolding part padded word_at word all every pairwise how_many same sectors_for per_sector shares capacity sectors_of lawful_length entry_from entry_bytes entries_from table_of is_marked kind_known free_is_zero capital digit rest_of_name is_name name_good names_differ extent_inside extents_apart flags_known longest length_good count_good random_bare table_rules table_good bare is_of open_files of_used_entry of_other position_good beyond_good place_good places_good held_good sectors_taken sectors_used free_sectors saying_good figure_good session_rules legal buffered_legal
+unfolding part padded word_at word all every pairwise how_many same sectors_for per_sector shares capacity sectors_of lawful_length entry_from entry_bytes entries_from table_of is_marked kind_known free_is_zero capital digit rest_of_name is_name name_good names_differ extent_inside extents_apart flags_known longest length_good count_good random_bare table_rules table_good bare is_of open_files of_used_entry of_other position_good beyond_good place_good places_good held_good saying_good session_rules legal buffered_legal
 is_legal image s = buffered_legal image s
 
 -- four sectors: entry 0 a blocked file of R 180, one record, marked; entry 1 a compressed file with no record; entry 2 a random file; one sector each
@@ -69,11 +68,11 @@ abbrev holding_it : ℕ → OpenFile → BufferedFile
 holding_it k f = record { file = f; holds = true; held = k; changed = false; buffer = replicate 360 0 }
 
 abbrev having : List Entry → BufferedFile → BufferedFile → BufferedSession
-having t a b = record { says = record { refused = false; free = 0 }; table = t; files = a ∷ b ∷ fresh idle ∷ fresh idle ∷ [] }
+having t a b = record { says = record { refused = false }; table = t; files = a ∷ b ∷ fresh idle ∷ fresh idle ∷ [] }
 
--- nothing open; whether it says that it is from a refused mounting, and the free sectors
-abbrev saying : Bool → ℕ → List Entry → BufferedSession
-saying r n t = record { says = record { refused = r; free = n }; table = t; files = replicate 4 (fresh idle) }
+-- nothing open, and it says that it is from a refused mounting
+abbrev saying : List Entry → BufferedSession
+saying t = record { says = record { refused = true }; table = t; files = replicate 4 (fresh idle) }
 
 -- entry 0 beyond its mark
 abbrev first : BufferedFile
@@ -82,10 +81,8 @@ first = fresh (at 0 1 true origin origin)
 examples : is_legal four (having (table_of four) first (holding_it 0 (at 1 0 false (place 0 360) origin)))
     ∷ is_legal four (having (table_of four) first (record { file = idle; holds = true; held = 9; changed = true; buffer = [] }))  -- a state not in use is not looked at
     ∷ is_legal four (having (table_of four) first (holding_it 0 (at 2 0 false origin origin)))  -- a random file has no buffer, but the sector lies in its extent
-    ∷ is_legal four (saying true 3 (replicate 18 free_entry))  -- from a refused mounting: no used entry, whatever the image's directory has
-    ∷ is_legal four (saying true 0 (table_of four))  -- it says so with a used entry
-    ∷ is_legal four (saying true 0 (replicate 18 free_entry))  -- the figure of the image's directory, with no used entry
-    ∷ is_legal four (saying false 1 (table_of four))  -- a figure of one too many
+    ∷ is_legal four (saying (replicate 18 free_entry))  -- from a refused mounting: no used entry, whatever the image's directory has
+    ∷ is_legal four (saying (table_of four))  -- it says so with a used entry
     ∷ is_legal (replicate 1439 0) (having (table_of four) first (fresh idle))  -- the image's length
     ∷ is_legal four (having (set (table_of four) 3 (entry_at (table_of four) 0)) first (fresh idle))  -- a table with one name twice
     ∷ is_legal four (having (table_of four) first (fresh (at 3 0 false origin origin)))  -- a free entry open
@@ -99,6 +96,6 @@ examples : is_legal four (having (table_of four) first (holding_it 0 (at 1 0 fal
     ∷ is_legal four (having (table_of four) first (holding_it 1 (at 1 0 false origin origin)))  -- a held sector past the extent
     ∷ is_legal four (having (table_of four) first (holding_it 1 (at 2 0 false origin origin)))  -- also of a random file
     ∷ []
-    ≡ true ∷ true ∷ true ∷ true ∷ replicate 15 false
+    ≡ true ∷ true ∷ true ∷ true ∷ replicate 13 false
 unfolding is_legal four
 examples = refl

@@ -14,12 +14,11 @@ use Rattle.geometry.specs.Sizes.{sectors_of, lawful_length}
 use Rattle.names.specs.Names.{capital, digit, rest_of_name, is_name}
 use Rattle.directory.specs.Entries.{entry_from, entry_bytes, entries_from, table_of, entry_at, is_marked, is_protected}
 use Rattle.directory.specs.Rules.{kind_known, free_is_zero, name_good, names_differ, extent_inside, extents_apart, flags_known, longest, length_good, count_good, random_bare, table_rules, table_good}
-use Rattle.directory.specs.Sectors.{sectors_taken, sectors_used, free_sectors}
 use Rattle.directory.specs.Stamp.{stamp_bytes}
 use Rattle.gaps.specs.Gaps.{stands_free, lowest_gap}
 use Rattle.shapes.specs.Made.{is_named, shape_good, file_made}
 use Rattle.requests.specs.Judge.{is_full, tests, edit_tests, whether, or_else, first_of, judge, judge_edit}
-use Rattle.sessions.specs.Session.{unheld, is_of, file_of, slot_of, open_files, spot_of, extent, of_used_entry, of_other, position_good, beyond_good, places_good, saying_good, figure_good, session_rules, legal}
+use Rattle.sessions.specs.Session.{unheld, is_of, file_of, slot_of, open_files, spot_of, extent, of_used_entry, of_other, position_good, beyond_good, places_good, saying_good, session_rules, legal}
 use Rattle.mounting.specs.Mounting.{count_decodes, mounts, start_with, plain_mount}
 use Rattle.steps.specs.Effects.{read_effects, blocked_effect, write_effects, effects, plain_do, plain_all}
 use Rattle.steps.specs.Look.{plain_look}
@@ -57,7 +56,7 @@ unfolding extent fixed_record fixed_records records_in tape_of tape_facts pad_by
 tapes = tt
 
 plainly : Unit {0}
-unfolding extent is_of file_of slot_of open_files of_used_entry of_other position_good beyond_good places_good sectors_taken sectors_used free_sectors saying_good figure_good session_rules legal start_with plain_mount read_effects blocked_effect write_effects effects plain_do plain_all stamp_bytes fixed_at record_here is_lost bytes_got decoding bad_in facts_of file_done counted entry_done into_buffer plain_scene plain_answer plain_after plain_step
+unfolding extent is_of file_of slot_of open_files of_used_entry of_other position_good beyond_good places_good saying_good session_rules legal start_with plain_mount read_effects blocked_effect write_effects effects plain_do plain_all stamp_bytes fixed_at record_here is_lost bytes_got decoding bad_in facts_of file_done counted entry_done into_buffer plain_scene plain_answer plain_after plain_step
 plainly = tt
 
 editing : Unit {0}

@@ -18,7 +18,7 @@ use Rattle.directory.proofs.Free.{every_append}
 use Rattle.directory.specs.Stamp.{restamped}
 use Rattle.sessions.specs.Session.{file_of, extent, legal}
 use Rattle.sessions.proofs.Distinct.{free-shut}
-use Rattle.mounting.specs.Mounting.{mounts, start_with, mounted_saying}
+use Rattle.mounting.specs.Mounting.{mounts, start_with}
 use Rattle.steps.specs.Edit.{edited_number, Edited}
 use Rattle.steps.specs.Effects.{effects}
 use Rattle.steps.specs.Step.{plain_scene, plain_answer, plain_after, plain_step}
@@ -227,7 +227,7 @@ module _ (image : List ℕ) (ok : mounts image ≡ true) (j : ℕ) where
     stands = mount-stands image ok;
     none = λ k h. both_ways (file_of begun.session.files k).used
         (sym (open-file begun (mount-stands image ok) k) ∙ h)
-        (ap (λ (s : Session). (file_of s.files k).used) (mounted-session image ok) ∙ ap (λ (f : OpenFile). f.used) (nothing-open (mounted_saying image) (table_of image) k));
+        (ap (λ (s : Session). (file_of s.files k).used) (mounted-session image ok) ∙ ap (λ (f : OpenFile). f.used) (nothing-open (table_of image) k));
   }
 
 -- ---- an image is as long behind a run as before it

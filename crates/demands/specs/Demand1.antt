@@ -12,7 +12,7 @@ use Rattle.requests.specs.Numbers.{number_of}
 use Rattle.sessions.specs.Session.{bare, file_of, slot_of, buffered_legal}
 use Rattle.steps.specs.Next.{file_met}
 use Rattle.steps.specs.Step.{After, kept, held_of, buffered_answer}
-use Rattle.steps.specs.Edit.{edited_number, edited_entry, edited_saying, told_of, Edited, buffered_edit_answer}
+use Rattle.steps.specs.Edit.{edited_number, edited_entry, told_of, Edited, buffered_edit_answer}
 use Rattle.tapes.specs.Model.{Asked}
 use Rattle.tapes.specs.Edits.{Editing}
 use Rattle.tapes.specs.Runs.{Asking}
@@ -27,7 +27,6 @@ use Rattle.requests.specs.declared.Request.TheVariants.{Open, Read, Write, Granu
 use Rattle.requests.specs.declared.Answer.{Answer}
 use Rattle.requests.specs.declared.Answer.TheVariants.{Done, Met, Refused}
 use Rattle.sessions.specs.declared.BufferedSession.{BufferedSession}
-use Rattle.sessions.specs.declared.Saying.{Saying}
 
 -- ---- the order
 
@@ -86,9 +85,9 @@ adding kind size sectors name = record { entry = 0; edit = Add kind size sectors
 abbrev pub deleting : ℕ → Editing
 deleting i = record { entry = i; edit = Delete; name = [] }
 
--- the session with another entry of number n, which says so of itself
-abbrev pub with_entry : BufferedSession → Saying → ℕ → Entry → BufferedSession
-with_entry s says n e = record { says = says; table = set s.table n e; files = s.files }
+-- the session with another entry of number n
+abbrev pub with_entry : BufferedSession → ℕ → Entry → BufferedSession
+with_entry s n e = record { says = s.says; table = set s.table n e; files = s.files }
 
 -- what one edit may do, whatever the image, the session and the name are
 pub record ProperEdit (E : Engine) (image : List ℕ) (s : E.Session) (i : ℕ) (x : Edit) (name : List ℕ) (r : Edited E.Session) : Type 0 where
@@ -96,9 +95,9 @@ pub record ProperEdit (E : Engine) (image : List ℕ) (s : E.Session) (i : ℕ) 
   pub ordered : r.answer ≡ buffered_edit_answer image (E.seen s) i x name
   -- "Every refusal leaves image, session, buffer and target as they were", and tells no number; 1 and 2 are no answers of an edit
   pub refused : ¬ (r.answer ≡ Done) → (y : Refusal) × (r.answer ≡ Refused y) × (r.image ≡ image) × (r.session ≡ s) × (r.told ≡ [])
-  -- "Both change that one directory entry and no other byte": the entry of the table, and its bytes in the image; and the figure, by the file's sectors
+  -- "Both change that one directory entry and no other byte": the entry of the table, and its bytes in the image
   pub one : r.answer ≡ Done → (n : ℕ) → n ≡ edited_number x (E.seen s).table i → (e : Entry) → e ≡ edited_entry x (sectors_of image) (E.seen s).table name
-      → (r.told ≡ told_of x n) × (E.seen r.session ≡ with_entry (E.seen s) (edited_saying x (E.seen s).says (entry_at (E.seen s).table n)) n e) × (r.image ≡ lay_entry one_word_wide entries image n e)
+      → (r.told ≡ told_of x n) × (E.seen r.session ≡ with_entry (E.seen s) n e) × (r.image ≡ lay_entry one_word_wide entries image n e)
   pub others : (n : ℕ) → n ≡ edited_number x (E.seen s).table i → (j : ℕ) → (leb (entry_size * n) j && ltb j (entry_size * n + entry_size)) ≡ false
       → get_or r.image j 0 ≡ get_or image j 0
   pub size : length r.image ≡ length image

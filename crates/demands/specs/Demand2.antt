@@ -6,7 +6,7 @@ use Rattle.geometry.specs.Sizes.{entries, most_records}
 use Rattle.directory.specs.Entries.{free_entry, entry_at, table_of}
 use Rattle.requests.specs.Judge.{Test, not_legal, no_entry, not_open, not_sequential, is_protected, is_beyond, odd_count, bad_size, long_code, first_of, is_full}
 use Rattle.sessions.specs.Session.{unheld}
-use Rattle.mounting.specs.Mounting.{mounts, start_with, refused_saying, plain_mount}
+use Rattle.mounting.specs.Mounting.{mounts, start_with, plain_mount}
 use Rattle.tapes.specs.Tape.{Tape, pad_byte, tape_facts}
 use Rattle.tapes.specs.Row.{Row}
 use Rattle.tapes.specs.Model.{Model, nothing, tape, row, Asked, models_of, model_at, open_models}
@@ -21,8 +21,8 @@ use Rattle.requests.specs.declared.Answer.TheVariants.{Done, Refused}
 pub record Faithful (E : Engine) : Type 0 where
   -- "Mounting refuses (11) exactly when the length is wrong or the directory is not good"
   pub mounting : (image : List ℕ) → (E.mount image).answer ≡ (plain_mount image).answer
-  -- "A refused mounting hands out a table with no used entry and nothing open", and says that it is one; it "stores N − 1, or 0 if the length is wrong"
-  pub refused_mounting : (image : List ℕ) → mounts image ≡ false → E.seen (E.mount image).session ≡ unheld (start_with (refused_saying image) (replicate entries free_entry))
+  -- "A refused mounting hands out a table with no used entry and nothing open", and says that it is one
+  pub refused_mounting : (image : List ℕ) → mounts image ≡ false → E.seen (E.mount image).session ≡ unheld (start_with true (replicate entries free_entry))
   -- answers, moved bytes and positions are those of the tapes and rows that the mounted image shows; a random file that is added shows what lies in its sectors then
   pub serves : (image : List ℕ) → mounts image ≡ true → (asked : List Asking) → in_bytes image asked ≡ true
       → reports E (mounted E image) asked ≡ model_reports (models_of image) (heard E (mounted E image) asked)

@@ -8,7 +8,7 @@ use native.Mathlib.Decide.{dec_lt}
 use lib.ListN.{length, get_or, get_or-eq_default}
 use lib.Dec.{leb, eqb}
 use borrow.Author.Tests.{leb-true, eqb-true, eqb-false, ne_eqb, eq-eqb, not-true}
-use Rattle.geometry.specs.Lists.{every, pairwise}
+use Rattle.geometry.specs.Lists.{every}
 use Rattle.geometry.specs.Sizes.{unblocked, blocked, random, most_records, most_sectors}
 use Rattle.geometry.specs.Places.{capacity}
 use Rattle.names.specs.Names.{is_name}
@@ -127,20 +127,11 @@ module _ (N : ℕ) (t : List Entry) (ok : table_good N t ≡ true) where
   unfolding table_good
   rule k = all_get_d (table_rules N t) k ok
 
-  -- every extent lies inside, and no two share a sector
-  pub good-inside : every (extent_inside N) t ≡ true
-  unfolding table_rules
-  good-inside = rule 4
-
-  pub good-apart : pairwise extents_apart t ≡ true
-  unfolding table_rules
-  good-apart = rule 5
-
   -- a used entry of a good table
   pub lies : (i : ℕ) → ¬ ((entry_at t i).kind ≡ 0) → Lies N (entry_at t i)
   unfolding table_rules
   lies i used =
-      entry-lies N (entry_at t i) used (one kind_known (rule 0)) (one name_good (rule 2)) (one (extent_inside N) good-inside) (one flags_known (rule 6)) (one length_good (rule 7)) (one count_good (rule 8)) (one random_bare (rule 9))
+      entry-lies N (entry_at t i) used (one kind_known (rule 0)) (one name_good (rule 2)) (one (extent_inside N) (rule 4)) (one flags_known (rule 6)) (one length_good (rule 7)) (one count_good (rule 8)) (one random_bare (rule 9))
     where
       one : (p : Entry → Bool) → every p t ≡ true → p (entry_at t i) ≡ true
       one p q = every-get_or p t i free_entry q (used-inside t i used)
@@ -148,10 +139,11 @@ module _ (N : ℕ) (t : List Entry) (ok : table_good N t ≡ true) where
   -- two of them share no sector
   pub extents-apart : (i j : ℕ) → ¬ (i ≡ j) → ¬ ((entry_at t i).kind ≡ 0) → ¬ ((entry_at t j).kind ≡ 0)
       → Apart (entry_at t i).first (entry_at t i).sectors (entry_at t j).first (entry_at t j).sectors
+  unfolding table_rules
   extents-apart i j d u v = go (dec_lt i j)
     where
       two : (a b : ℕ) → a < b → ¬ ((entry_at t b).kind ≡ 0) → extents_apart (entry_at t a) (entry_at t b) ≡ true
-      two a b l w = pairwise-get_or extents_apart t a b free_entry good-apart l (used-inside t b w)
+      two a b l w = pairwise-get_or extents_apart t a b free_entry (rule 5) l (used-inside t b w)
 
       go : Dec (i < j) → Apart (entry_at t i).first (entry_at t i).sectors (entry_at t j).first (entry_at t j).sectors
       go (yes l) = no_shared (entry_at t i) (entry_at t j) u v (two i j l v)
@@ -159,3 +151,5 @@ module _ (N : ℕ) (t : List Entry) (ok : table_good N t ≡ true) where
           let h : j < i = omega (arith, d) in
           let s = no_shared (entry_at t j) (entry_at t i) v u (two j i h u) in
           omega arith
+
+-- ---- a table with no used entry

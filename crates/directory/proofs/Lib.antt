@@ -3,9 +3,6 @@ pub mod Back
 pub mod Free
 pub mod Grouped
 pub mod Good
-pub mod Taken
-pub mod Sectors
-pub mod Counted
 pub mod Stamped
 pub mod Restamp
 pub mod Find

@@ -17,8 +17,8 @@ fn print_words(number: u16) {
     io::write_all(STDOUT_FILENO, &words[..n]);
 }
 
-// Prints an answer: behind a 0 the entry, behind any other number its words; and last the free sectors.
-pub fn tell(number: u16, entry: usize, free: u16) {
+// Prints an answer: behind a 0 the entry, behind any other number its words.
+pub fn tell(number: u16, entry: usize) {
     io::write_all(STDOUT_FILENO, b"ANSWER ");
     io::print_decimal(STDOUT_FILENO, number as u64);
     if number == 0 {
@@ -27,19 +27,17 @@ pub fn tell(number: u16, entry: usize, free: u16) {
     } else {
         print_words(number);
     }
-    io::write_all(STDOUT_FILENO, b" FREE ");
-    io::print_decimal(STDOUT_FILENO, free as u64);
     io::write_all(STDOUT_FILENO, b"\n");
 }
 
 // Writes the image to the file that argument out names where the answer is 0, and prints the answer.
-pub fn finish(out: usize, image: &[u8], number: u16, entry: usize, free: u16) {
+pub fn finish(out: usize, image: &[u8], number: u16, entry: usize) {
     if number == 0 {
         if !save(out, image) {
             return;
         }
     }
-    tell(number, entry, free);
+    tell(number, entry);
 }
 
 // Tells how the program is called.

@@ -2,7 +2,7 @@
 use mathlib.Core.Path.{◌≡◌, refl, sym, ap, ◌∙◌}
 use mathlib.Core.Bool.{Bool, true, false, not}
 use mathlib.Core.List.{List, [], ◌∷◌}
-use Prim.Native.Nat.{ℕ, ◌+◌, ◌-◌, ◌≤◌, ◌<◌}
+use Prim.Native.Nat.{ℕ, ◌+◌, ◌≤◌, ◌<◌}
 use native.Mathlib.Omega.{arith}
 use native.Mathlib.Decide.{dec_lt}
 use lib.Dec.{eqb, ltb}
@@ -14,29 +14,25 @@ use Rattle.geometry.specs.Sizes.{entries, sectors_of}
 use Rattle.geometry.proofs.Places.{lawful-most}
 use Rattle.geometry.proofs.Tests.{and_left, denied, every-get_or, every-from, first_holds, first_below}
 use Rattle.directory.specs.Entries.{free_entry}
-use Rattle.directory.specs.Rules.{table_good}
 use Rattle.directory.specs.Search.{matches, told, find}
 use Rattle.tables.specs.Tables.{one_word_wide, two_words_wide, table_in, lay_entry}
 use Rattle.tables.proofs.Tables.{length-entries}
-use Rattle.directory.specs.Sectors.{is_taken}
-use Rattle.gaps.specs.Gaps.{lowest_free, lowest_gap}
-use Rattle.gaps.proofs.Figure.{lowest-figure}
+use Rattle.gaps.specs.Gaps.{lowest_free, is_taken, lowest_gap}
 use Rattle.shapes.specs.Made.{is_named, shape_good, file_made}
 use Rattle.requests.specs.Judge.{judge_edit, EditFacts}
 use Rattle.requests.proofs.Edits.{bad-name}
 use Rattle.sessions.specs.Session.{bare, buffered_legal}
-use Rattle.sessions.proofs.Legal.{lawful-length, good-table, bare-legal}
-use Rattle.steps.specs.Edit.{is_taken_name, edit_facts, edited_number, edited_entry, edited_saying, told_of, edit_answer_by}
-use Rattle.steps.proofs.Edited.{shape-some}
+use Rattle.sessions.proofs.Legal.{lawful-length, bare-legal}
+use Rattle.steps.specs.Edit.{is_taken_name, edit_facts, edited_number, edited_entry, told_of, edit_answer_by}
 use Rattle.storing.specs.Fits.{entry_fits}
 use Rattle.storing.specs.Numbers.{is_set}
-use Rattle.storing.specs.Stored.{has_buffers, said_at, said_width, size_of, saying_in, is_session, lent_session, lay_free, free_in}
+use Rattle.storing.specs.Stored.{has_buffers, said_at, said_width, size_of, saying_in, is_session, lent_session}
 use Rattle.storing.proofs.Read.{session-size, session-is}
 use Rattle.finding.proofs.Lent.{lent-table}
 use Rattle.editing.specs.Editing.{edited_in, Handed}
 use Rattle.editing.proofs.Fits.{made-fits}
 use Rattle.editing.proofs.Judged.{bad-image, bad-shape, name-in-use, no-entry, no_gap, adds}
-use Rattle.editing.proofs.Lent.{legal-told, figure-said, figure-told, facts_in, refused-in, done-in}
+use Rattle.editing.proofs.Lent.{legal-told, facts_in, refused-in, done-in}
 use Rattle.directory.specs.declared.Entry.{Entry}
 use Rattle.directory.specs.declared.Found.TheVariants.{Number, Nothing}
 use Rattle.requests.specs.declared.Answer.TheVariants.{Done, Refused}
@@ -102,10 +98,6 @@ module _ (image b : List ℕ) (ok : buffered_legal image (lent_session b) ≡ tr
   pub few : N ≤ 4096
   few = lawful-most image (lawful-length image (bare s) (bare-legal image s ok))
 
-  good : table_good N s.table ≡ true
-  unfolding bare
-  good = good-table image (bare s) (bare-legal image s ok)
-
   table : s.table ≡ t
   table = lent-table b (legal-told image b ok)
 
@@ -169,12 +161,6 @@ module _ (image b : List ℕ) (ok : buffered_legal image (lent_session b) ≡ tr
                 unfolding is_named
                 eight = eqb-true (length name) 8 (and_left (eqb (length name) 8) _ (sym a-is ∙ a-yes))
 
-                -- a file that a gap holds is no longer than the figure
-                pub enough : p < M → m ≤ free_in b
-                enough h =
-                    let g : lowest_gap (is_taken s.table) N m < N = omega (arith, ap (λ (t : List Entry). lowest_gap (is_taken t) N m) table, p-is) in
-                    omega (arith, figure-told image b ok, lowest-figure N m s.table good (shape-some k l m (sym f-is ∙ f-yes)) g)
-
                 module _ (p-in : p < M) (bytes : every is_byte name ≡ true) where
                   done : judge_edit (Add k l m) (facts_in image b i (Add k l m) name) ≡ Done
                   done =
@@ -188,13 +174,11 @@ module _ (image b : List ℕ) (ok : buffered_legal image (lent_session b) ≡ tr
                   unfolding edit_answer_by bare
                   fits-so = made-fits image (bare s) (buffered_legal image s) (λ h. bare-legal image s h) many i (Add k l m) name done
 
-                  -- f is the figure of before, and b₁ the session with the new one
-                  pub added : (f : ℕ) → f ≡ free_in b → (b₁ image' b' : List ℕ) → b₁ ≡ lay_free b (f - m) → image' ≡ lay_entry one_word_wide entries image n (file_made k l m name p)
-                      → b' ≡ lay_entry two_words_wide entries b₁ n (file_made k l m name p) → Handed (edited_in image b i (Add k l m) name) Done image' b' before n
-                  unfolding edited_number edited_entry edited_saying told_of
-                  added f f-is b₁ image' b' v x y =
+                  pub added : (image' b' : List ℕ) → image' ≡ lay_entry one_word_wide entries image n (file_made k l m name p) → b' ≡ lay_entry two_words_wide entries b n (file_made k l m name p)
+                      → Handed (edited_in image b i (Add k l m) name) Done image' b' before n
+                  unfolding edited_number edited_entry told_of
+                  added image' b' x y =
                       let z : lowest_free s.table ≡ n = ap lowest_free table ∙ sym n-is in
                       let g : lowest_gap (is_taken s.table) N m ≡ p = ap (λ (t : List Entry). lowest_gap (is_taken t) N m) table ∙ sym p-is in
-                      let d : s.says.free ≡ f = sym (f-is ∙ figure-said image b ok) in
                       let w = done-in image b i (Add k l m) name (legal-told image b ok) done fits-so before in
-                      rw (x, y, v) (rw (z, g, d) at w)
+                      rw (x, y) (rw (z, g) at w)

@@ -1,23 +1,20 @@
--- An edit on lent bytes, for both engines at once: refused, all stays; done, one entry is laid in the image and in the bytes of the session, and the figure in these.
+-- An edit on lent bytes, for both engines at once: refused, all stays; done, one entry is laid in the image and in the bytes of the session.
 use mathlib.Core.Path.{◌≡◌, refl, sym, ap, subst, ◌∙◌}
-use mathlib.Core.Bool.{Bool, true, false}
+use mathlib.Core.Bool.{Bool, true, false, not}
 use mathlib.Core.List.{List}
 use Prim.Native.Nat.{ℕ}
 use lib.ListN.{get_or, set}
 use Rattle.geometry.specs.Sizes.{entries, sectors_of}
 use Rattle.geometry.proofs.Tests.{either, both_ways, chosen, not_chosen}
-use Rattle.directory.specs.Entries.{entry_at}
-use Rattle.directory.specs.Sectors.{free_sectors}
+use Rattle.directory.specs.Entries.{entry_at, is_free}
 use Rattle.tables.specs.Tables.{one_word_wide, two_words_wide, lay_entry}
 use Rattle.requests.specs.Judge.{judge_edit, EditFacts}
 use Rattle.sessions.specs.Session.{bare, file_of, buffered_legal}
-use Rattle.sessions.proofs.Legal.{figure-right, bare-legal}
-use Rattle.steps.specs.Edit.{Edited, edit_facts, edited_number, edited_entry, edited_saying, told_of, told_by, image_edited, table_edited, says_edited, edit_answer_by, edit_by, plain_edit, buffered_edit}
+use Rattle.steps.specs.Edit.{Edited, edit_facts, edited_number, edited_entry, told_of, told_by, image_edited, table_edited, edit_answer_by, edit_by, plain_edit, buffered_edit}
 use Rattle.steps.proofs.Unheld.{plain-as-held}
 use Rattle.storing.specs.Fits.{entry_fits}
-use Rattle.storing.specs.Stored.{has_buffers, stored, is_session, session_in, lent_session, plain_in, plain_stored, lay_free, free_in}
+use Rattle.storing.specs.Stored.{has_buffers, stored, is_session, session_in, lent_session, plain_in, plain_stored}
 use Rattle.storing.proofs.Counts.{entry_set}
-use Rattle.storing.proofs.Figure.{figure-is}
 use Rattle.storing.proofs.Illegal.{none-legal}
 use Rattle.storing.proofs.Laws.{stored-kept}
 use Rattle.storing.proofs.Read.{plain-holds-nothing}
@@ -33,27 +30,11 @@ use Rattle.requests.specs.declared.Edit.TheVariants.{Add, Delete}
 use Rattle.requests.specs.declared.Refusal.{Refusal}
 use Rattle.requests.specs.declared.Refusal.TheVariants.{NotLegal}
 use Rattle.sessions.specs.declared.BufferedSession.{BufferedSession}
-use Rattle.sessions.specs.declared.Saying.{Saying}
 
-module _ (image b : List ℕ) (ok : buffered_legal image (lent_session b) ≡ true) where
-  -- a legal session's bytes are one
-  pub legal-told : is_session (has_buffers b) b ≡ true
-  legal-told =
-      either (is_session (has_buffers b) b) (λ h. h) (λ h. both_ways (buffered_legal image (lent_session b)) ok (none-legal (has_buffers b) image b h))
-
-  -- and the figure in them is what it says, which is right
-  pub figure-said : free_in b ≡ (lent_session b).says.free
-  figure-said = figure-is (has_buffers b) b legal-told
-
-  pub figure-told : free_in b ≡ free_sectors (sectors_of image) (lent_session b).table
-  unfolding bare
-  figure-told = figure-said ∙ figure-right image (bare (lent_session b)) (bare-legal image (lent_session b) ok)
-
--- only the figure is said anew
-free-alone : (x : Edit) (says : Saying) (e : Entry) → edited_saying x says e ≡ record { refused = says.refused; free = (edited_saying x says e).free }
-unfolding edited_saying
-free-alone (Add k l m) says e = refl
-free-alone Delete says e = refl
+-- a legal session's bytes are one
+pub legal-told : (image b : List ℕ) → buffered_legal image (lent_session b) ≡ true → is_session (has_buffers b) b ≡ true
+legal-told image b ok =
+    either (is_session (has_buffers b) b) (λ h. h) (λ h. both_ways (buffered_legal image (lent_session b)) ok (none-legal (has_buffers b) image b h))
 
 module _ (image b : List ℕ) (i : ℕ) (x : Edit) (name : List ℕ) where
   abbrev s : BufferedSession
@@ -67,9 +48,6 @@ module _ (image b : List ℕ) (i : ℕ) (x : Edit) (name : List ℕ) where
 
   abbrev e : Entry
   e = edited_entry x (sectors_of image) s.table name
-
-  abbrev says : Saying
-  says = edited_saying x s.says (entry_at s.table n)
 
   -- a session with no buffers is one that holds nothing
   plain-too : lent_edited (is_session false b) plain_stored b (plain_edit image (plain_in b) i x name)
@@ -98,7 +76,7 @@ module _ (image b : List ℕ) (i : ℕ) (x : Edit) (name : List ℕ) where
     told = told_by a x n;
     image = image_edited a image n e;
     session = elim (is_session (has_buffers b) b) [
-      | true ↦ stored (has_buffers b) (record { says = says_edited a s.says x (entry_at s.table n); table = table_edited a s.table n e; files = s.files })
+      | true ↦ stored (has_buffers b) (record { says = s.says; table = table_edited a s.table n e; files = s.files })
       | false ↦ b
     ];
   }
@@ -111,7 +89,7 @@ module _ (image b : List ℕ) (i : ℕ) (x : Edit) (name : List ℕ) where
   hands a h image' b' before at = subst (λ (w : Edited (List ℕ)). Handed w a image' b' before at) (sym (by_answer_lem ∙ ap by_answer h))
 
   pub refused-in : (y : Refusal) → judge_edit x facts_in ≡ Refused y → (before : ℕ) → Handed (edited_in image b i x name) (Refused y) image b before before
-  unfolding told_by image_edited table_edited says_edited
+  unfolding told_by image_edited table_edited
   refused-in y h before = hands (Refused y) h image b before before (refl, refl, stays, refl)
     where
       stays : b ≡ elim (is_session (has_buffers b) b) [ true ↦ stored (has_buffers b) s | false ↦ b ]
@@ -120,17 +98,11 @@ module _ (image b : List ℕ) (i : ℕ) (x : Edit) (name : List ℕ) where
           (λ (t : is_session (has_buffers b) b ≡ false). not_chosen (is_session (has_buffers b) b) (stored (has_buffers b) s) b t))
 
   pub done-in : is_session (has_buffers b) b ≡ true → judge_edit x facts_in ≡ Done → entry_fits e ≡ true → (before : ℕ)
-      → Handed (edited_in image b i x name) Done (lay_entry one_word_wide entries image n e) (lay_entry two_words_wide entries (lay_free b says.free) n e) before (get_or (told_of x n) 0 before)
-  unfolding told_by image_edited table_edited says_edited
+      → Handed (edited_in image b i x name) Done (lay_entry one_word_wide entries image n e) (lay_entry two_words_wide entries b n e) before (get_or (told_of x n) 0 before)
+  unfolding told_by image_edited table_edited
   done-in t h q before =
-      hands Done h (lay_entry one_word_wide entries image n e) (lay_entry two_words_wide entries (lay_free b says.free) n e) before (get_or (told_of x n) 0 before) (
-        refl,
-        refl,
-        entry_set (has_buffers b) b t says.free n e q
-            ∙ ap (λ (z : Saying). stored (has_buffers b) (record { says = z; table = set s.table n e; files = s.files })) (sym (free-alone x s.says (entry_at s.table n)))
-            ∙ sym (chosen (is_session (has_buffers b) b) (stored (has_buffers b) (record { says = says; table = set s.table n e; files = s.files })) b t),
-        refl,
-      )
+      hands Done h (lay_entry one_word_wide entries image n e) (lay_entry two_words_wide entries b n e) before (get_or (told_of x n) 0 before)
+      (refl, refl, entry_set (has_buffers b) b t n e q ∙ sym (chosen (is_session (has_buffers b) b) (stored (has_buffers b) (record { says = s.says; table = set s.table n e; files = s.files })) b t), refl)
 
   pub unlawful-in : buffered_legal image s ≡ false → (before : ℕ) → Handed (edited_in image b i x name) (Refused NotLegal) image b before before
   unlawful-in h before = refused-in NotLegal (not-legal x facts_in (facts-legal x ∙ h)) before
@@ -146,9 +118,9 @@ module _ (image b : List ℕ) (i : ℕ) (z : Seen) (z-is : z ≡ seen_in image b
   unfolding seen_of
   seen-lawful = ap (λ (z : Seen). z.lawful) z-is
 
-  pub seen_entry : z.entry ≡ entry_at (lent_session b).table i
+  pub seen-used : not (is_free z.entry) ≡ not (is_free (entry_at (lent_session b).table i))
   unfolding seen_of
-  seen_entry = ap (λ (z : Seen). z.entry) z-is
+  seen-used = ap (λ (z : Seen). not (is_free z.entry)) z-is
 
   pub seen-open : z.file.used ≡ (file_of (bare (lent_session b)).files i).used
   unfolding seen_of

@@ -1,4 +1,4 @@
--- Document 02, items 1 and 5: an edit on a session that stands in lent bytes, in the engine that their number tells. Definitions only.
+-- Document 02, item 1: an edit on a session that stands in lent bytes, in the engine that their number tells. Definitions only.
 use Rattle.std.specs.Prelude.{◌≡◌, Bool, true, false, List, ℕ, get_or}
 use Rattle.steps.specs.Edit.{Edited, plain_edit, buffered_edit}
 use Rattle.storing.specs.Stored.{has_buffers, is_session, session_in, stored, plain_in, plain_stored}

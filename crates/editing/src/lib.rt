@@ -1,11 +1,11 @@
-// The RAD Editor's ADD and DELETE on a session in lent bytes, in both engines: document 02's items 1 and 5. No edit looks at a buffer.
+// The RAD Editor's ADD and DELETE on a session in lent bytes, in both engines: document 02's item 1. No edit looks at a buffer.
 // The tests of each stand in that document's order, and an edit ends at the first that holds.
-ghost use Rattle.std.specs.Prelude.{◌≡◌, true, List, ℕ, ◌≤◌};
+ghost use Rattle.std.specs.Prelude.{◌≡◌, true, not, List, ℕ, ◌≤◌};
 ghost use Rattle.std.proofs.Math.ListN as ListN;
 ghost use Rattle.geometry.specs.Bytes.{is_byte};
 ghost use Rattle.geometry.specs.Lists.{every};
 ghost use Rattle.geometry.specs.Sizes.{entries};
-ghost use Rattle.directory.specs.Entries.{entry_at};
+ghost use Rattle.directory.specs.Entries.{entry_at, is_free};
 ghost use Rattle.tables.specs.Tables.{one_word_wide, two_words_wide, table_in, lay_entry};
 ghost use Rattle.shapes.specs.Made.{file_made};
 ghost use Rattle.requests.specs.declared.Edit.TheVariants.{Add, Delete};
@@ -21,7 +21,7 @@ use geometry::Geometry;
 use laying::put_entry;
 use requests::{Answer, Edit, Refusal};
 use shapes::{is_named, shape_good};
-use storing::{Form, free_in, put_free};
+use storing::Form;
 use tables::{Width, search_in};
 
 // ---- what a file that is to be added finds
@@ -132,28 +132,24 @@ fn add(
     if all <= first {
         return Answer::Refused(Refusal::NoGap);
     }
-    let free = free_in(session) - sectors;
-    put_free(session, free);
     put_file(image, session, n, kind, length, sectors, name, first);
     *at = n;
     Answer::Done
 }
 
-// DELETE, of entry i, which is known, and whether its file is open.
-fn delete(image: &mut [u8], session: &mut [u8], i: usize, e: Entry, opened: bool) -> Answer
+// DELETE, of an entry of which is known whether it is used and whether its file is open.
+fn delete(image: &mut [u8], session: &mut [u8], i: usize, used: bool, opened: bool) -> Answer
     requires { (buffered_legal image.old (lent_session session.old) ≡ true)
-        × ((e ≡ entry_at (lent_session session.old).table i) × (opened ≡ (file_of (bare (lent_session session.old)).files i).used)) }
+        × ((used ≡ not (is_free (entry_at (lent_session session.old).table i))) × (opened ≡ (file_of (bare (lent_session session.old)).files i).used)) }
     ensures { (name : List ℕ) (at : ℕ) → Handed (edited_in image.old session.old i Delete name)
         result image.new session.new at at }
 {
-    if e.kind == Geometry::FREE {
+    if !used {
         return Answer::Refused(Refusal::NotThere);
     }
     if opened {
         return Answer::Refused(Refusal::AlreadyOpen);
     }
-    let free = free_in(session) + e.sectors;
-    put_free(session, free);
     put_both(image, session, i, free_entry());
     Answer::Done
 }
@@ -183,7 +179,7 @@ pub fn edit(
         Edit::Delete => {
             let e = seen.entry;
             let f = seen.file;
-            delete(image, session, i, e, f.used)
+            delete(image, session, i, e.kind != Geometry::FREE, f.used)
         }
     }
 }

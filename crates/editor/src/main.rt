@@ -4,9 +4,7 @@ ghost use Rattle.io.specs.Counts.{IsPrefixLen};
 
 use arguments::{Taken, read_image, says};
 use edit_io::{finish, kind_typed, length_typed, put_typed, sectors_typed, tell, tell_usage};
-use lleuadrys::{
-    lleuadrys_add, lleuadrys_delete, lleuadrys_find, lleuadrys_free_sectors, lleuadrys_mount,
-};
+use lleuadrys::{lleuadrys_add, lleuadrys_delete, lleuadrys_find, lleuadrys_mount};
 use storing::Form;
 use typing::Typed;
 
@@ -41,7 +39,7 @@ fn mount(room: &mut [u8], session: &mut [u8]) -> Taken
     let n = image.size;
     let number = lleuadrys_mount(&room[..n], session);
     if number != 0 {
-        tell(number, 0, lleuadrys_free_sectors(session));
+        tell(number, 0);
     }
     Taken {
         whole: number == 0,
@@ -63,13 +61,7 @@ fn add_to(image: &mut [u8], session: &mut [u8], kind: u16, length: u16, sectors:
         sectors,
         &mut entry,
     );
-    finish(
-        OUT_ADDED,
-        image,
-        number,
-        entry,
-        lleuadrys_free_sectors(session),
-    );
+    finish(OUT_ADDED, image, number, entry);
 }
 
 // Adds the file.
@@ -107,17 +99,11 @@ fn delete_from(image: &mut [u8], session: &mut [u8]) {
     let mut entry: usize = 0;
     let found = find_typed(session, &mut entry);
     if found != 0 {
-        tell(found, 0, lleuadrys_free_sectors(session));
+        tell(found, 0);
         return;
     }
     let number = lleuadrys_delete(image, session, entry);
-    finish(
-        OUT_DELETED,
-        image,
-        number,
-        entry,
-        lleuadrys_free_sectors(session),
-    );
+    finish(OUT_DELETED, image, number, entry);
 }
 
 // Deletes the file that is typed.

@@ -1,5 +1,5 @@
 -- What a request asks of a session in lent bytes. Definitions only.
-use Rattle.std.specs.Prelude.{◌≡◌, Bool, true, false, ◌&&◌, List, [], ℕ, ◌+◌, ◌*◌, ◌≤◌, ltb, length, get_or}
+use Rattle.std.specs.Prelude.{Bool, true, false, ◌&&◌, List, [], ℕ, ◌+◌, ◌*◌, ◌≤◌, ltb, length, get_or}
 use Rattle.geometry.specs.Bytes.{part}
 use Rattle.geometry.specs.Sizes.{sector, most_open}
 use Rattle.directory.specs.Entries.{entry_at}
@@ -12,9 +12,9 @@ use Rattle.sessions.specs.declared.Session.{Session}
 use Rattle.storing.specs.Stored.{file_width, held_width, files_at, said_width, file_in, hold_of, saying_in, table_in, lent_session}
 use Rattle.finding.specs.declared.Seen.{Seen}
 
--- four open-file states of w bytes each stand in the bytes, with or without a buffer, and behind them, last, what the session says of itself
+-- four open-file states of w bytes each stand in the bytes, with or without a buffer, and behind them what the session says of itself
 abbrev pub Spaced : ℕ → List ℕ → Type 0
-Spaced w b = (file_width ≤ w) × (w ≤ held_width) × (files_at + w * most_open + said_width ≡ length b)
+Spaced w b = (file_width ≤ w) × (w ≤ held_width) × (files_at + w * most_open + said_width ≤ length b)
 
 -- and each says by 0 or 1 whether it is in use
 abbrev pub Flagged : ℕ → List ℕ → Type 0

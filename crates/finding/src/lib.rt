@@ -17,8 +17,8 @@ use geometry::{Geometry, Place};
 use knowing::is_session;
 use moving::part;
 use sessions::{Holding, OpenFile, Spot, file_good, hold_good, idle, stand};
-use storing::{Form, free_in, has_buffers, no_hold, state_width};
-use tables::{Judged, Width, entry_in, judge_table};
+use storing::{Form, has_buffers, no_hold, state_width};
+use tables::{Width, entry_in, table_good};
 
 // What a request asks of a session: whether it is legal for the image, how many files are open, which state is the entry's or is to be,
 // the entry, its file, and what that holds.
@@ -221,12 +221,7 @@ fn is_lawful(image: &[u8], b: &[u8], w: usize) -> bool
 {
     if Geometry::lawful_length(image) {
         let n = Geometry::sectors_of(image) as u32;
-        match judge_table(b, Width::TWO, Geometry::ENTRIES, n) {
-            Judged::Good(free) => {
-                files_good(b, w) & (saying_good(b, w) & ((free_in(b) as u32) == free))
-            }
-            Judged::Bad => false,
-        }
+        table_good(b, Width::TWO, Geometry::ENTRIES, n) & (files_good(b, w) & saying_good(b, w))
     } else {
         false
     }

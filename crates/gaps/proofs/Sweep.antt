@@ -10,10 +10,9 @@ use borrow.Author.Tests.{lt-ltb, le-ltb, ltb-true, not-true}
 use Rattle.geometry.proofs.Tests.{either, chosen, not_chosen, and_left, and_right}
 use Rattle.directory.specs.declared.Entry.{Entry}
 use Rattle.directory.specs.Entries.{is_free}
-use Rattle.directory.specs.Sectors.{used_by, is_taken}
-use Rattle.directory.proofs.Taken.{uses, used-used, used-within, taken_none, taken-cons}
-use Rattle.gaps.specs.Gaps.{stands_free, lowest_gap}
+use Rattle.gaps.specs.Gaps.{used_by, is_taken, stands_free, lowest_gap}
 use Rattle.gaps.specs.Sweep.{behind, swept}
+use Rattle.gaps.proofs.Taken.{uses, used-used, used-within, taken_none, taken-cons}
 use Rattle.gaps.proofs.Gaps.{stands-there, stands-not, stands-outside, gap_is}
 
 -- ---- one entry

@@ -1,5 +1,5 @@
 -- Document 02, item 1: "ADD .. picks the lowest entry and the lowest gap that holds the extent". Definitions only.
-use Rattle.std.specs.Prelude.{Bool, ◌&&◌, not, List, ℕ, ◌+◌, leb}
+use Rattle.std.specs.Prelude.{Bool, ◌&&◌, not, List, ℕ, ◌+◌, leb, ltb}
 use Rattle.geometry.specs.Lists.{every, first_with, numbers_from}
 use Rattle.directory.specs.declared.Entry.{Entry}
 use Rattle.directory.specs.Entries.{is_free}
@@ -7,6 +7,14 @@ use Rattle.directory.specs.Entries.{is_free}
 -- "the lowest entry": the number of the lowest free one; the table's length where there is none
 unfoldable pub lowest_free : List Entry → ℕ
 lowest_free table = first_with is_free table
+
+-- sector k lies in the extent of a used entry
+unfoldable pub used_by : Entry → ℕ → Bool
+used_by e k = not (is_free e) && (leb e.first k && ltb k (e.first + e.sectors))
+
+-- sector k is not free, which means "in no extent of a used entry of the table"
+unfoldable pub is_taken : List Entry → ℕ → Bool
+is_taken table k = not (every (λ e. not (used_by e k)) table)
 
 -- "that many free sectors .. in 1 to N − 1": n of them from sector p on; `taken` says which sectors are not free
 unfoldable pub stands_free : (ℕ → Bool) → ℕ → ℕ → ℕ → Bool

@@ -4,8 +4,7 @@ ghost use Rattle.geometry.specs.Bytes.{word_at};
 ghost use Rattle.geometry.specs.Lists.{every};
 ghost use Rattle.directory.specs.Entries.{is_free};
 ghost use Rattle.tables.specs.Tables.{Wide, entry_in, entries_in, table_in};
-ghost use Rattle.directory.specs.Sectors.{is_taken};
-ghost use Rattle.gaps.specs.Gaps.{lowest_free, lowest_gap};
+ghost use Rattle.gaps.specs.Gaps.{lowest_free, is_taken, lowest_gap};
 ghost use Rattle.gaps.specs.Sweep as Sweep;
 
 use geometry::Geometry;

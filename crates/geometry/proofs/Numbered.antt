@@ -1,13 +1,13 @@
 -- A list that has something for each of n numbers; and how many of these a test holds of.
 use mathlib.Core.Path.{◌≡◌, refl, sym, ap, ◌∙◌}
-use mathlib.Core.Bool.{Bool, true, false, ◌&&◌, ◌||◌}
+use mathlib.Core.Bool.{Bool, true, false, ◌||◌}
 use mathlib.Core.List.{List, [], ◌∷◌, map}
-use Prim.Native.Nat.{ℕ, zero, suc, ◌+◌, ◌-◌, ◌≤◌, ◌<◌, min, max}
+use Prim.Native.Nat.{ℕ, zero, suc, ◌+◌, ◌≤◌, ◌<◌}
 use native.Mathlib.Omega.{arith}
-use native.Mathlib.Decide.{dec_lt, ℕ_discrete}
-use lib.Dec.{eqb, leb, ltb}
+use native.Mathlib.Decide.{ℕ_discrete}
+use lib.Dec.{eqb}
 use lib.ListN.{length, get_or, length-map}
-use borrow.Author.Tests.{eq-eqb, ne_eqb, le-leb, lt-leb, lt-ltb, le-ltb}
+use borrow.Author.Tests.{eq-eqb, ne_eqb}
 use Rattle.geometry.specs.Lists.{how_many, numbers_from}
 use Rattle.geometry.proofs.Tests.{either}
 
@@ -59,15 +59,3 @@ many-or p j a (suc n) l h e = go (ℕ_discrete j a) λ k. many-or p j (suc a) n 
         rw (eq-eqb j a z, w) (ap suc (many-alike (λ i. eqb j i || p i) p (suc a) n λ i b c. ap (λ (t : Bool). t || p i) (ne_eqb j i (λ (y : j ≡ i). omega arith))))
     go (no z) more =
         rw (ne_eqb j a z, more (omega arith)) (either (p a) (λ (w : p a ≡ true). rw w) (λ (w : p a ≡ false). rw w))
-
--- the numbers from lo on and before hi
-pub many-between : (lo hi a n : ℕ) → how_many (λ k. leb lo k && ltb k hi) (numbers_from a n) ≡ min hi (a + n) - max lo a
-unfolding how_many
-many-between lo hi a zero = omega arith
-many-between lo hi a (suc n) = go (dec_lt a lo) (dec_lt a hi) (many-between lo hi (suc a) n)
-  where
-    go : Dec (a < lo) → Dec (a < hi) → how_many (λ k. leb lo k && ltb k hi) (numbers_from (suc a) n) ≡ min hi (suc a + n) - max lo (suc a)
-        → plus (leb lo a && ltb a hi) (how_many (λ k. leb lo k && ltb k hi) (numbers_from (suc a) n)) ≡ min hi (a + suc n) - max lo a
-    go (yes l) h e = rw (lt-leb lo a l) (omega arith)
-    go (no l) (yes h) e = rw (le-leb lo a (omega arith), lt-ltb a hi h) (omega arith)
-    go (no l) (no h) e = rw (le-leb lo a (omega arith), le-ltb a hi (omega arith)) (omega arith)

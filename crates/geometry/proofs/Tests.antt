@@ -303,29 +303,6 @@ module _ {A : Type 0} where
       → how_many p (take (i + 1) xs) ≡ how_many p (take i xs)
   many-more-no p xs i d l h = rw (add-one i) (omega (arith, many_more p xs i d l, one-no p (get_or xs i d) h))
 
-  -- a test that holds of none; of two tests that never hold together, either; and what a test does not hold of
-  pub many-none : (p : A → Bool) (xs : List A) → ((x : A) → p x ≡ false) → how_many p xs ≡ 0
-  unfolding how_many
-  many-none p [] h = refl
-  many-none p (x ∷ xs) h = many-no p x xs (h x) ∙ many-none p xs h
-
-  pub many-either : (p q : A → Bool) (xs : List A) → ((x : A) → p x ≡ true → q x ≡ false) → how_many (λ x. p x || q x) xs ≡ how_many p xs + how_many q xs
-  unfolding how_many
-  many-either p q [] h = refl
-  many-either p q (x ∷ xs) h =
-      either (p x)
-      (λ (e : p x ≡ true). omega (arith, many-either p q xs h, many-yes p x xs e, many-no q x xs (h x e), many-yes (λ y. p y || q y) x xs (rw e)))
-      (λ (e : p x ≡ false).
-      either (q x) (λ (f : q x ≡ true). omega (arith, many-either p q xs h, many-no p x xs e, many-yes q x xs f, many-yes (λ y. p y || q y) x xs (rw (e, f))))
-      (λ (f : q x ≡ false). omega (arith, many-either p q xs h, many-no p x xs e, many-no q x xs f, many-no (λ y. p y || q y) x xs (rw (e, f)))))
-
-  pub many-not : (p : A → Bool) (xs : List A) → how_many (λ x. not (p x)) xs + how_many p xs ≡ length xs
-  unfolding how_many
-  many-not p [] = refl
-  many-not p (x ∷ xs) =
-      either (p x) (λ (e : p x ≡ true). omega (arith, many-not p xs, many-yes p x xs e, many-no (λ y. not (p y)) x xs (ap not e)))
-      (λ (e : p x ≡ false). omega (arith, many-not p xs, many-no p x xs e, many-yes (λ y. not (p y)) x xs (ap not e)))
-
   -- where p does not hold of all, there is a first of which it does not
   pub many-room : (p : A → Bool) (xs : List A) → how_many p xs < length xs → first_with (λ x. not (p x)) xs < length xs
   unfolding how_many first_with

@@ -7,6 +7,6 @@ use Rattle.steps.specs.Edit.{Edited}
 abbrev pub Edits : Edited (List ℕ) → ℕ → List ℕ → List ℕ → Type 0
 Edits w n image session = (n ≡ number_of w.answer) × (image ≡ w.image) × (session ≡ w.session)
 
--- 4.0.0, as one number
+-- 3.1.0, as one number
 unfoldable pub version : ℕ
-version = 10000 * 4 + 100 * 0 + 0
+version = 10000 * 3 + 100 * 1 + 0

@@ -27,7 +27,7 @@ use editing::edit;
 use requests::{Edit, number};
 use showing::{begin, next};
 use storing::Form;
-use telling::{field_in, find_named, free_told, put_words};
+use telling::{field_in, find_named, put_words};
 
 // ---- the calls on a session
 
@@ -112,14 +112,6 @@ pub extern "C" fn lleuadrys_field(session: &[u8], entry: usize, field: u16) -> u
     ensures { result ≡ field_in session.now entry field }
 {
     field_in(session, entry, field)
-}
-
-// The free sectors that the session stores; 0 where the bytes are no session.
-#[unsafe(no_mangle)]
-pub extern "C" fn lleuadrys_free_sectors(session: &[u8]) -> u16
-    ensures { result ≡ (lent_session session.now).says.free }
-{
-    free_told(session)
 }
 
 // ---- the calls of the RAD Editor
@@ -221,7 +213,7 @@ pub extern "C" fn lleuadrys_to_ebcdic(c: u8) -> u8
 pub extern "C" fn lleuadrys_version() -> u32
     ensures { result ≡ version }
 {
-    40000
+    30100
 }
 
 // Puts the words of an answer's number, as far as there is room; the number of bytes put there.

@@ -1,4 +1,3 @@
 pub mod Mounted
 pub mod Decodes
 pub mod Directory
-pub mod Says

@@ -1,6 +1,6 @@
--- A mounted session is legal and of its type: the table is good or has no used entry, the figure is its own, and nothing is open.
-use mathlib.Core.Path.{◌≡◌, refl, sym}
-use mathlib.Core.Bool.{true, false}
+-- A mounted session is legal and of its type: the table is good or has no used entry, and nothing is open.
+use mathlib.Core.Path.{◌≡◌, refl}
+use mathlib.Core.Bool.{Bool, true, false}
 use mathlib.Core.List.{List}
 use Prim.Native.Nat.{ℕ, ◌-◌}
 use lib.ListN.{length, replicate}
@@ -9,17 +9,14 @@ use borrow.Author.Tests.{eq-eqb}
 use Rattle.geometry.specs.Bytes.{word}
 use Rattle.geometry.specs.Lists.{all, every, pairwise, how_many}
 use Rattle.geometry.specs.Sizes.{entries, sectors_of, lawful_length}
-use Rattle.geometry.proofs.Tests.{either, and_left, and_right, every-from, every-replicate}
-use Rattle.directory.specs.Entries.{entry_bytes, table_of, free_entry, is_free}
+use Rattle.geometry.proofs.Tests.{either, and_left, and_right, every-from}
+use Rattle.directory.specs.Entries.{entry_bytes, table_of, free_entry}
 use Rattle.directory.specs.Rules.{kind_known, free_is_zero, name_good, names_differ, extent_inside, extents_apart, flags_known, length_good, count_good, random_bare, table_rules, table_good}
-use Rattle.directory.specs.Sectors.{free_sectors}
-use Rattle.directory.proofs.Sectors.{free-none}
 use Rattle.directory.proofs.Table.{length-table, table-name}
-use Rattle.sessions.specs.Session.{unheld, is_of, open_files, of_used_entry, of_other, position_good, beyond_good, places_good, saying_good, figure_good, session_rules, legal, typed}
+use Rattle.sessions.specs.Session.{unheld, is_of, open_files, of_used_entry, of_other, position_good, beyond_good, places_good, saying_good, session_rules, legal, typed}
 use Rattle.sessions.proofs.Unheld.{unheld-typed}
-use Rattle.mounting.specs.Mounting.{mounts, start_with, mounted_saying, refused_saying, plain_mount}
+use Rattle.mounting.specs.Mounting.{mounts, start_with, plain_mount}
 use Rattle.directory.specs.declared.Entry.{Entry}
-use Rattle.sessions.specs.declared.Saying.{Saying}
 
 -- ---- the two tables
 
@@ -37,38 +34,29 @@ mounts-good image m = and_left (table_good (sectors_of image) (table_of image)) 
 
 -- ---- legal
 
--- where nothing is open, what a session says of itself is left
-begun-legal : (image : List ℕ) (table : List Entry) (says : Saying) → saying_good (start_with says table) ≡ true → says.free ≡ free_sectors (sectors_of image) table
-    → lawful_length image ≡ true → table_good (sectors_of image) table ≡ true → legal image (start_with says table) ≡ true
-unfolding legal session_rules all every pairwise start_with open_files how_many of_used_entry of_other is_of position_good beyond_good places_good figure_good
-begun-legal image table says s f l g = rw (l, g, s, eq-eqb says.free (free_sectors (sectors_of image) table) f)
-
-pub start-legal : (image : List ℕ) (table : List Entry) (says : Saying) → says.refused ≡ false → says.free ≡ free_sectors (sectors_of image) table
-    → lawful_length image ≡ true → table_good (sectors_of image) table ≡ true → legal image (start_with says table) ≡ true
-unfolding saying_good start_with
-start-legal image table says r f l g = begun-legal image table says (rw r) f l g
+pub start-legal : (image : List ℕ) (table : List Entry) → lawful_length image ≡ true → table_good (sectors_of image) table ≡ true → legal image (start_with false table) ≡ true
+unfolding legal session_rules all every pairwise start_with open_files how_many of_used_entry of_other is_of position_good beyond_good places_good saying_good
+start-legal image table l g = rw (l, g)
 
 -- one from a refused mounting has no used entry
-refused-legal : (image : List ℕ) → lawful_length image ≡ true → legal image (start_with (refused_saying image) (replicate entries free_entry)) ≡ true
-unfolding saying_good start_with open_files how_many
-refused-legal image l =
-    let none : every is_free (replicate entries free_entry) ≡ true = every-replicate is_free entries free_entry refl in
-    begun-legal image (replicate entries free_entry) (refused_saying image) (rw none) (rw (refused_saying, l) (sym (free-none (sectors_of image) (replicate entries free_entry) none))) l (free-good (sectors_of image))
+refused-legal : (image : List ℕ) → lawful_length image ≡ true → legal image (start_with true (replicate entries free_entry)) ≡ true
+unfolding legal session_rules all every pairwise start_with open_files how_many of_used_entry of_other is_of position_good beyond_good places_good saying_good
+refused-legal image l = rw (l, free-good (sectors_of image))
 
 pub mounted-legal : (image : List ℕ) → lawful_length image ≡ true → legal image (plain_mount image).session ≡ true
 unfolding plain_mount
 mounted-legal image l = either (mounts image)
-    (λ (m : mounts image ≡ true). rw (m, plain_mount) (start-legal image (table_of image) (mounted_saying image) refl refl l (mounts-good image m)))
+    (λ (m : mounts image ≡ true). rw (m, plain_mount) (start-legal image (table_of image) l (mounts-good image m)))
     (λ (m : mounts image ≡ false). rw (m, plain_mount) (refused-legal image l))
 
 -- ---- of its type
 
-start-typed : (says : Saying) (table : List Entry) → length table ≡ entries → every (λ e. eqb (length e.name) 8) table ≡ true → typed (unheld (start_with says table)) ≡ true
+start-typed : (refused : Bool) (table : List Entry) → length table ≡ entries → every (λ e. eqb (length e.name) 8) table ≡ true → typed (unheld (start_with refused table)) ≡ true
 unfolding start_with
-start-typed says table l n = unheld-typed (start_with says table) l n refl
+start-typed refused table l n = unheld-typed (start_with refused table) l n refl
 
 pub mounted-typed : (image : List ℕ) → typed (unheld (plain_mount image).session) ≡ true
 unfolding plain_mount every
 mounted-typed image = either (mounts image)
-    (λ (m : mounts image ≡ true). rw (m, plain_mount) (start-typed (mounted_saying image) (table_of image) (length-table image) (every-from (λ e. eqb (length e.name) 8) (table_of image) free_entry (λ i l. eq-eqb _ 8 (table-name image i)))))
-    (λ (m : mounts image ≡ false). rw (m, plain_mount) (start-typed (refused_saying image) (replicate entries free_entry) refl refl))
+    (λ (m : mounts image ≡ true). rw (m, plain_mount) (start-typed false (table_of image) (length-table image) (every-from (λ e. eqb (length e.name) 8) (table_of image) free_entry (λ i l. eq-eqb _ 8 (table-name image i)))))
+    (λ (m : mounts image ≡ false). rw (m, plain_mount) (start-typed true (replicate entries free_entry) refl refl))

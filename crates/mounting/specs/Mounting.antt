@@ -1,11 +1,10 @@
--- Document 01, "Sizes and the directory": mounting; and what document 02, items 1 and 5, add to it. Definitions only.
-use Rattle.std.specs.Prelude.{Bool, true, false, ◌&&◌, ◌||◌, not, List, ℕ, ◌-◌, replicate}
+-- Document 01, "Sizes and the directory": mounting; and what document 02, item 1, adds to it. Definitions only.
+use Rattle.std.specs.Prelude.{Bool, true, false, ◌&&◌, ◌||◌, not, List, ℕ, replicate}
 use Rattle.geometry.specs.Lists.{every}
 use Rattle.geometry.specs.Places.{origin}
 use Rattle.geometry.specs.Sizes.{entries, most_open, compressed, sectors_of, lawful_length}
 use Rattle.directory.specs.Entries.{table_of, is_kind, free_entry}
 use Rattle.directory.specs.Rules.{table_good}
-use Rattle.directory.specs.Sectors.{free_sectors}
 use Rattle.packing.specs.Reading.{Walk, walk, decodes}
 use Rattle.sessions.specs.Session.{idle, extent, unheld}
 use Rattle.directory.specs.declared.Entry.{Entry}
@@ -13,7 +12,6 @@ use Rattle.requests.specs.declared.Answer.{Answer}
 use Rattle.requests.specs.declared.Answer.TheVariants.{Done, Refused}
 use Rattle.requests.specs.declared.Refusal.TheVariants.{BadImage}
 use Rattle.sessions.specs.declared.BufferedSession.{BufferedSession}
-use Rattle.sessions.specs.declared.Saying.{Saying}
 use Rattle.sessions.specs.declared.Session.{Session}
 
 -- the records that a compressed file's entry counts
@@ -32,23 +30,15 @@ pub record Mounted (S : Type 0) : Type 0 where
   pub answer : Answer
   pub session : S
 
--- a session with nothing open
-unfoldable pub start_with : Saying → List Entry → Session
-start_with says table = record { says = says; table = table; files = replicate most_open idle }
+-- a session with nothing open; whether it says that it is from a refused mounting
+unfoldable pub start_with : Bool → List Entry → Session
+start_with refused table = record { says = record { refused = refused }; table = table; files = replicate most_open idle }
 
--- item 5: "Store the figure in the session and keep it right from mounting on"
-abbrev pub mounted_saying : List ℕ → Saying
-mounted_saying image = record { refused = false; free = free_sectors (sectors_of image) (table_of image) }
-
--- item 1: "The session from a refused mounting says that it is one"; item 5: "A refused mounting stores N − 1, or 0 if the length is wrong"
-abbrev pub refused_saying : List ℕ → Saying
-refused_saying image = record { refused = true; free = elim (lawful_length image) [ true ↦ sectors_of image - 1 | false ↦ 0 ] }
-
--- "A refused mounting hands out a table with no used entry and nothing open."
+-- "A refused mounting hands out a table with no used entry and nothing open."; document 02, item 1: "The session from a refused mounting says that it is one"
 unfoldable pub plain_mount : List ℕ → Mounted Session
 plain_mount image = elim (mounts image) [
-  | true ↦ record { answer = Done; session = start_with (mounted_saying image) (table_of image) }
-  | false ↦ record { answer = Refused BadImage; session = start_with (refused_saying image) (replicate entries free_entry) }
+  | true ↦ record { answer = Done; session = start_with false (table_of image) }
+  | false ↦ record { answer = Refused BadImage; session = start_with true (replicate entries free_entry) }
 ]
 
 unfoldable pub buffered_mount : List ℕ → Mounted BufferedSession

@@ -1,15 +1,14 @@
 // Mounting an image: document 01's "Sizes and the directory". The directory is judged where it lies.
-ghost use Rattle.std.specs.Prelude.{◌≡◌, true, ◌≤◌, length};
+ghost use Rattle.std.specs.Prelude.{◌≡◌, ◌≤◌, length};
 ghost use Rattle.geometry.specs.Lists.{every};
 ghost use Rattle.geometry.specs.Sizes.{sector};
 ghost use Rattle.directory.specs.Entries.{entry_at, table_of};
-ghost use Rattle.mounting.specs.Mounting.{count_decodes, mounts, plain_mount};
+ghost use Rattle.mounting.specs.Mounting.{count_decodes, mounts};
 
 use directory::Entry;
 use geometry::Geometry;
 use packing::Led;
-use sessions::Saying;
-use tables::{Judged, Width, entry_in, judge_table};
+use tables::{Width, entry_in, table_good};
 
 // Whether a compressed file's first count records decode one after another inside the extent; any other entry has none to decode.
 fn count_decodes(image: &[u8], e: Entry) -> bool
@@ -51,42 +50,18 @@ fn all_decode(image: &[u8]) -> bool
     true
 }
 
-// What the session of a refused mounting says of itself.
-fn refused_with(free: u16) -> Saying
-    ensures { result ≡ record { refused = true; free = free } }
-{
-    Saying {
-        refused: true,
-        free: free,
-    }
-}
-
-// What the session of an image says of itself behind its mounting: whether that is refused, and the free sectors.
-pub fn start_saying(image: &[u8]) -> Saying
-    ensures { result ≡ (plain_mount image.now).session.says }
-{
-    if !Geometry::lawful_length(image) {
-        return refused_with(0);
-    }
-    let n = Geometry::sectors_of(image) as u32;
-    match judge_table(image, Width::ONE, Geometry::ENTRIES, n) {
-        Judged::Good(free) => {
-            if all_decode(image) {
-                Saying {
-                    refused: false,
-                    free: free as u16,
-                }
-            } else {
-                refused_with((n - 1) as u16)
-            }
-        }
-        Judged::Bad => refused_with((n - 1) as u16),
-    }
-}
-
 // Whether an image has a lawful length and a good directory.
 pub fn mounts(image: &[u8]) -> bool
     ensures { result ≡ mounts image.now }
 {
-    !start_saying(image).refused
+    if Geometry::lawful_length(image) {
+        let n = Geometry::sectors_of(image) as u32;
+        if table_good(image, Width::ONE, Geometry::ENTRIES, n) {
+            all_decode(image)
+        } else {
+            false
+        }
+    } else {
+        false
+    }
 }

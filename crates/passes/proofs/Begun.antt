@@ -1,7 +1,7 @@
 -- What the call that begins a listing asks for: the session that the mounting stored is read back, so the name is sought in the image's directory, and kind
 -- and R are those of the entry found there.
 use mathlib.Core.Path.{◌≡◌, refl, sym, ap, ◌∙◌}
-use mathlib.Core.Bool.{Bool, true, false, not}
+use mathlib.Core.Bool.{Bool, true, false}
 use mathlib.Core.List.{List, [], ◌∷◌}
 use Prim.Native.Nat.{ℕ}
 use native.Mathlib.Omega.{arith}
@@ -14,8 +14,7 @@ use Rattle.directory.specs.Entries.{table_of, entry_at, is_free, is_kind}
 use Rattle.directory.specs.Search.{find}
 use Rattle.directory.specs.declared.Entry.{Entry}
 use Rattle.requests.specs.declared.Request.TheVariants.{Open}
-use Rattle.mounting.specs.Mounting.{mounts, plain_mount}
-use Rattle.mounting.proofs.Says.{says-whether}
+use Rattle.mounting.specs.Mounting.{mounts}
 use Rattle.storing.specs.Stored.{size_of, has_buffers, is_session, session_in, lent_session}
 use Rattle.storing.proofs.Read.{told-by-size}
 use Rattle.storing.proofs.Start.{is_size, other-number}
@@ -66,12 +65,12 @@ module _ (u : Bool) (image b : List ℕ) (l : length b ≡ size_of u) where
     begun-bad h = either (is_short image)
         (λ (short : is_short image ≡ true).
         let m : mounts image ≡ false = rw short at h in
-        ap number (bad-stops image b typed short 11 _ (mount-bad image b is-size (plain_mount image).session.says refl (says-whether image ∙ ap not m)) refl λ z. absurd (omega arith)))
+        ap number (bad-stops image b typed short 11 _ (mount-bad image b is-size false (sym m) refl) refl λ z. absurd (omega arith)))
         (λ (short : is_short image ≡ false). ap number (long-stops image b typed short))
 
     module _ (short : is_short image ≡ true) (ok : mounts image ≡ true) where
       good : 0 ≡ mount_number image b
-      good = mount-done image b is-size (plain_mount image).session.says refl (says-whether image ∙ ap not ok)
+      good = mount-done image b is-size true (sym ok) refl
 
       session : s ok ≡ mount_bytes image b
       session = sym (called.session u image b l)

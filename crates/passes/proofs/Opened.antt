@@ -10,7 +10,7 @@ use Rattle.geometry.specs.Lists.{how_many}
 use Rattle.geometry.specs.Sizes.{free, random, most_records}
 use Rattle.directory.specs.Entries.{table_of, entry_at, is_free, is_kind, is_marked}
 use Rattle.directory.specs.declared.Entry.{Entry}
-use Rattle.mounting.specs.Mounting.{mounts, start_with, mounted_saying}
+use Rattle.mounting.specs.Mounting.{mounts, start_with}
 use Rattle.requests.specs.Judge.{judge, tests, first_of, or_else, whether}
 use Rattle.requests.specs.declared.Answer.TheVariants.{Done}
 use Rattle.requests.specs.declared.Request.TheVariants.{Open}
@@ -33,7 +33,7 @@ use Rattle.passes.proofs.Records.{Listed, listed}
 
 none_open : (image : List ℕ) → mounts image ≡ true → open_models (models_of image) ≡ 0
 unfolding open_files how_many start_with
-none_open image ok = ap open_models (sym (mounted-view image ok)) ∙ sym (open-view image (start_with (mounted_saying image) (table_of image)) (mounted-stands image ok).ok)
+none_open image ok = ap open_models (sym (mounted-view image ok)) ∙ sym (open-view image (start_with false (table_of image)) (mounted-stands image ok).ok)
 
 -- so a sequential file that is not open opens
 opens : (size : ℕ) (t : Tape) → t.is_open ≡ false → eqb t.shape.kind free ≡ false → judge Open (tape_facts 0 [] size t) ≡ Done

@@ -18,7 +18,7 @@ use Rattle.directory.specs.declared.Entry.{Entry}
 use Rattle.packing.specs.Reading.{Recorded, walked, walk, records_of}
 use Rattle.packing.proofs.One.{told}
 use Rattle.packing.proofs.Walks.{nowhere, decodes-walked, walk-length, walk_at}
-use Rattle.mounting.specs.Mounting.{mounts, counted_walk, start_with, mounted_saying}
+use Rattle.mounting.specs.Mounting.{mounts, counted_walk, start_with}
 use Rattle.sessions.specs.Session.{idle, extent}
 use Rattle.tapes.specs.Tape.{Tape, fixed_record, records_in, tape_of}
 use Rattle.tapes.specs.Model.{shape_of}
@@ -87,7 +87,7 @@ module _ (image : List ℕ) (ok : mounts image ≡ true) (i : ℕ) where
   module _ (used : is_free e ≡ false) (sequential : is_kind random e ≡ false) where
     sound : Sound e idle (extent e image)
     unfolding start_with
-    sound = rw (nothing-open (mounted_saying image) (table_of image) i) at ((mounted-stands image ok).sound i used)
+    sound = rw (nothing-open (table_of image) i) at ((mounted-stands image ok).sound i used)
 
     even : Even e.length e.count (records_in (shape_of e) (extent e image) e.count)
     even = either (is_kind compressed e) (packed-even e (extent e image) sound) (λ k. fixed-even e (extent e image) sound k sequential)

@@ -2,23 +2,22 @@
 // and what is printed, no contract can say.
 ghost use Rattle.std.specs.Prelude.{◌≤◌, length};
 
-use lleuadrys::{lleuadrys_free_sectors, lleuadrys_mount};
+use lleuadrys::lleuadrys_mount;
 use moving::part;
 use row_io::{Ahead, next, print_fault, print_line};
 use scripts::Row;
 
 // ---- mounting, and an image
 
-fn print_mount(number: u16, free: u16) {
+fn print_mount(number: u16) {
     let mut out = [0u8; 96];
-    let n = saying::write_mount(&mut out, number, free);
+    let n = saying::write_mount(&mut out, number);
     print_line(&out, n);
 }
 
 // Mounts an image, and prints a line of it. The number of the session's bytes says which engine it is mounted for.
 pub fn mount(image: &[u8], session: &mut [u8]) {
-    let number = lleuadrys_mount(image, session);
-    print_mount(number, lleuadrys_free_sectors(session));
+    print_mount(lleuadrys_mount(image, session));
 }
 
 // Prints the sums of an image.

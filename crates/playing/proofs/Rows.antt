@@ -1,5 +1,5 @@
 -- A row by its code: an adding, a deleting, or a request.
-use mathlib.Core.Path.{◌≡◌, sym, ap, subst, ◌∙◌}
+use mathlib.Core.Path.{◌≡◌, sym, ap, ap₂, subst, ◌∙◌}
 use mathlib.Core.Bool.{true, false}
 use mathlib.Core.Logic.{◌≢◌}
 use mathlib.Core.List.{List, []}
@@ -16,15 +16,15 @@ use Rattle.lleuadrys.specs.Calls.{Edits}
 use Rattle.scripts.specs.Script.{is_edit}
 use Rattle.scripts.specs.declared.Played.{Played}
 use Rattle.scripts.specs.declared.Row.{Row}
-use Rattle.playing.specs.Played.{free_at, edit_said, said_of_edit, edited, asked, leaves, said_of, played}
+use Rattle.playing.specs.Played.{edit_said, said_of_edit, edited, asked, leaves, said_of, played}
 
 -- what a call hands back of an edit that the row's is
-pub handed : (w v : Edited (List ℕ)) → w ≡ v → (n told free : ℕ) (to lent : List ℕ) (r : Played) → Edits w n to lent → told ≡ get_or w.told 0 0 → free ≡ free_at lent → r ≡ edit_said n told free
+pub handed : (w v : Edited (List ℕ)) → w ≡ v → (n told : ℕ) (to lent : List ℕ) (r : Played) → Edits w n to lent → told ≡ get_or w.told 0 0 → r ≡ edit_said n told
     → Edits v r.number to lent × (r ≡ said_of_edit v)
 unfolding said_of_edit
-handed w v e n told free to lent r h t f p =
+handed w v e n told to lent r h t p =
     subst (λ (x : Edited (List ℕ)). Edits x r.number to lent × (r ≡ said_of_edit x)) e
-    ((ap (λ (x : Played). x.number) p ∙ h.0, h.1, h.2), p ∙ rw (h.0, t, f, h.2))
+    ((ap (λ (x : Played). x.number) p ∙ h.0, h.1, h.2), p ∙ ap₂ edit_said h.0 t)
 
 module _ (row : Row) (given image session : List ℕ) where
   pub adding : row.code ≡ 14 → edited_in image session 0 (Add row.entry (row.granule % 65536) row.sectors) given ≡ edited row given image session

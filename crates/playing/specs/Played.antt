@@ -16,16 +16,12 @@ use Rattle.scripts.specs.Script.{is_edit}
 use Rattle.scripts.specs.Sums.{words_of, sum_of}
 use Rattle.summing.specs.Moved.{moved}
 
--- the free sectors that a session in lent bytes stores
-abbrev pub free_at : List ℕ → ℕ
-free_at session = (lent_session session).says.free
-
--- what is said of an edit: its number, the new entry's in place of a sum, no position, and the free sectors
-abbrev pub edit_said : ℕ → ℕ → ℕ → Played
-edit_said n told free = record { number = n; sum = told; standing = 0; position = 0; free = free }
+-- what is said of an edit: its number, the new entry's in place of a sum, and no position
+abbrev pub edit_said : ℕ → ℕ → Played
+edit_said n told = record { number = n; sum = told; standing = 0; position = 0 }
 
 unfoldable pub said_of_edit : Edited (List ℕ) → Played
-said_of_edit w = edit_said (number_of w.answer) (get_or w.told 0 0) (free_at w.session)
+said_of_edit w = edit_said (number_of w.answer) (get_or w.told 0 0)
 
 module _ (row : Row) (given : List ℕ) where
   -- what an adding comes to, whose kind, length and sectors are words 1, 3 and 4 and whose name is given; and a deleting
@@ -50,7 +46,7 @@ module _ (row : Row) (given : List ℕ) where
   unfoldable pub said_of : Left → Played
   said_of a =
       let spot : Spot = spot_of (bare (lent_session a.session)) row.entry in
-      record { number = a.number; sum = sum_of (words_of (moved row given a)); standing = standing spot; position = record_at spot 0; free = free_at a.session }
+      record { number = a.number; sum = sum_of (words_of (moved row given a)); standing = standing spot; position = record_at spot 0 }
 
   unfoldable pub played : List ℕ → List ℕ → List ℕ → Played
   played image session buffer = elim (is_edit row.code) [ true ↦ said_of_edit (edited image session) | false ↦ said_of (asked image session buffer) ]

@@ -4,22 +4,19 @@ ghost use Rattle.asking.specs.Requested.{left};
 ghost use Rattle.lleuadrys.specs.Calls.{Edits};
 ghost use Rattle.playing.specs.Played.{edit_said, edited, asked, leaves, said_of, said_of_edit, played};
 
-use lleuadrys::{
-    lleuadrys_add, lleuadrys_delete, lleuadrys_free_sectors, lleuadrys_position, lleuadrys_request,
-};
+use lleuadrys::{lleuadrys_add, lleuadrys_delete, lleuadrys_position, lleuadrys_request};
 use scripts::{Played, Row, is_edit};
 use summing::sum_moved;
 
-// What is said of an edit, with the free sectors behind it.
-fn edit_said(number: u16, told: u32, free: u16) -> Played
-    ensures { result ≡ edit_said number told free }
+// What is said of an edit.
+fn edit_said(number: u16, told: u32) -> Played
+    ensures { result ≡ edit_said number told }
 {
     Played {
         number: number,
         sum: told,
         standing: 0,
         position: 0,
-        free: free,
     }
 }
 
@@ -30,8 +27,7 @@ fn play_edit(image: &mut [u8], session: &mut [u8], row: Row, given: &[u8]) -> Pl
 {
     if row.code != 14 {
         let number = lleuadrys_delete(image, session, row.entry as usize);
-        let free = lleuadrys_free_sectors(session);
-        return edit_said(number, 0, free);
+        return edit_said(number, 0);
     }
     let mut at: usize = 0;
     let length = (row.granule % 65536) as u16;
@@ -44,8 +40,7 @@ fn play_edit(image: &mut [u8], session: &mut [u8], row: Row, given: &[u8]) -> Pl
         row.sectors,
         &mut at,
     );
-    let free = lleuadrys_free_sectors(session);
-    edit_said(number, at as u32, free)
+    edit_said(number, at as u32)
 }
 
 // Plays a row that asks for one of the requests: a write takes its bytes from what is given, a read lays them in the buffer.
@@ -65,13 +60,11 @@ fn play_request(
     let sum = sum_moved(row, given, number, image, session, buffer);
     let mut at: u32 = 0;
     let standing = lleuadrys_position(session, i, &mut at);
-    let free = lleuadrys_free_sectors(session);
     Played {
         number: number,
         sum: sum,
         standing: standing,
         position: at,
-        free: free,
     }
 }
 

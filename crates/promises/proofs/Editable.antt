@@ -25,8 +25,7 @@ use Rattle.directory.proofs.Table.{length-table}
 use Rattle.tables.specs.Tables.{one_word_wide, count_of, entry_of, lay_entry}
 use Rattle.tables.proofs.Laid.{row-there}
 use Rattle.tables.proofs.Widths.{rows-there}
-use Rattle.directory.specs.Sectors.{is_taken}
-use Rattle.gaps.specs.Gaps.{lowest_free, stands_free, lowest_gap}
+use Rattle.gaps.specs.Gaps.{lowest_free, is_taken, stands_free, lowest_gap}
 use Rattle.shapes.specs.Made.{is_named, shape_good, file_made}
 use Rattle.gaps.proofs.Gaps.{free-lowest, free-below, gap-stands, gap-lowest, gap-given}
 use Rattle.gaps.proofs.Taken.{gap-freed, gap-again}
@@ -35,7 +34,7 @@ use Rattle.requests.proofs.Edits.{Adds, done-edits}
 use Rattle.requests.proofs.First.{not_there}
 use Rattle.sessions.specs.Session.{bare, file_of, buffered_legal, typed}
 use Rattle.sessions.proofs.Legal.{lawful-length, good-table, honest, bare-legal}
-use Rattle.steps.specs.Edit.{is_taken_name, edit_facts, edited_number, edited_entry, edited_saying, told_of, edit_answer_by, buffered_edit_answer}
+use Rattle.steps.specs.Edit.{is_taken_name, edit_facts, edited_number, edited_entry, told_of, edit_answer_by, buffered_edit_answer}
 use Rattle.steps.specs.Next.{facts_of}
 use Rattle.steps.specs.Step.{buffered_scene, buffered_answer}
 use Rattle.steps.proofs.Edited.{same-swap, shape-some, Edits}
@@ -55,7 +54,6 @@ use Rattle.requests.specs.declared.Edit.TheVariants.{Add, Delete}
 use Rattle.requests.specs.declared.Refusal.TheVariants.{NotThere, BadImage, NoGap}
 use Rattle.requests.specs.declared.Request.{Request}
 use Rattle.sessions.specs.declared.BufferedSession.{BufferedSession}
-use Rattle.sessions.specs.declared.Saying.{Saying}
 
 -- ---- a file that was there may be added again
 
@@ -148,8 +146,7 @@ module _ (image : List ℕ) (s : BufferedSession) (types : typed s ≡ true) (ok
       omega (arith, lawful-whole image l, lawful-some image l)
 
   -- what an edit answered 0 makes of its entry
-  edits : (x : Edit) (i : ℕ) (name : List ℕ) → buffered_edit_answer image s i x name ≡ Done
-      → Edits N (bare s) (edited_saying x s.says (entry_at t (edited_number x t i))) (edited_number x t i) (edited_entry x N t name)
+  edits : (x : Edit) (i : ℕ) (name : List ℕ) → buffered_edit_answer image s i x name ≡ Done → Edits N (bare s) (edited_number x t i) (edited_entry x N t name)
   edits x i name d = buffered-edits image s ok types i x name d
 
   module _ (kind size sectors : ℕ) (name : List ℕ) where
@@ -195,11 +192,7 @@ module _ (image : List ℕ) (s : BufferedSession) (types : typed s ≡ true) (ok
     used : is_free (entry_at t i) ≡ false
     used = deleted-used i d
 
-    -- what the session then says of itself
-    abbrev freed : Saying
-    freed = edited_saying Delete s.says (entry_at t i)
-
-    gone : Edits N (bare s) freed i free_entry
+    gone : Edits N (bare s) i free_entry
     unfolding edited_number edited_entry
     gone = edits Delete i [] d
 
@@ -213,12 +206,12 @@ module _ (image : List ℕ) (s : BufferedSession) (types : typed s ≡ true) (ok
     free-again : stands_free (is_taken (set t i free_entry)) (sectors_of laid) (entry_at t i).sectors (entry_at t i).first ≡ true
     free-again = rw same-sectors (gap-freed N t good i used)
 
-    add-again : buffered_edit_answer laid (with_entry s freed i free_entry) 0 (Add (entry_at t i).kind (entry_at t i).length (entry_at t i).sectors) (entry_at t i).name ≡ Done
+    add-again : buffered_edit_answer laid (with_entry s i free_entry) 0 (Add (entry_at t i).kind (entry_at t i).length (entry_at t i).sectors) (entry_at t i).name ≡ Done
     unfolding edit_answer_by edit_facts judge_edit edit_tests first_of or_else whether bare
     add-again =
         rw (
-          entry-legal image s ok freed i free_entry gone,
-          gone.said,
+          entry-legal image s ok i free_entry gone,
+          honest image (bare s) (bare-legal image s ok) i used,
           named_again N t good i used eight,
           shape-again N t good i used,
           name-again N t good i used eight,
@@ -266,15 +259,11 @@ module _ (E : Engine) (orderly : Orderly E) (w : Standing E.Session) (p : Passes
     abbrev new : Entry
     new = edited_entry x.edit (sectors_of w.image) (table_at E w) x.name
 
-    -- what the session then says of itself
-    abbrev says : Saying
-    says = edited_saying x.edit seen.says (entry_at (table_at E w) number)
-
-    left : ((edited E w x).told ≡ told_of x.edit number) × (E.seen (edited E w x).session ≡ with_entry seen says number new) × ((edited E w x).image ≡ lay_entry one_word_wide entries w.image number new)
+    left : ((edited E w x).told ≡ told_of x.edit number) × (E.seen (edited E w x).session ≡ with_entry seen number new) × ((edited E w x).image ≡ lay_entry one_word_wide entries w.image number new)
     unfolding edited
     left = (orderly.every-edit w.image w.session x.entry x.edit x.name).one d number refl new refl
 
-    edits-it : Edits (sectors_of w.image) (bare seen) says number new
+    edits-it : Edits (sectors_of w.image) (bare seen) number new
     edits-it = edits w.image seen typed-seen p.is_legal x.edit x.entry x.name (sym (answer-is x) ∙ d)
 
     entry-then : entry_at (table_at E (edit_of E w x)) number ≡ new
@@ -329,7 +318,7 @@ module _ (E : Engine) (orderly : Orderly E) (w : Standing E.Session) (p : Passes
     abbrev then : Standing E.Session
     then = edit_of E w (deleting i)
 
-    seen-then : E.seen then.session ≡ with_entry seen (edited_saying Delete seen.says (entry_at (table_at E w) i)) i free_entry
+    seen-then : E.seen then.session ≡ with_entry seen i free_entry
     unfolding edit_of edited_number edited_entry
     seen-then = (left (deleting i) d).1
 

@@ -6,5 +6,4 @@ pub mod Writes
 pub mod Quiet
 pub mod Granules
 pub mod Editable
-pub mod Figure
 pub mod Adding

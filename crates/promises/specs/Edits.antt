@@ -4,8 +4,7 @@ use Rattle.std.specs.Prelude.{◌≡◌, Bool, true, false, List, [], ◌∷◌,
 use Rattle.geometry.specs.Bytes.{part}
 use Rattle.geometry.specs.Sizes.{entries, entry_size, random, sectors_of}
 use Rattle.directory.specs.Entries.{free_entry, entry_at, is_free, table_of}
-use Rattle.directory.specs.Sectors.{is_taken}
-use Rattle.gaps.specs.Gaps.{stands_free}
+use Rattle.gaps.specs.Gaps.{is_taken, stands_free}
 use Rattle.shapes.specs.Made.{file_made}
 use Rattle.requests.specs.Judge.{Test, unlawful_session, refused_mounting, bad_name, bad_shape, name_in_use, no_free_entry, first_of, EditFacts}
 use Rattle.sessions.specs.Session.{bare, file_of, extent}

@@ -3,4 +3,3 @@ pub mod Writes
 pub mod Quiet
 pub mod Granules
 pub mod Edits
-pub mod Figure

@@ -6,18 +6,18 @@ use Rattle.scripts.specs.declared.Fault.TheVariants.{Cut, Shape, Code, Missing, 
 use Rattle.scripts.specs.declared.Played.{Played}
 use Rattle.scripts.specs.declared.Sums.{Sums}
 
--- the first line: MOUNT ANSWER FREE
-unfoldable pub mount_line : ℕ → ℕ → List ℕ
-mount_line n free = spaced (spelled "MOUNT" ∷ decimal n ∷ decimal free ∷ [])
+-- the first line: MOUNT ANSWER
+unfoldable pub mount_line : ℕ → List ℕ
+mount_line n = spaced (spelled "MOUNT" ∷ decimal n ∷ [])
 
--- POSITION and BEYOND of a file that stands so: "- -" if it is not open, which is 0; BEYOND is 0 where that is 1, and 1 where it is 2; and FREE
-unfoldable pub stand_words : ℕ → ℕ → ℕ → List (List ℕ)
-stand_words zero p free = spelled "-" ∷ spelled "-" ∷ decimal free ∷ []
-stand_words (suc beyond) p free = decimal p ∷ decimal beyond ∷ decimal free ∷ []
+-- POSITION and BEYOND of a file that stands so: "- -" if it is not open, which is 0; BEYOND is 0 where that is 1, and 1 where it is 2
+unfoldable pub stand_words : ℕ → ℕ → List (List ℕ)
+stand_words zero p = spelled "-" ∷ spelled "-" ∷ []
+stand_words (suc beyond) p = decimal p ∷ decimal beyond ∷ []
 
--- of each row: ROW ANSWER SUM POSITION BEYOND FREE
+-- of each row: ROW ANSWER SUM POSITION BEYOND
 unfoldable pub row_line : ℕ → Played → List ℕ
-row_line n p = spaced (decimal n ∷ decimal p.number ∷ decimal p.sum ∷ stand_words p.standing p.position p.free)
+row_line n p = spaced (decimal n ∷ decimal p.number ∷ decimal p.sum ∷ stand_words p.standing p.position)
 
 -- of an image behind the last row: IMAGE A B
 unfoldable pub image_line : Sums → List ℕ

@@ -15,24 +15,21 @@ fn put_count(out: &mut [u8], at: usize, text: &[u8], k: u16) -> usize
 }
 
 // Puts what is said of a mounting into out. How many bytes that is.
-pub fn write_mount(out: &mut [u8], number: u16, free: u16) -> usize
-    ensures { Wrote out.old 0 (mount_line number free) out.new result }
+pub fn write_mount(out: &mut [u8], number: u16) -> usize
+    ensures { Wrote out.old 0 (mount_line number) out.new result }
 {
-    let a = put_all(out, 0, b"MOUNT ");
-    let b = put_number(out, a, number as u32, b' ');
-    put_number(out, b, free as u32, b'\n')
+    put_count(out, 0, b"MOUNT ", number)
 }
 
-// Puts where a file stands, the free sectors, and the line's end.
-fn put_stand(out: &mut [u8], at: usize, standing: u16, position: u32, free: u16) -> usize
-    ensures { Wrote out.old at (spaced (stand_words standing position free)) out.new result }
+// Puts where a file stands, and the line's end.
+fn put_stand(out: &mut [u8], at: usize, standing: u16, position: u32) -> usize
+    ensures { Wrote out.old at (spaced (stand_words standing position)) out.new result }
 {
     if standing == 0 {
-        return put_count(out, at, b"- - ", free);
+        return put_all(out, at, b"- -\n");
     }
     let a = put_number(out, at, position, b' ');
-    let b = put_number(out, a, (standing - 1) as u32, b' ');
-    put_number(out, b, free as u32, b'\n')
+    put_number(out, a, (standing - 1) as u32, b'\n')
 }
 
 // Puts what is said of row n into out. How many bytes that is.
@@ -42,7 +39,7 @@ pub fn write_row(out: &mut [u8], n: u32, p: Played) -> usize
     let b = put_number(out, 0, n, b' ');
     let c = put_number(out, b, p.number as u32, b' ');
     let d = put_number(out, c, p.sum, b' ');
-    put_stand(out, d, p.standing, p.position, p.free)
+    put_stand(out, d, p.standing, p.position)
 }
 
 // Puts what is said of an image into out. How many bytes that is.

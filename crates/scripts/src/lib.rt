@@ -168,5 +168,4 @@ pub struct Played {
     pub sum: u32, // of the words moved
     pub standing: u16, // its file: 0 not open, 1 open, 2 open and beyond the mark
     pub position: u32, // of its file, if that is open
-    pub free: u16, // the free sectors that the session stores behind it
 }

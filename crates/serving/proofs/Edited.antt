@@ -25,7 +25,7 @@ use Rattle.sessions.specs.Session.{idle, file_of, extent, legal}
 use Rattle.sessions.proofs.Legal.{lawful-length, good-table}
 use Rattle.sessions.proofs.Distinct.{file-idle}
 use Rattle.mounting.specs.Mounting.{counted_walk, count_decodes}
-use Rattle.steps.specs.Edit.{edited_number, edited_entry, edited_saying, Edited, edit_by, plain_edit_answer, plain_edit}
+use Rattle.steps.specs.Edit.{edited_number, edited_entry, Edited, edit_by, plain_edit_answer, plain_edit}
 use Rattle.steps.proofs.Edited.{Edits, edits-done, edit-either, legal-edited}
 use Rattle.steps.proofs.Inside.{lawful}
 use Rattle.steps.proofs.Laid.{length-laid, table-laid, extent-laid}
@@ -41,7 +41,6 @@ use Rattle.serving.proofs.View.{shows_at, view, shows_same, length-view, view-at
 use Rattle.directory.specs.declared.Entry.{Entry}
 use Rattle.requests.specs.declared.Answer.TheVariants.{Done}
 use Rattle.requests.specs.declared.Edit.{Edit}
-use Rattle.sessions.specs.declared.Saying.{Saying}
 use Rattle.sessions.specs.declared.Session.{Session}
 
 -- ---- what an edit that is answered 0 leaves
@@ -51,12 +50,12 @@ pub none-decode : (image : List ℕ) (e : Entry) → e.count ≡ 0 → count_dec
 unfolding count_decodes counted_walk walk decodes
 none-decode image e c = rw c (or-true (not (is_kind compressed e)))
 
-module _ (image : List ℕ) (s : Session) (v : Stands image s) (says : Saying) (n : ℕ) (e : Entry) (h : Edits (sectors_of image) s says n e) where
+module _ (image : List ℕ) (s : Session) (v : Stands image s) (n : ℕ) (e : Entry) (h : Edits (sectors_of image) s n e) where
   abbrev image' : List ℕ
   image' = lay_entry one_word_wide entries image n e
 
   abbrev s' : Session
-  s' = record { says = says; table = set s.table n e; files = s.files }
+  s' = record { says = s.says; table = set s.table n e; files = s.files }
 
   long : length image' ≡ length image
   long = length-laid image n e
@@ -70,7 +69,7 @@ module _ (image : List ℕ) (s : Session) (v : Stands image s) (says : Saying) (
   sectors-then = rw long
 
   legal-then : legal image' s' ≡ true
-  legal-then = legal-edited image image' s says n e v.ok h long
+  legal-then = legal-edited image image' s n e v.ok h long
 
   -- entry n itself
   entry_here : entry_at s'.table n ≡ e
@@ -110,7 +109,7 @@ module _ (image : List ℕ) (s : Session) (v : Stands image s) (says : Saying) (
   stands-edited : Stands image' s'
   stands-edited = record {
     ok = legal-then;
-    said = h.said;
+    said = v.said;
     many = length-set s.table n e ∙ v.many;
     four = v.four;
     sound = λ j. sound-at j (ℕ_discrete j n);
@@ -162,11 +161,8 @@ module _ (image : List ℕ) (s : Session) (v : Stands image s) (i : ℕ) (x : Ed
   abbrev e : Entry
   e = edited_entry x (sectors_of image) s.table name
 
-  abbrev then : Saying
-  then = edited_saying x s.says (entry_at s.table n)
-
-  abbrev session : Saying → List Entry → Session
-  session says table = record { says = says; table = table; files = s.files }
+  abbrev session : List Entry → Session
+  session table = record { says = s.says; table = table; files = s.files }
 
   pub edit-answer : (plain_edit image s i x name).answer ≡ edit_answer ms (editing i x name) image
   unfolding edit_by
@@ -181,12 +177,12 @@ module _ (image : List ℕ) (s : Session) (v : Stands image s) (i : ℕ) (x : Ed
       (λ y h. rw h))
 
   -- what it leaves, where it is done
-  made : plain_edit_answer image s i x name ≡ Done → Edits (sectors_of image) s then n e
+  made : plain_edit_answer image s i x name ≡ Done → Edits (sectors_of image) s n e
   made h = edits-done image s v.ok v.many (legal image s) i x name h
 
   pub edit-stands : Stands (plain_edit image s i x name).image (plain_edit image s i x name).session
   edit-stands =
-      edit-either (legal image s) session image s i x name (λ (r : Edited Session). Stands r.image r.session) (λ h. stands-edited image s v then n e (made h)) (λ y h. v)
+      edit-either (legal image s) session image s i x name (λ (r : Edited Session). Stands r.image r.session) (λ h. stands-edited image s v n e (made h)) (λ y h. v)
 
   pub edit-view : view (plain_edit image s i x name).image (plain_edit image s i x name).session ≡ edit_step ms (editing i x name) image
   unfolding edit_step models_edited
@@ -195,7 +191,7 @@ module _ (image : List ℕ) (s : Session) (v : Stands image s) (i : ℕ) (x : Ed
       (edit-either (legal image s) session image s i x name
       (λ (r : Edited Session). view r.image r.session ≡ models_edited (plain_edit_answer image s i x name) ms (model_number x ms i) (model_made x ms name image))
       (λ h.
-      rw h (view-edited image s v then n e (made h)
+      rw h (view-edited image s v n e (made h)
       ∙ ap (λ (m : ℕ). set ms m (shows e idle (extent e image))) (edit-number image s v.many x i)
       ∙ ap (set ms (model_number x ms i)) (sym (made-shows image s v.many name x))))
       (λ y h. rw h))

@@ -13,10 +13,8 @@ use Rattle.geometry.specs.Sizes.{entries, compressed, random, most_open, sectors
 use Rattle.geometry.proofs.Tests.{both_ways, many-room}
 use Rattle.directory.specs.Entries.{entry_at, free_entry, is_free}
 use Rattle.directory.specs.Rules.{table_good}
-use Rattle.directory.specs.Sectors.{sectors_taken}
 use Rattle.directory.specs.Stamp.{restamped}
 use Rattle.directory.proofs.Good.{used-inside}
-use Rattle.directory.proofs.Sectors.{taken-same}
 use Rattle.directory.proofs.Restamp.{Stampable, restamp-good}
 use Rattle.requests.specs.Judge.{judge}
 use Rattle.requests.proofs.Done.{Allows, Meets, Tells, done-allows, met-meets}
@@ -153,7 +151,7 @@ module _ (image : List ℕ) (s : Session) (ok : legal image s ≡ true) (many : 
 
   pub legal-next : legal image (session_next a q c s i) ≡ true
   legal-next =
-      legal-set image s ok four i in-entries in_table real (entry_next a q c) (file_next a q c) (goes-used q i (file_next a q c) goes) good same λ u. record {
+      legal-set image s ok four i in-entries in_table real (entry_next a q c) (file_next a q c) (goes-used q i (file_next a q c) goes) good λ u. record {
         real = real-lawful (entry_next a q c) (file_next a q c) lawful_then;
         standing = lawful_then.standing;
         ahead = lawful_then.ahead;
@@ -162,9 +160,6 @@ module _ (image : List ℕ) (s : Session) (ok : legal image s ≡ true) (many : 
     where
       is : entry_next a q c ≡ restamped (entry_at s.table i) (entry_next a q c).count (entry_next a q c).flags
       is = next-restamped q c a ∙ ap (λ (d : Entry). restamped d (entry_next a q c).count (entry_next a q c).flags) its.entry
-
-      same : sectors_taken (entry_next a q c) ≡ sectors_taken (entry_at s.table i)
-      same = taken-same (entry_next a q c) (entry_at s.table i) (ap (λ (d : Entry). d.kind) is) (ap (λ (d : Entry). d.sectors) is)
 
       good : table_good (sectors_of image) (set s.table i (entry_next a q c)) ≡ true
       good =

@@ -21,7 +21,7 @@ use Rattle.sessions.specs.Session.{idle, is_of, file_of, extent, legal}
 use Rattle.sessions.proofs.Legal.{lawful-length, good-table}
 use Rattle.sessions.proofs.Distinct.{file-idle}
 use Rattle.mounting.proofs.Mounted.{start-legal}
-use Rattle.mounting.specs.Mounting.{count_decodes, mounts, start_with, mounted_saying, plain_mount}
+use Rattle.mounting.specs.Mounting.{count_decodes, mounts, start_with, plain_mount}
 use Rattle.steps.proofs.Inside.{lawful}
 use Rattle.steps.proofs.Lawful.{Lawful}
 use Rattle.tapes.specs.Tape.{tape_of}
@@ -31,14 +31,13 @@ use Rattle.serving.proofs.Solo.{shows, Sound}
 use Rattle.serving.proofs.View.{shows_at, view, length-view, view-at, open_at}
 use Rattle.serving.proofs.Lifting.{Stands}
 use Rattle.directory.specs.declared.Entry.{Entry}
-use Rattle.sessions.specs.declared.Saying.{Saying}
 use Rattle.sessions.specs.declared.Session.{Session}
 
 -- ---- a session with nothing open
 
-pub nothing-open : (says : Saying) (table : List Entry) (i : ℕ) → file_of (start_with says table).files i ≡ idle
+pub nothing-open : (table : List Entry) (i : ℕ) → file_of (start_with false table).files i ≡ idle
 unfolding file_of first_with is_of start_with
-nothing-open says table i = refl
+nothing-open table i = refl
 
 -- a used entry whose counted records decode is sound where its file is not open
 pub idle-sound : (image : List ℕ) (e : Entry) → lawful_length image ≡ true → Lies (sectors_of image) e → Lawful e idle → count_decodes image e ≡ true → Sound e idle (extent e image)
@@ -80,7 +79,7 @@ idle-view image s t f =
 
 module _ (image : List ℕ) (ok : mounts image ≡ true) where
   abbrev s : Session
-  s = start_with (mounted_saying image) (table_of image)
+  s = start_with false (table_of image)
 
   m-length : lawful_length image ≡ true
   unfolding mounts
@@ -101,14 +100,14 @@ module _ (image : List ℕ) (ok : mounts image ≡ true) where
   mounted-session = rw (ok, plain_mount)
 
   legal-start : legal image s ≡ true
-  legal-start = start-legal image (table_of image) (mounted_saying image) refl refl m-length m-table
+  legal-start = start-legal image (table_of image) m-length m-table
 
   sound-start : (i : ℕ) → is_free (entry_at (table_of image) i) ≡ false → Sound (entry_at (table_of image) i) idle (extent (entry_at (table_of image) i) image)
   unfolding start_with
   sound-start i u =
       idle-sound image (entry_at (table_of image) i) m-length
       (lies (sectors_of image) (table_of image) m-table i (eqb-false (entry_at (table_of image) i).kind free u))
-      (rw (nothing-open (mounted_saying image) (table_of image) i) at (lawful image s legal-start i u)) (m-decodes i)
+      (rw (nothing-open (table_of image) i) at (lawful image s legal-start i u)) (m-decodes i)
 
   pub mounted-stands : Stands image s
   unfolding start_with
@@ -117,13 +116,13 @@ module _ (image : List ℕ) (ok : mounts image ≡ true) where
     said = refl;
     many = length-table image;
     four = refl;
-    sound = λ i u. rw (nothing-open (mounted_saying image) (table_of image) i) (sound-start i u);
+    sound = λ i u. rw (nothing-open (table_of image) i) (sound-start i u);
     alike = λ i. refl;
     stored = λ i h. refl;
   }
 
   pub mounted-view : view image s ≡ models_of image
-  mounted-view = sym (idle-view image s (unfold start_with in refl) (nothing-open (mounted_saying image) (table_of image)))
+  mounted-view = sym (idle-view image s (unfold start_with in refl) (nothing-open (table_of image)))
 
 -- ---- mounting afresh
 

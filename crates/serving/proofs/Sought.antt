@@ -16,8 +16,7 @@ use Rattle.names.specs.Names.{is_name}
 use Rattle.directory.specs.Entries.{entry_at, free_entry, is_free, is_kind}
 use Rattle.directory.specs.Search.{matches}
 use Rattle.directory.proofs.Table.{get_d_any}
-use Rattle.directory.specs.Sectors.{used_by, is_taken}
-use Rattle.gaps.specs.Gaps.{lowest_free, lowest_gap}
+use Rattle.gaps.specs.Gaps.{lowest_free, used_by, is_taken, lowest_gap}
 use Rattle.shapes.specs.Made.{is_named}
 use Rattle.gaps.proofs.Gaps.{gap_same}
 use Rattle.requests.specs.Judge.{judge_edit}

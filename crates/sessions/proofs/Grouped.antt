@@ -1,4 +1,4 @@
--- The rules of a session are those of the image and the table, those of each open file, those of every two and those of what it says of itself: a rule of both sorts holds where each of its parts does, and four states are never more than four open files.
+-- The rules of a session are those of the image and the table, those of each open file, those of every two and that of what it says of itself: a rule of both sorts holds where each of its parts does, and four states are never more than four open files.
 use mathlib.Core.Path.{◌≡◌, refl, sym, ap, ◌∙◌}
 use mathlib.Core.Bool.{Bool, true, false, ◌&&◌, not, and-true, and-false, and_assoc}
 use mathlib.Core.List.{List}
@@ -12,7 +12,7 @@ use Rattle.geometry.specs.Sizes.{entries, most_open, sectors_of, lawful_length}
 use Rattle.geometry.proofs.Tests.{every-and, every-from, many-most}
 use Rattle.directory.specs.Entries.{entry_at, is_free}
 use Rattle.directory.specs.Rules.{table_good}
-use Rattle.sessions.specs.Session.{idle, is_of, open_files, of_used_entry, of_other, position_good, beyond_good, places_good, saying_good, figure_good, session_rules, legal, held_good}
+use Rattle.sessions.specs.Session.{idle, is_of, open_files, of_used_entry, of_other, position_good, beyond_good, places_good, saying_good, session_rules, legal, held_good}
 use Rattle.sessions.specs.Grouped.{file_good, files_good, open_good, hold_good}
 use Rattle.directory.specs.declared.Entry.{Entry}
 use Rattle.sessions.specs.declared.BufferedFile.{BufferedFile}
@@ -20,17 +20,17 @@ use Rattle.sessions.specs.declared.OpenFile.{OpenFile}
 use Rattle.sessions.specs.declared.Session.{Session}
 
 -- document 01 has the rule of two files, d, among those of one
-order : (a b n c d e f g h k : Bool)
-    → (a && (b && (n && (c && (d && (e && (f && (g && (h && (k && true)))))))))) ≡ (a && (b && ((n && ((c && (e && (f && g))) && d)) && (h && k))))
-order false b n c d e f g h k = refl
-order true false n c d e f g h k = refl
-order true true false c d e f g h k = refl
-order true true true false d e f g h k = refl
-order true true true true false e f g h k = sym (ap (λ (x : Bool). x && (h && k)) (and-false (e && (f && g))))
-order true true true true true false f g h k = refl
-order true true true true true true false g h k = refl
-order true true true true true true true false h k = refl
-order true true true true true true true true h k = ap (λ (x : Bool). h && x) (and-true k)
+order : (a b n c d e f g h : Bool)
+    → (a && (b && (n && (c && (d && (e && (f && (g && (h && true))))))))) ≡ (a && (b && ((n && ((c && (e && (f && g))) && d)) && h)))
+order false b n c d e f g h = refl
+order true false n c d e f g h = refl
+order true true false c d e f g h = refl
+order true true true false d e f g h = refl
+order true true true true false e f g h = sym (ap (λ (x : Bool). x && h) (and-false (e && (f && g))))
+order true true true true true false f g h = refl
+order true true true true true true false g h = refl
+order true true true true true true true false h = refl
+order true true true true true true true true h = and-true h
 
 module _ (table : List Entry) (files : List OpenFile) where
   of_one : every (file_good table) files
@@ -40,11 +40,11 @@ module _ (table : List Entry) (files : List OpenFile) where
       every-and (of_used_entry table) (λ f. position_good table f && (beyond_good table f && places_good table f)) files
       ∙ rw (every-and (position_good table) (λ f. beyond_good table f && places_good table f) files, every-and (beyond_good table) (places_good table) files)
 
-pub grouped : (image : List ℕ) (s : Session) → legal image s ≡ (lawful_length image && (table_good (sectors_of image) s.table && (files_good s.table s.files && (saying_good s && figure_good image s))))
+pub grouped : (image : List ℕ) (s : Session) → legal image s ≡ (lawful_length image && (table_good (sectors_of image) s.table && (files_good s.table s.files && saying_good s)))
 unfolding legal session_rules all files_good
 grouped image s =
     rw (of_one s.table s.files)
-    (order (lawful_length image) (table_good (sectors_of image) s.table) (leb (open_files s.files) most_open) (every (of_used_entry s.table) s.files) (pairwise of_other s.files) (every (position_good s.table) s.files) (every (beyond_good s.table) s.files) (every (places_good s.table) s.files) (saying_good s) (figure_good image s))
+    (order (lawful_length image) (table_good (sectors_of image) s.table) (leb (open_files s.files) most_open) (every (of_used_entry s.table) s.files) (pairwise of_other s.files) (every (position_good s.table) s.files) (every (beyond_good s.table) s.files) (every (places_good s.table) s.files) (saying_good s))
 
 pub files-grouped : (table : List Entry) (files : List OpenFile) → length files ≤ most_open → files_good table files ≡ (every (file_good table) files && pairwise of_other files)
 unfolding files_good open_files

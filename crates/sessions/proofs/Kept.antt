@@ -15,17 +15,14 @@ use Rattle.geometry.specs.Sizes.{entries, compressed, most_open, sectors_of, law
 use Rattle.geometry.proofs.Tests.{either, both_ways, and_left, and_right, and_both, every-from, every-alike, many-most}
 use Rattle.directory.specs.Entries.{entry_at, free_entry, is_free, is_kind, is_marked}
 use Rattle.directory.specs.Rules.{table_good}
-use Rattle.directory.specs.Sectors.{sectors_taken, free_sectors}
-use Rattle.directory.proofs.Sectors.{free-same}
-use Rattle.sessions.specs.Session.{idle, is_of, file_of, slot_of, open_files, of_used_entry, of_other, position_good, beyond_good, place_good, places_good, saying_good, figure_good, session_rules, legal}
+use Rattle.sessions.specs.Session.{idle, is_of, file_of, slot_of, open_files, of_used_entry, of_other, position_good, beyond_good, place_good, places_good, saying_good, session_rules, legal}
 use Rattle.sessions.specs.Grouped.{file_good, files_good}
 use Rattle.sessions.proofs.Files.{is-of}
 use Rattle.sessions.proofs.Grouped.{grouped, file-unused}
-use Rattle.sessions.proofs.Legal.{lawful-length, honest, figure-right, entry-inside, entry-used, position-most, beyond-marked, places-inside}
+use Rattle.sessions.proofs.Legal.{lawful-length, honest, entry-inside, entry-used, position-most, beyond-marked, places-inside}
 use Rattle.sessions.proofs.Distinct.{distinct, distinct-rule, distinct-set, only-slot, file-not}
 use Rattle.directory.specs.declared.Entry.{Entry}
 use Rattle.sessions.specs.declared.OpenFile.{OpenFile}
-use Rattle.sessions.specs.declared.Saying.{Saying}
 use Rattle.sessions.specs.declared.Session.{Session}
 
 -- what the rules ask of a state that is used, and of its entry
@@ -75,9 +72,9 @@ module _ (image : List ℕ) (s : Session) (ok : legal image s ≡ true) (four : 
   abbrev files' : List OpenFile
   files' = set s.files k f
 
-  pub legal-set : table_good (sectors_of image) table' ≡ true → sectors_taken e ≡ sectors_taken (entry_at s.table i) → (f.used ≡ true → Keeps e f) → legal image (record { says = s.says; table = table'; files = files' }) ≡ true
-  unfolding legal session_rules all open_files saying_good figure_good
-  legal-set good taken keeps =
+  pub legal-set : table_good (sectors_of image) table' ≡ true → (f.used ≡ true → Keeps e f) → legal image (record { says = s.says; table = table'; files = files' }) ≡ true
+  unfolding legal session_rules all open_files saying_good
+  legal-set good keeps =
       rw (
         lawful-length image s ok,
         good,
@@ -88,7 +85,6 @@ module _ (image : List ℕ) (s : Session) (ok : legal image s ≡ true) (four : 
         every-state (beyond_good table') (beyond-rule table'),
         every-state (places_good table') (places-rule table'),
         honest image s ok i real,
-        eq-eqb s.says.free (free_sectors (sectors_of image) table') (figure-right image s ok ∙ sym (free-same (sectors_of image) s.table i e taken)),
       )
     where
       new : f.used ≡ true → (f.entry < entries) × Keeps (entry_at table' f.entry) f
@@ -129,9 +125,9 @@ one_kept t n e f h = either f.used
     (λ (u : f.used ≡ true). rw (get_or-set_other t n f.entry e free_entry (λ (z : f.entry ≡ n). both_ways (is_of n f) (is-of n f u z) h)))
     (λ (u : f.used ≡ false). file-unused (set t n e) f u ∙ sym (file-unused t f u))
 
-module _ (image : List ℕ) (s : Session) (ok : legal image s ≡ true) (n : ℕ) (shut : (file_of s.files n).used ≡ false) (says : Saying) (e : Entry) where
+module _ (image : List ℕ) (s : Session) (ok : legal image s ≡ true) (n : ℕ) (shut : (file_of s.files n).used ≡ false) (e : Entry) where
   abbrev edited : Session
-  edited = record { says = says; table = set s.table n e; files = s.files }
+  edited = record { says = s.says; table = set s.table n e; files = s.files }
 
   files-kept : files_good (set s.table n e) s.files ≡ true
   unfolding files_good
@@ -139,9 +135,6 @@ module _ (image : List ℕ) (s : Session) (ok : legal image s ≡ true) (n : ℕ
       ap (λ (b : Bool). leb (open_files s.files) most_open && (b && pairwise of_other s.files)) (every-alike (file_good (set s.table n e)) (file_good s.table) s.files idle (λ m l. one_kept s.table n e (get_or s.files m idle) (file-not s.files n shut m)))
       ∙ and_left (files_good s.table s.files) _ (and_right (table_good (sectors_of image) s.table) _ (and_right (lawful_length image) _ (sym (grouped image s) ∙ ok)))
 
-  -- where it does not say that it is from a refused mounting, and the figure is right again
-  pub legal-elsewhere : says.refused ≡ false → says.free ≡ free_sectors (sectors_of image) (set s.table n e) → table_good (sectors_of image) (set s.table n e) ≡ true
-      → legal image (record { says = says; table = set s.table n e; files = s.files }) ≡ true
-  unfolding saying_good figure_good
-  legal-elsewhere honest right good =
-      grouped image edited ∙ rw (lawful-length image s ok, good, files-kept, honest, eq-eqb says.free (free_sectors (sectors_of image) (set s.table n e)) right)
+  pub legal-elsewhere : s.says.refused ≡ false → table_good (sectors_of image) (set s.table n e) ≡ true → legal image (record { says = s.says; table = set s.table n e; files = s.files }) ≡ true
+  unfolding saying_good
+  legal-elsewhere honest good = grouped image edited ∙ rw (lawful-length image s ok, good, files-kept, honest)

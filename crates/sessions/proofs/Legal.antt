@@ -13,8 +13,7 @@ use Rattle.geometry.specs.Sizes.{sector, entries, compressed, sectors_of, lawful
 use Rattle.geometry.proofs.Tests.{and_left, and_right, all_get_d, every_any, pairwise-get_or, both_ways, either}
 use Rattle.directory.specs.Entries.{entry_at, free_entry, is_free, is_kind, is_marked}
 use Rattle.directory.specs.Rules.{table_good}
-use Rattle.directory.specs.Sectors.{free_sectors}
-use Rattle.sessions.specs.Session.{idle, is_of, open_files, saying_good, figure_good, of_used_entry, of_other, position_good, beyond_good, places_good, place_good, session_rules, legal, fresh, bare, held_good, buffered_legal}
+use Rattle.sessions.specs.Session.{idle, is_of, open_files, saying_good, of_used_entry, of_other, position_good, beyond_good, places_good, place_good, session_rules, legal, fresh, bare, held_good, buffered_legal}
 use Rattle.sessions.proofs.Files.{is-of}
 use Rattle.directory.specs.declared.Entry.{Entry}
 use Rattle.sessions.specs.declared.BufferedFile.{BufferedFile}
@@ -49,11 +48,6 @@ module _ (image : List ℕ) (s : Session) (ok : legal image s ≡ true) where
       let h : (every is_free s.table && eqb (open_files s.files) 0) ≡ true = implied s.says.refused _ (rule 8) r in
       both_ways (is_free (entry_at s.table i)) (every_any is_free s.table i free_entry (and_left (every is_free s.table) _ h) refl) u)
       (λ r. r)
-
-  -- document 02, item 5: the stored figure is right
-  pub figure-right : s.says.free ≡ free_sectors (sectors_of image) s.table
-  unfolding session_rules figure_good
-  figure-right = eqb-true s.says.free (free_sectors (sectors_of image) s.table) (rule 9)
 
   -- the state of number k
   module _ (k : ℕ) (used : (get_or s.files k idle).used ≡ true) where
@@ -119,7 +113,7 @@ module _ (image : List ℕ) (s : Session) (ok : legal image s ≡ true) where
 
 -- an image is looked at for its length alone
 pub legal-length : (a b : List ℕ) (s : Session) → length a ≡ length b → legal a s ≡ legal b s
-unfolding legal session_rules figure_good lawful_length sectors_of
+unfolding legal session_rules lawful_length sectors_of
 legal-length a b s e = rw e
 
 -- ---- and of a buffered one

@@ -1,4 +1,4 @@
--- Document 01, "Answer numbers", last paragraph, and document 02, items 1 and 5: sessions, and when one is legal for an image. Definitions only.
+-- Document 01, "Answer numbers", last paragraph, and document 02, item 1: sessions, and when one is legal for an image. Definitions only.
 use Rattle.std.specs.Prelude.{Bool, true, false, ◌&&◌, ◌||◌, not, List, [], ◌∷◌, map, ℕ, ◌*◌, length, get_or, replicate, eqb, leb, ltb}
 use Rattle.geometry.specs.Bytes.{part, lay}
 use Rattle.geometry.specs.Lists.{all, every, pairwise, first_with, how_many}
@@ -6,7 +6,6 @@ use Rattle.geometry.specs.Places.{origin}
 use Rattle.geometry.specs.Sizes.{sector, entries, blocked, compressed, most_open, sectors_of, lawful_length}
 use Rattle.directory.specs.Entries.{entry_at, is_free, is_kind, is_marked}
 use Rattle.directory.specs.Rules.{table_good}
-use Rattle.directory.specs.Sectors.{free_sectors}
 use Rattle.geometry.specs.declared.Place.{Place}
 use Rattle.directory.specs.declared.Entry.{Entry}
 use Rattle.sessions.specs.declared.BufferedFile.{BufferedFile}
@@ -115,10 +114,6 @@ held_good table b = not (b.file.used && b.holds) || ltb b.held (entry_at table b
 unfoldable pub saying_good : Session → Bool
 saying_good s = not s.says.refused || (every is_free s.table && eqb (open_files s.files) 0)
 
--- item 5: "a session whose stored figure differs is not legal"; the figure "is N − 1 less the sectors of all used entries"
-unfoldable pub figure_good : List ℕ → Session → Bool
-figure_good image s = eqb s.says.free (free_sectors (sectors_of image) s.table)
-
 unfoldable pub session_rules : List ℕ → Session → List Bool
 session_rules image s =
     lawful_length image
@@ -130,7 +125,6 @@ session_rules image s =
     ∷ every (beyond_good s.table) s.files
     ∷ every (places_good s.table) s.files
     ∷ saying_good s
-    ∷ figure_good image s
     ∷ []
 
 unfoldable pub legal : List ℕ → Session → Bool

@@ -1,5 +1,5 @@
 // Sessions of both engines, and the rules of an open file in a legal one: document 01's "Answer numbers", last paragraph,
-// and document 02's items 1 and 5.
+// and document 02's item 1.
 ghost use Rattle.std.specs.Prelude.{◌≡◌};
 ghost use Rattle.sessions.specs.Session.{idle, fresh, stand, place_good};
 ghost use Rattle.sessions.specs.Grouped.{open_good, hold_good};
@@ -40,7 +40,6 @@ pub struct Holding {
 #[derive(Drop)]
 pub struct Saying {
     pub refused: bool, // it is from a refused mounting
-    pub free: u16, // the free sectors
 }
 
 // A session of the engine with no buffer. In memory a session stands in lent bytes (storing); this is what they are read as.

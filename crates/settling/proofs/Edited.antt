@@ -21,7 +21,7 @@ use Rattle.sessions.specs.Session.{is_of, fresh, idle, bare, held_good, legal, b
 use Rattle.sessions.proofs.Files.{is-of}
 use Rattle.sessions.proofs.Distinct.{file-not}
 use Rattle.sessions.proofs.Legal.{lawful-length, bare-legal, all_held}
-use Rattle.steps.specs.Edit.{Edited, edited_number, edited_entry, edited_saying, told_by, image_edited, table_edited, says_edited, edit_answer_by, edit_by, plain_edit_answer, plain_edit, buffered_edit_answer, buffered_edit}
+use Rattle.steps.specs.Edit.{Edited, edited_number, edited_entry, told_by, image_edited, table_edited, edit_answer_by, edit_by, plain_edit_answer, plain_edit, buffered_edit_answer, buffered_edit}
 use Rattle.steps.specs.Effects.{sector_at}
 use Rattle.steps.specs.Step.{held_of}
 use Rattle.steps.proofs.Laid.{length-laid, laid-outside}
@@ -36,7 +36,6 @@ use Rattle.requests.specs.declared.Answer.TheVariants.{Done, Met, Refused}
 use Rattle.requests.specs.declared.Edit.{Edit}
 use Rattle.sessions.specs.declared.BufferedFile.{BufferedFile}
 use Rattle.sessions.specs.declared.BufferedSession.{BufferedSession}
-use Rattle.sessions.specs.declared.Saying.{Saying}
 use Rattle.sessions.specs.declared.Session.{Session}
 
 -- what the two engines make of one edit: the same answer and number told, and image and session that the settled ones are; what is kept stays so
@@ -63,23 +62,23 @@ module _ (table : List Entry) (n : ℕ) (e : Entry) (b : BufferedFile) (other : 
   unfolding held_good
   good-stays = either b.file.used (λ (u : b.file.used ≡ true). rw (entry-stays u)) (λ (u : b.file.used ≡ false). rw u)
 
-module _ (image : List ℕ) (s : BufferedSession) (ok : buffered_legal image s ≡ true) (says : Saying) (n : ℕ) (e : Entry) (z : Edits (sectors_of image) (bare s) says n e) where
+module _ (image : List ℕ) (s : BufferedSession) (ok : buffered_legal image s ≡ true) (n : ℕ) (e : Entry) (z : Edits (sectors_of image) (bare s) n e) where
   -- no state in use is of it
   other : (j : ℕ) → (held_at s j).file.used ≡ true → ¬ ((held_at s j).file.entry ≡ n)
   other j u q = both_ways (is_of n (held_at s j).file) (is-of n (held_at s j).file u q) (ap (is_of n) (sym (bare-at s j)) ∙ file-not (bare s).files n z.shut j)
 
-  pub entry-legal : buffered_legal (lay_entry one_word_wide entries image n e) (record { says = says; table = set s.table n e; files = s.files }) ≡ true
+  pub entry-legal : buffered_legal (lay_entry one_word_wide entries image n e) (record { says = s.says; table = set s.table n e; files = s.files }) ≡ true
   unfolding buffered_legal bare
   entry-legal =
-      and_both _ (every (held_good (set s.table n e)) s.files) (legal-edited image (lay_entry one_word_wide entries image n e) (bare s) says n e (bare-legal image s ok) z (length-laid image n e))
+      and_both _ (every (held_good (set s.table n e)) s.files) (legal-edited image (lay_entry one_word_wide entries image n e) (bare s) n e (bare-legal image s ok) z (length-laid image n e))
       (every-alike (held_good (set s.table n e)) (held_good s.table) s.files (fresh idle) (λ j q. good-stays s.table n e (held_at s j) (other j)) ∙ all_held image s ok)
 
-module _ (image : List ℕ) (s : BufferedSession) (ok : Kept image s) (says : Saying) (n : ℕ) (e : Entry) (z : Edits (sectors_of image) (bare s) says n e) where
+module _ (image : List ℕ) (s : BufferedSession) (ok : Kept image s) (n : ℕ) (e : Entry) (z : Edits (sectors_of image) (bare s) n e) where
   abbrev laid : List ℕ → List ℕ
   laid b = lay_entry one_word_wide entries b n e
 
   abbrev next : BufferedSession
-  next = record { says = says; table = set s.table n e; files = s.files }
+  next = record { says = s.says; table = set s.table n e; files = s.files }
 
   plain-legal : legal image (bare s) ≡ true
   plain-legal = bare-legal image s ok.is_legal
@@ -94,7 +93,7 @@ module _ (image : List ℕ) (s : BufferedSession) (ok : Kept image s) (says : Sa
   same-holds : holds next ≡ holds s
   same-holds =
       ext_get_or empty (holds next) (holds s) (length-map s.files (hold_of next.table) ∙ sym (length-map s.files (hold_of s.table)))
-      λ j l. hold_at_lem next j ∙ hold-stays s.table n e (held_at s j) (other image s ok.is_legal says n e z j) ∙ sym (hold_at_lem s j)
+      λ j l. hold_at_lem next j ∙ hold-stays s.table n e (held_at s j) (other image s ok.is_legal n e z j) ∙ sym (hold_at_lem s j)
 
   settle-laid : settle (laid image) next ≡ laid (settle image s)
   unfolding settle
@@ -108,21 +107,20 @@ module _ (image : List ℕ) (s : BufferedSession) (ok : Kept image s) (says : Sa
   laid-step : (j : ℕ) → InStep (laid image) next.table (held_at s j)
   laid-step j u h c =
       let x : Entry = entry_at s.table (held_at s j).file.entry in
-      let q : entry_at next.table (held_at s j).file.entry ≡ x = entry-stays s.table n e (held_at s j) (other image s ok.is_legal says n e z j) u in
+      let q : entry_at next.table (held_at s j).file.entry ≡ x = entry-stays s.table n e (held_at s j) (other image s ok.is_legal n e z j) u in
       let a : ℕ = sector_at x (held_at s j).held in
       ok.in_step j u (rw q at h) c
       ∙ sym (outside-part (laid image) image (one_word_wide * n) one_word_wide a sector (laid-outside image n e z.eight) (omega (arith, z.inside, (entry-room image s ok (held_at s j).file.entry (used-entry image s ok j u).1).0)))
       ∙ ap (λ (y : Entry). part (laid image) (sector_at y (held_at s j).held) sector) (sym q)
 
   laid_kept : Kept (laid image) next
-  laid_kept = record { is_legal = entry-legal image s ok.is_legal says n e z; is_typed = typed-entry s ok.is_typed says n e z.eight; in_step = laid-step }
+  laid_kept = record { is_legal = entry-legal image s ok.is_legal n e z; is_typed = typed-entry s ok.is_typed n e z.eight; in_step = laid-step }
 
 -- ---- an edit, whatever is asked
 
 -- one that is answered 0
 pub buffered-edits : (image : List ℕ) (s : BufferedSession) → buffered_legal image s ≡ true → typed s ≡ true → (i : ℕ) (x : Edit) (name : List ℕ)
-    → buffered_edit_answer image s i x name ≡ Done
-    → Edits (sectors_of image) (bare s) (edited_saying x s.says (entry_at s.table (edited_number x s.table i))) (edited_number x s.table i) (edited_entry x (sectors_of image) s.table name)
+    → buffered_edit_answer image s i x name ≡ Done → Edits (sectors_of image) (bare s) (edited_number x s.table i) (edited_entry x (sectors_of image) s.table name)
 unfolding bare
 buffered-edits image s ok types i x name d = edits-done image (bare s) (bare-legal image s ok) (table-length s types) (buffered_legal image s) i x name d
 
@@ -141,20 +139,17 @@ module _ (image : List ℕ) (s : BufferedSession) (ok : Kept image s) (i : ℕ) 
   abbrev e : Entry
   e = edited_entry x (sectors_of image) s.table name
 
-  abbrev then : Saying
-  then = edited_saying x s.says (entry_at s.table n)
-
-  found : buffered_edit_answer image s i x name ≡ Done → Edits (sectors_of image) (bare s) then n e
+  found : buffered_edit_answer image s i x name ≡ Done → Edits (sectors_of image) (bare s) n e
   found d = buffered-edits image s ok.is_legal ok.is_typed i x name d
 
   -- an edit answered 0; any other changes nothing
   answer-agrees : (a : Answer) → buffered_edit_answer image s i x name ≡ a
       → EditAgrees
-      (record { answer = a; told = told_by a x n; image = image_edited a image n e; session = record { says = says_edited a s.says x (entry_at s.table n); table = table_edited a s.table n e; files = s.files } })
-      (record { answer = a; told = told_by a x n; image = image_edited a (settle image s) n e; session = record { says = says_edited a s.says x (entry_at s.table n); table = table_edited a s.table n e; files = (bare s).files } })
-  unfolding told_by image_edited table_edited says_edited bare
+      (record { answer = a; told = told_by a x n; image = image_edited a image n e; session = record { says = s.says; table = table_edited a s.table n e; files = s.files } })
+      (record { answer = a; told = told_by a x n; image = image_edited a (settle image s) n e; session = record { says = s.says; table = table_edited a s.table n e; files = (bare s).files } })
+  unfolding told_by image_edited table_edited bare
   answer-agrees Done d =
-      record { answer = refl; told = refl; image = settle-laid image s ok then n e (found d); session = refl; stays = laid_kept image s ok then n e (found d) }
+      record { answer = refl; told = refl; image = settle-laid image s ok n e (found d); session = refl; stays = laid_kept image s ok n e (found d) }
   answer-agrees (Met y) d = record { answer = refl; told = refl; image = refl; session = refl; stays = ok }
   answer-agrees (Refused y) d = record { answer = refl; told = refl; image = refl; session = refl; stays = ok }
 

@@ -28,7 +28,6 @@ use Rattle.directory.specs.declared.Entry.{Entry}
 use Rattle.sessions.specs.declared.BufferedFile.{BufferedFile}
 use Rattle.sessions.specs.declared.BufferedSession.{BufferedSession}
 use Rattle.sessions.specs.declared.OpenFile.{OpenFile}
-use Rattle.sessions.specs.declared.Saying.{Saying}
 
 -- a buffer that is not changed equals its sector
 abbrev pub InStep : List ℕ → List Entry → BufferedFile → Type 0
@@ -67,10 +66,10 @@ module _ (s : BufferedSession) (t : typed s ≡ true) where
   name-length : (i : ℕ) → length (entry_at s.table i).name ≡ 8
   name-length i = eqb-true (length (entry_at s.table i).name) 8 (every_any (λ e. eqb (length e.name) 8) s.table i free_entry names-eight refl)
 
-  -- another entry with a name of 8 bytes; what it says of itself is no matter
-  pub typed-entry : (says : Saying) (i : ℕ) (a : Entry) → length a.name ≡ 8 → typed (record { says = says; table = set s.table i a; files = s.files }) ≡ true
+  -- another entry with a name of 8 bytes
+  pub typed-entry : (i : ℕ) (a : Entry) → length a.name ≡ 8 → typed (record { says = s.says; table = set s.table i a; files = s.files }) ≡ true
   unfolding typed
-  typed-entry says i a n =
+  typed-entry i a n =
       and_both _ _ (eq-eqb (length (set s.table i a)) entries (length-set s.table i a ∙ table-length))
       (and_both _ _ (every_set (λ e. eqb (length e.name) 8) s.table i a names-eight (eq-eqb (length a.name) 8 n)) rest)
 
@@ -86,7 +85,7 @@ module _ (s : BufferedSession) (t : typed s ≡ true) where
 -- another entry of the same name, and another state with a buffer
 pub typed-set : (s : BufferedSession) → typed s ≡ true → (i : ℕ) (a : Entry) (k : ℕ) (b : BufferedFile) → a.name ≡ (entry_at s.table i).name → length b.buffer ≡ sector
     → typed (record { says = s.says; table = set s.table i a; files = set s.files k b }) ≡ true
-typed-set s t i a k b n l = typed-file (record { says = s.says; table = set s.table i a; files = s.files }) (typed-entry s t s.says i a (ap length n ∙ name-length s t i)) k b l
+typed-set s t i a k b n l = typed-file (record { says = s.says; table = set s.table i a; files = s.files }) (typed-entry s t i a (ap length n ∙ name-length s t i)) k b l
 
 -- ---- the states, bare and with what they hold
 

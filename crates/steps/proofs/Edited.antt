@@ -1,10 +1,10 @@
--- An edit that is answered 0 leaves a legal session: the tests that it passed say that the new entry keeps the rules of one entry and of two, no open file is of
--- it, and the figure is less by the sectors of a file that is added, or more by those of one that is deleted. It lays the bytes of that entry, and no other byte of the image.
+-- An edit that is answered 0 leaves a legal session: the tests that it passed say that the new entry keeps the rules of one entry and of two, and no open file is
+-- of it. It lays the bytes of that entry, and no other byte of the image.
 use mathlib.Core.Path.{◌≡◌, refl, sym, ap, ◌∙◌}
 use mathlib.Core.Logic.{◌≢◌}
 use mathlib.Core.Bool.{Bool, true, false, ◌&&◌, ◌||◌, not, or-true}
 use mathlib.Core.List.{List, [], ◌∷◌}
-use Prim.Native.Nat.{ℕ, ◌+◌, ◌-◌, ◌*◌, ◌≤◌, ◌<◌}
+use Prim.Native.Nat.{ℕ, ◌+◌, ◌*◌, ◌≤◌, ◌<◌}
 use native.Mathlib.Omega.{arith}
 use lib.Dec.{eqb, leb}
 use lib.ListN.{length, set}
@@ -25,27 +25,23 @@ use Rattle.directory.proofs.Free.{zero-good}
 use Rattle.directory.proofs.Good.{Lies, lies, used-inside}
 use Rattle.directory.proofs.Grouped.{grouped, used-good, two-free, free-apart}
 use Rattle.tables.specs.Tables.{one_word_wide, lay_entry}
-use Rattle.directory.specs.Sectors.{is_taken, free_sectors}
-use Rattle.directory.proofs.Sectors.{free-less}
-use Rattle.directory.proofs.Counted.{free_more}
-use Rattle.gaps.specs.Gaps.{lowest_free, stands_free, lowest_gap}
+use Rattle.gaps.specs.Gaps.{lowest_free, is_taken, stands_free, lowest_gap}
 use Rattle.shapes.specs.Made.{is_named, shape_good, file_made}
 use Rattle.gaps.proofs.Gaps.{stands-inside, gap-stands, free-lowest}
 use Rattle.gaps.proofs.Taken.{pairwise-set, gap-extents, gap-extents-back, good-sectors}
 use Rattle.requests.proofs.Edits.{Adds, Deletes, done-edits, never_met}
 use Rattle.sessions.specs.Session.{file_of, legal}
-use Rattle.sessions.proofs.Legal.{good-table, honest, figure-right, legal-length}
+use Rattle.sessions.proofs.Legal.{good-table, honest, legal-length}
 use Rattle.sessions.proofs.Distinct.{free-shut}
 use Rattle.sessions.proofs.Kept.{legal-elsewhere}
 use Rattle.steps.proofs.Laid.{laid-outside}
-use Rattle.steps.specs.Edit.{is_taken_name, edit_facts, edited_number, edited_entry, edited_saying, told_of, told_by, image_edited, table_edited, says_edited, Edited, edit_answer_by, edit_by}
+use Rattle.steps.specs.Edit.{is_taken_name, edit_facts, edited_number, edited_entry, told_of, told_by, image_edited, table_edited, Edited, edit_answer_by, edit_by}
 use Rattle.directory.specs.declared.Entry.{Entry}
 use Rattle.requests.specs.declared.Answer.{Answer}
 use Rattle.requests.specs.declared.Answer.TheVariants.{Done, Met, Refused}
 use Rattle.requests.specs.declared.Edit.{Edit}
 use Rattle.requests.specs.declared.Edit.TheVariants.{Add, Delete}
 use Rattle.requests.specs.declared.Refusal.{Refusal}
-use Rattle.sessions.specs.declared.Saying.{Saying}
 use Rattle.sessions.specs.declared.Session.{Session}
 
 -- ---- a good table with another entry
@@ -161,14 +157,13 @@ module _ (k l n : ℕ) (shaped : shape_good k l n ≡ true) where
 
 -- ---- what an edit that is answered 0 makes of entry n
 
-pub record Edits (N : ℕ) (s : Session) (says : Saying) (n : ℕ) (e : Entry) : Type 0 where
+pub record Edits (N : ℕ) (s : Session) (n : ℕ) (e : Entry) : Type 0 where
   pub inside : n < entries
   pub eight : length e.name ≡ 8
   pub none : e.count ≡ 0
   pub good : table_good N (set s.table n e) ≡ true
   pub shut : (file_of s.files n).used ≡ false
-  pub said : says.refused ≡ false
-  pub right : says.free ≡ free_sectors N (set s.table n e)
+  pub said : s.says.refused ≡ false
 
 -- and an ADD: a file of the directory, where there was none, in a gap
 pub record Added (N : ℕ) (t : List Entry) (n : ℕ) (e : Entry) : Type 0 where
@@ -216,8 +211,8 @@ module _ (image : List ℕ) (s : Session) (ok : legal image s ≡ true) (many : 
     unused : is_free (entry_at s.table (lowest_free s.table)) ≡ true
     unused = free-lowest s.table (omega (arith, lowest, many))
 
-    add-edits : Edits N s (edited_saying (Add k l n) s.says (entry_at s.table (lowest_free s.table))) (lowest_free s.table) new
-    unfolding file_made edit_facts edited_saying
+    add-edits : Edits N s (lowest_free s.table) new
+    unfolding file_made edit_facts
     add-edits = record {
       inside = lowest;
       eight = (name-added b N s i k l n name a).0;
@@ -225,9 +220,6 @@ module _ (image : List ℕ) (s : Session) (ok : legal image s ≡ true) (many : 
       good = good-added k l n shaped N s.table (good-table image s ok) (lowest_gap (is_taken s.table) N n) stands name (name-added b N s i k l n name a).0 (name-added b N s i k l n name a).1 a.untaken (lowest_free s.table);
       shut = free-shut image s ok (lowest_free s.table) unused;
       said = a.mounted;
-      right =
-          ap (λ (f : ℕ). f - n) (figure-right image s ok)
-          ∙ sym (free-less N s.table (lowest_free s.table) new (omega (arith, lowest, many)) unused (ne_eqb k 0 λ (z : k ≡ 0). omega (arith, shape-kind k l n shaped)));
     }
 
     add-added : Added N s.table (lowest_free s.table) new
@@ -245,8 +237,8 @@ module _ (image : List ℕ) (s : Session) (ok : legal image s ≡ true) (many : 
     unfolding edit_facts
     used = not-true (is_free (entry_at s.table i)) d.used
 
-    delete-edits : Edits N s (edited_saying Delete s.says (entry_at s.table i)) i free_entry
-    unfolding edit_facts edited_saying
+    delete-edits : Edits N s i free_entry
+    unfolding edit_facts
     delete-edits = record {
       inside = omega (arith, many, used-inside s.table i (eqb-false (entry_at s.table i).kind 0 used));
       eight = refl;
@@ -254,13 +246,9 @@ module _ (image : List ℕ) (s : Session) (ok : legal image s ≡ true) (many : 
       good = good-freed N s.table (good-table image s ok) i;
       shut = d.shut;
       said = honest image s ok i used;
-      right =
-          ap (λ (f : ℕ). f + (entry_at s.table i).sectors) (figure-right image s ok)
-          ∙ sym (free_more N s.table (good-table image s ok) i used);
     }
 
-  pub edits-done : (x : Edit) (name : List ℕ) → edit_answer_by b image s i x name ≡ Done
-      → Edits N s (edited_saying x s.says (entry_at s.table (edited_number x s.table i))) (edited_number x s.table i) (edited_entry x N s.table name)
+  pub edits-done : (x : Edit) (name : List ℕ) → edit_answer_by b image s i x name ≡ Done → Edits N s (edited_number x s.table i) (edited_entry x N s.table name)
   unfolding edit_answer_by edited_number edited_entry
   edits-done (Add k l n) name h = add-edits k l n name (done-edits (Add k l n) _ h)
   edits-done Delete name h = delete-edits name (done-edits Delete _ h)
@@ -272,14 +260,14 @@ module _ (image : List ℕ) (s : Session) (ok : legal image s ≡ true) (many : 
 
 -- ---- the session stays legal
 
-pub legal-edited : (image image' : List ℕ) (s : Session) (says : Saying) (n : ℕ) (e : Entry) → legal image s ≡ true → Edits (sectors_of image) s says n e → length image' ≡ length image
-    → legal image' (record { says = says; table = set s.table n e; files = s.files }) ≡ true
-legal-edited image image' s says n e ok h long =
-    legal-length image' image _ long ∙ legal-elsewhere image s ok n h.shut says e h.said h.right h.good
+pub legal-edited : (image image' : List ℕ) (s : Session) (n : ℕ) (e : Entry) → legal image s ≡ true → Edits (sectors_of image) s n e → length image' ≡ length image
+    → legal image' (record { says = s.says; table = set s.table n e; files = s.files }) ≡ true
+legal-edited image image' s n e ok h long =
+    legal-length image' image _ long ∙ legal-elsewhere image s ok n h.shut e h.said h.good
 
 -- ---- an edit, in either engine
 
-module _ {S : Type 0} (lawful : Bool) (saying : Saying → List Entry → S) (image : List ℕ) (s : Session) (i : ℕ) (x : Edit) (name : List ℕ) where
+module _ {S : Type 0} (lawful : Bool) (tabled : List Entry → S) (image : List ℕ) (s : Session) (i : ℕ) (x : Edit) (name : List ℕ) where
   abbrev n : ℕ
   n = edited_number x s.table i
 
@@ -289,20 +277,20 @@ module _ {S : Type 0} (lawful : Bool) (saying : Saying → List Entry → S) (im
   -- it is answered 0, and one entry is another; or it is refused, and nothing is
   pub edit-either : (P : Edited S → Type 0)
       → (edit_answer_by lawful image s i x name ≡ Done
-      → P (record { answer = Done; told = told_of x n; image = lay_entry one_word_wide entries image n e; session = saying (edited_saying x s.says (entry_at s.table n)) (set s.table n e) }))
-      → ((y : Refusal) → edit_answer_by lawful image s i x name ≡ Refused y → P (record { answer = Refused y; told = []; image = image; session = saying s.says s.table }))
-      → P (edit_by lawful saying image s i x name)
-  unfolding edit_by edit_answer_by told_by image_edited table_edited says_edited
+      → P (record { answer = Done; told = told_of x n; image = lay_entry one_word_wide entries image n e; session = tabled (set s.table n e) }))
+      → ((y : Refusal) → edit_answer_by lawful image s i x name ≡ Refused y → P (record { answer = Refused y; told = []; image = image; session = tabled s.table }))
+      → P (edit_by lawful tabled image s i x name)
+  unfolding edit_by edit_answer_by told_by image_edited table_edited
   edit-either P done refused = go (edit_answer_by lawful image s i x name) refl
     where
       go : (a : Answer) → edit_answer_by lawful image s i x name ≡ a
-          → P (record { answer = a; told = told_by a x n; image = image_edited a image n e; session = saying (says_edited a s.says x (entry_at s.table n)) (table_edited a s.table n e) })
+          → P (record { answer = a; told = told_by a x n; image = image_edited a image n e; session = tabled (table_edited a s.table n e) })
       go Done h = done h
       go (Met y) h = absurd (never_met x _ y h)
       go (Refused y) h = refused y h
 
   -- every byte but the 20 of its entry is as it was, and so is the length
-  pub outside-edit : Outside (edit_by lawful saying image s i x name).image image (20 * n) 20
+  pub outside-edit : Outside (edit_by lawful tabled image s i x name).image image (20 * n) 20
   outside-edit =
       edit-either (λ (r : Edited S). Outside r.image image (20 * n) 20)
       (λ h. laid-outside image n e (eight-done lawful image s i x name h))

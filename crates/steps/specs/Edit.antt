@@ -1,13 +1,12 @@
--- Document 02, items 1 and 5: the RAD Editor's ADD and DELETE in either engine: the answer, and image and session behind it. "Both change that one directory entry and no
+-- Document 02, item 1: the RAD Editor's ADD and DELETE in either engine: the answer, and image and session behind it. "Both change that one directory entry and no
 -- other byte." Definitions only.
-use Rattle.std.specs.Prelude.{Bool, false, not, List, [], ◌∷◌, ℕ, ◌+◌, ◌-◌, ltb, length, set}
+use Rattle.std.specs.Prelude.{Bool, false, not, List, [], ◌∷◌, ℕ, ltb, length, set}
 use Rattle.geometry.specs.Lists.{every}
 use Rattle.geometry.specs.Sizes.{entries, sectors_of}
 use Rattle.directory.specs.Entries.{entry_at, free_entry, is_free}
 use Rattle.directory.specs.Search.{matches}
 use Rattle.tables.specs.Tables.{one_word_wide, lay_entry}
-use Rattle.directory.specs.Sectors.{is_taken}
-use Rattle.gaps.specs.Gaps.{lowest_free, lowest_gap}
+use Rattle.gaps.specs.Gaps.{lowest_free, is_taken, lowest_gap}
 use Rattle.shapes.specs.Made.{is_named, shape_good, file_made}
 use Rattle.requests.specs.Judge.{judge_edit, EditFacts}
 use Rattle.sessions.specs.Session.{bare, file_of, legal, buffered_legal}
@@ -17,7 +16,6 @@ use Rattle.requests.specs.declared.Answer.TheVariants.{Done, Met, Refused}
 use Rattle.requests.specs.declared.Edit.{Edit}
 use Rattle.requests.specs.declared.Edit.TheVariants.{Add, Delete}
 use Rattle.sessions.specs.declared.BufferedSession.{BufferedSession}
-use Rattle.sessions.specs.declared.Saying.{Saying}
 use Rattle.sessions.specs.declared.Session.{Session}
 
 -- ---- what an edit finds
@@ -63,11 +61,6 @@ unfoldable pub edited_entry : Edit → ℕ → List Entry → List ℕ → Entry
 edited_entry (Add kind length sectors) N table name = file_made kind length sectors name (lowest_gap (is_taken table) N sectors)
 edited_entry Delete N table name = free_entry
 
--- what the session then says of itself, e being the entry of before: its sectors are taken, or free again
-unfoldable pub edited_saying : Edit → Saying → Entry → Saying
-edited_saying (Add kind length sectors) says e = record { refused = says.refused; free = says.free - sectors }
-edited_saying Delete says e = record { refused = says.refused; free = says.free + e.sectors }
-
 -- the number that the caller is told: the new entry's
 unfoldable pub told_of : Edit → ℕ → List ℕ
 told_of (Add kind length sectors) n = n ∷ []
@@ -81,7 +74,7 @@ pub record Edited (S : Type 0) : Type 0 where
   pub image : List ℕ
   pub session : S
 
--- only answer 0 tells a number and changes the image, the table and the figure, and no edit is answered 1 or 2
+-- only answer 0 tells a number and changes the image and the table, and no edit is answered 1 or 2
 unfoldable pub told_by : Answer → Edit → ℕ → List ℕ
 told_by Done x n = told_of x n
 told_by (Met e) x n = []
@@ -97,18 +90,12 @@ table_edited Done table n e = set table n e
 table_edited (Met x) table n e = table
 table_edited (Refused x) table n e = table
 
-unfoldable pub says_edited : Answer → Saying → Edit → Entry → Saying
-says_edited Done says x e = edited_saying x says e
-says_edited (Met y) says x e = says
-says_edited (Refused y) says x e = says
-
--- the answer, and what an edit leaves: `lawful` says whether the session is legal, `s` is the session without its buffers, `saying` the session with another
--- saying and another table
+-- the answer, and what an edit leaves: `lawful` says whether the session is legal, `s` is the session without its buffers, `tabled` the session with another table
 unfoldable pub edit_answer_by : Bool → List ℕ → Session → ℕ → Edit → List ℕ → Answer
 edit_answer_by lawful image s i x name = judge_edit x (edit_facts lawful (sectors_of image) s i x name)
 
-unfoldable pub edit_by : {S : Type 0} → Bool → (Saying → List Entry → S) → List ℕ → Session → ℕ → Edit → List ℕ → Edited S
-edit_by lawful saying image s i x name =
+unfoldable pub edit_by : {S : Type 0} → Bool → (List Entry → S) → List ℕ → Session → ℕ → Edit → List ℕ → Edited S
+edit_by lawful tabled image s i x name =
     let a : Answer = edit_answer_by lawful image s i x name in
     let n : ℕ = edited_number x s.table i in
     let e : Entry = edited_entry x (sectors_of image) s.table name in
@@ -116,7 +103,7 @@ edit_by lawful saying image s i x name =
       answer = a;
       told = told_by a x n;
       image = image_edited a image n e;
-      session = saying (says_edited a s.says x (entry_at s.table n)) (table_edited a s.table n e);
+      session = tabled (table_edited a s.table n e);
     }
 
 -- the engines differ in when a session is legal, and in what one holds
@@ -124,11 +111,11 @@ abbrev pub plain_edit_answer : List ℕ → Session → ℕ → Edit → List �
 plain_edit_answer image s i x name = edit_answer_by (legal image s) image s i x name
 
 abbrev pub plain_edit : List ℕ → Session → ℕ → Edit → List ℕ → Edited Session
-plain_edit image s i x name = edit_by (legal image s) (λ says table. record { says = says; table = table; files = s.files }) image s i x name
+plain_edit image s i x name = edit_by (legal image s) (λ table. record { says = s.says; table = table; files = s.files }) image s i x name
 
 abbrev pub buffered_edit_answer : List ℕ → BufferedSession → ℕ → Edit → List ℕ → Answer
 buffered_edit_answer image s i x name = edit_answer_by (buffered_legal image s) image (bare s) i x name
 
 -- no buffer is put back
 abbrev pub buffered_edit : List ℕ → BufferedSession → ℕ → Edit → List ℕ → Edited BufferedSession
-buffered_edit image s i x name = edit_by (buffered_legal image s) (λ says table. record { says = says; table = table; files = s.files }) image (bare s) i x name
+buffered_edit image s i x name = edit_by (buffered_legal image s) (λ table. record { says = s.says; table = table; files = s.files }) image (bare s) i x name

@@ -16,9 +16,9 @@ use Rattle.sessions.specs.Session.{fresh}
 use Rattle.sessions.specs.declared.BufferedFile.{BufferedFile}
 use Rattle.sessions.specs.declared.OpenFile.{OpenFile}
 use Rattle.sessions.specs.declared.Saying.{Saying}
-use Rattle.storing.specs.Fits.{fits, are_bytes, file_fits, held_fits, saying_fits}
+use Rattle.storing.specs.Fits.{fits, are_bytes, file_fits, held_fits}
 use Rattle.storing.specs.Numbers.{bytes_of, flag_of, is_flag}
-use Rattle.storing.specs.Stored.{file_width, held_width, width, said_width, free_width, place_stored, place_in, file_stored, file_in, file_flags, hold_stored, hold_of, held_stored, held_in, held_flags, state_stored, state_in, state_flags, saying_stored, saying_in, saying_flags}
+use Rattle.storing.specs.Stored.{file_width, held_width, width, said_width, place_stored, place_in, file_stored, file_in, file_flags, hold_stored, hold_of, held_stored, held_in, held_flags, state_stored, state_in, state_flags, saying_stored, saying_in, saying_flags}
 use Rattle.storing.proofs.Laid.{length-file, length-hold}
 use Rattle.storing.proofs.Numbers.{length-bytes}
 use Rattle.storing.proofs.Parts.{Stands, cut, number_at, flag_at, set_back, flag-good, flag_same, next, after, number_same}
@@ -199,23 +199,18 @@ state-same false b bytes at h g = file-same b bytes at h g
 -- ---- what a session says of itself
 
 module _ (s : Saying) (b : List ℕ) (at : ℕ) (stands : Stands b at (saying_stored s)) where
-  abbrev e₀ : (part b at 1 ≡ flag_of s.refused ∷ []) × Stands b (at + 1) (bytes_of free_width s.free)
-  unfolding saying_stored
-  e₀ = cut b at (flag_of s.refused ∷ []) (bytes_of free_width s.free) 1 (at + 1) refl refl stands
-
   refused : get_or b at 0 ≡ flag_of s.refused
-  refused = flag_at b at s.refused e₀.0
+  unfolding saying_stored
+  refused = flag_at b at s.refused stands
 
   pub saying-flagged : saying_flags b at ≡ true
   unfolding saying_flags
   saying-flagged = rw (refused, flag-good s.refused)
 
-  pub saying-back : saying_fits s ≡ true → saying_in b at ≡ s
-  unfolding saying_in saying_fits
-  saying-back h =
-      let free : part b (at + 1) free_width ≡ bytes_of free_width s.free = ap (part b (at + 1)) (sym (length-bytes free_width s.free)) ∙ e₀.1 in
-      rw (refused, set_back s.refused, number_at b (at + 1) free_width s.free h free)
+  pub saying-back : saying_in b at ≡ s
+  unfolding saying_in
+  saying-back = rw (refused, set_back s.refused)
 
-pub saying-same : (b : List ℕ) → every is_byte b ≡ true → (at : ℕ) → at + said_width ≤ length b → saying_flags b at ≡ true → saying_stored (saying_in b at) ≡ part b at said_width
-unfolding saying_stored saying_in saying_flags
-saying-same b bytes at h g = rw (flag_same (get_or b at 0) g, number_same b bytes (at + 1) free_width (omega arith)) (after b at (at + 1) free_width refl (omega arith) refl)
+pub saying-same : (b : List ℕ) (at : ℕ) → at + said_width ≤ length b → saying_flags b at ≡ true → saying_stored (saying_in b at) ≡ part b at said_width
+unfolding saying_stored saying_in saying_flags part
+saying-same b at h g = rw (flag_same (get_or b at 0) g) (after b at (at + 1) 0 refl h refl)

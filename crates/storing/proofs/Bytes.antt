@@ -18,7 +18,7 @@ use Rattle.sessions.specs.declared.Saying.{Saying}
 use Rattle.storing.specs.Fits.{are_bytes, held_fits}
 use Rattle.storing.specs.Numbers.{bytes_of, flag_of}
 use Rattle.tables.specs.Rows.{row_of}
-use Rattle.storing.specs.Stored.{free_width, place_stored, file_stored, hold_stored, held_stored, state_stored, saying_stored}
+use Rattle.storing.specs.Stored.{place_stored, file_stored, hold_stored, held_stored, state_stored, saying_stored}
 use Rattle.storing.proofs.Back.{state_fits}
 
 pub every_append : {A : Type 0} (p : A → Bool) (xs ys : List A) → every p xs ≡ true → every p ys ≡ true → every p (xs ++ ys) ≡ true
@@ -77,4 +77,4 @@ state-bytes false f h = file-bytes f.file
 
 pub saying-bytes : (s : Saying) → every is_byte (saying_stored s) ≡ true
 unfolding saying_stored
-saying-bytes s = flag-bytes s.refused _ (number-bytes free_width s.free)
+saying-bytes s = flag-bytes s.refused [] no_bytes

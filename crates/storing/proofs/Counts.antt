@@ -24,10 +24,9 @@ use Rattle.tables.proofs.Widths.{rows-there}
 use Rattle.sessions.specs.declared.BufferedFile.{BufferedFile}
 use Rattle.sessions.specs.declared.BufferedSession.{BufferedSession}
 use Rattle.storing.specs.Fits.{entry_fits}
-use Rattle.storing.specs.Stored.{files_at, width, said_at, said_width, size_of, state_stored, stored, is_session, table_in, session_in, lay_part, lay_free}
+use Rattle.storing.specs.Stored.{files_at, width, said_at, said_width, size_of, has_buffers, state_stored, stored, is_session, table_in, session_in, lay_part}
 use Rattle.storing.proofs.Entries.{entry-size, entry-same}
-use Rattle.storing.proofs.Figure.{length-figure, figure-laid}
-use Rattle.storing.proofs.Laid.{part-there, part-not}
+use Rattle.storing.proofs.Laid.{part-there, part-not, laid-buffers}
 use Rattle.storing.proofs.Laws.{stored-entered, stored-laid}
 use Rattle.storing.proofs.Read.{session-bytes, session-size, session-is}
 
@@ -80,15 +79,13 @@ module _ (u : Bool) (b : List ℕ) (h : is_session u b ≡ true) where
   table-there : files_at ≤ length b
   table-there = let size : length b ≡ said_at u + said_width = (unfold size_of in session-size u b h) in omega arith
 
-  -- laying other free sectors, then an entry that fits, is saying these with that entry in the table
-  pub entry_set : (free i : ℕ) (e : Entry) → entry_fits e ≡ true
-      → lay_entry two_words_wide entries (lay_free b free) i e
-      ≡ stored u (record { says = record { refused = (session_in u b).says.refused; free = free }; table = set (session_in u b).table i e; files = (session_in u b).files })
-  entry_set free i e q =
-      let l : length (lay_free b free) ≡ length b = length-figure b free in
-      entry-laid (lay_free b free) (omega (arith, table-there)) i e
-      ∙ ap (λ (c : List ℕ). lay_part entries 0 two_words_wide c i (entry_of two_words_wide e)) (figure-laid u b h free)
-      ∙ sym (stored-entered u b h i e (entry-size e q) (record { refused = (session_in u b).says.refused; free = free }))
+  -- laying an entry that fits is setting it in the table
+  pub entry_set : (i : ℕ) (e : Entry) → entry_fits e ≡ true
+      → lay_entry two_words_wide entries b i e ≡ stored u (record { says = (session_in u b).says; table = set (session_in u b).table i e; files = (session_in u b).files })
+  entry_set i e q = entry-laid b table-there i e ∙ sym (stored-entered u b h i e (entry-size e q))
+
+  pub entry-buffers : (i : ℕ) (e : Entry) → has_buffers (lay_entry two_words_wide entries b i e) ≡ has_buffers b
+  entry-buffers i e = ap has_buffers (entry-laid b table-there i e) ∙ laid-buffers entries 0 two_words_wide b i (entry_of two_words_wide e)
 
 -- ---- count and flags
 

@@ -35,7 +35,7 @@ unfolding held_stored hold_stored file_stored place_stored bytes_of
 length-held f n = rw n
 
 pub length-saying : (s : Saying) → length (saying_stored s) ≡ said_width
-unfolding saying_stored bytes_of
+unfolding saying_stored
 length-saying s = refl
 
 -- ---- a part of that number is there, or not

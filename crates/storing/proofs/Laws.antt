@@ -23,9 +23,8 @@ use Rattle.sessions.specs.Session.{fresh, bare, unheld}
 use Rattle.sessions.specs.declared.BufferedFile.{BufferedFile}
 use Rattle.sessions.specs.declared.BufferedSession.{BufferedSession}
 use Rattle.sessions.specs.declared.OpenFile.{OpenFile}
-use Rattle.sessions.specs.declared.Saying.{Saying}
 use Rattle.sessions.specs.declared.Session.{Session}
-use Rattle.storing.specs.Fits.{are_all, entry_fits, file_fits, held_fits, saying_fits, session_fits, buffered_fits}
+use Rattle.storing.specs.Fits.{are_all, entry_fits, file_fits, held_fits, session_fits, buffered_fits}
 use Rattle.storing.specs.Stored.{files_at, width, said_at, said_width, size_of, state_stored, state_in, state_flags, saying_stored, saying_in, stored, is_session, table_in, states_in, session_in, plain_in, plain_stored, lay_part}
 use Rattle.storing.proofs.Back.{bytes-size, kept_in, state_fits, state-back, state-flagged, state-same, saying-flagged, saying-back, saying-same}
 use Rattle.storing.proofs.Bytes.{every_append, row-bytes, state-bytes, saying-bytes}
@@ -118,9 +117,9 @@ module _ (u : Bool) (s : BufferedSession) (ht : are_all entries entry_fits s.tab
         ap all (told-files (state_flags u) (λ x. true) (λ x q. state-flagged u x)) ∙ all_true s.files,
       ) (saying-flagged s.says b (said_at u) behind.1)
 
-  pub stored_back : saying_fits s.says ≡ true → session_in u (stored u s) ≡ record { says = s.says; table = s.table; files = map (kept_in u) s.files }
-  stored_back hs =
-      session-is u (stored u s) stored-told ∙ (unfold stored states_in in rw (saying-back s.says b (said_at u) behind.1 hs, table-back, told-files (state_in u) (kept_in u) (state-back u)))
+  pub stored_back : session_in u (stored u s) ≡ record { says = s.says; table = s.table; files = map (kept_in u) s.files }
+  stored_back =
+      session-is u (stored u s) stored-told ∙ (unfold stored states_in in rw (saying-back s.says b (said_at u) behind.1, table-back, told-files (state_in u) (kept_in u) (state-back u)))
 
 -- ---- and bytes are stored again as they were
 
@@ -147,7 +146,7 @@ module _ (u : Bool) (b : List ℕ) (ok : is_session u b ≡ true) where
   said = saying_stored (saying_in b (said_at u))
 
   said-part : said ≡ part b (said_at u) said_width
-  said-part = saying-same b (session-bytes u b ok) (said_at u) (omega (arith, long)) (session-said u b ok)
+  said-part = saying-same b (said_at u) (omega (arith, long)) (session-said u b ok)
 
   whole : table ++ (files ++ said) ≡ b
   whole =
@@ -177,16 +176,15 @@ module _ (u : Bool) (b : List ℕ) (ok : is_session u b ≡ true) where
     table-long : length table ≡ files_at
     table-long = ap length table-part ∙ length_part b 0 files_at (omega (arith, long))
 
-    -- before anything
-    entered : (r : List ℕ) → lay_part entries 0 two_words_wide table i (entry_of two_words_wide e) ++ r ≡ lay_part entries 0 two_words_wide (table ++ r) i (entry_of two_words_wide e)
-    entered r = sym (part-first two_words_wide entries table r (entry_of two_words_wide e) le i table-long)
+    entered : lay_part entries 0 two_words_wide table i (entry_of two_words_wide e) ++ (files ++ said) ≡ lay_part entries 0 two_words_wide b i (entry_of two_words_wide e)
+    entered =
+        sym (part-first two_words_wide entries table (files ++ said) (entry_of two_words_wide e) le i table-long) ∙ ap (λ (c : List ℕ). lay_part entries 0 two_words_wide c i (entry_of two_words_wide e)) whole
 
-    -- whatever it says of itself
-    pub stored-entered : (says : Saying) → stored u (record { says = says; table = set (session_in u b).table i e; files = (session_in u b).files })
-        ≡ lay_part entries 0 two_words_wide (stored u (record { says = says; table = (session_in u b).table; files = (session_in u b).files })) i (entry_of two_words_wide e)
+    pub stored-entered : stored u (record { says = (session_in u b).says; table = set (session_in u b).table i e; files = (session_in u b).files })
+        ≡ lay_part entries 0 two_words_wide b i (entry_of two_words_wide e)
     unfolding stored
-    stored-entered says =
-        rw (session-is u b ok) (rw (row_laid (entry_of two_words_wide) two_words_wide entries (table_in b) i e table-sized (length-entries two_words_wide entries b) le) (entered (files ++ saying_stored says)))
+    stored-entered =
+        rw (session-is u b ok) (rw (row_laid (entry_of two_words_wide) two_words_wide entries (table_in b) i e table-sized (length-entries two_words_wide entries b) le) entered)
 
     -- and another state
     pub stored-laid : (k : ℕ) (x : BufferedFile) → length (state_stored u x) ≡ width u
@@ -200,18 +198,18 @@ module _ (u : Bool) (b : List ℕ) (ok : is_session u b ≡ true) where
         (rw (row_laid (entry_of two_words_wide) two_words_wide entries (table_in b) i e table-sized (length-entries two_words_wide entries b) le, row_laid (state_stored u) (width u) most_open (states_in u b) k x files-sized files-count lx)
         (ap (λ (c : List ℕ). lay_part entries 0 two_words_wide table i (entry_of two_words_wide e) ++ c) (sym (part-first (width u) most_open files said (state_stored u x) lx k lf))
         ∙ sym (part-second (width u) most_open (lay_part entries 0 two_words_wide table i (entry_of two_words_wide e)) (files ++ said) (state_stored u x) lx k files_at (length-laid entries 0 two_words_wide table i (entry_of two_words_wide e) ∙ table-long) (omega arith))
-        ∙ ap (λ (c : List ℕ). lay_part most_open files_at (width u) c k (state_stored u x)) (entered (files ++ said) ∙ ap (λ (c : List ℕ). lay_part entries 0 two_words_wide c i (entry_of two_words_wide e)) whole)))
+        ∙ ap (λ (c : List ℕ). lay_part most_open files_at (width u) c k (state_stored u x)) entered))
 
 -- ---- of the engine with buffers, and of the one with none
 
 pub buffered-told : (s : BufferedSession) → buffered_fits s ≡ true → is_session true (stored true s) ≡ true
 unfolding buffered_fits
-buffered-told s h = stored-told true s (all_get_d _ 0 h) (unfold state_fits in all_get_d _ 1 h)
+buffered-told s h = stored-told true s (and_left (are_all entries entry_fits s.table) _ h) (unfold state_fits in and_right (are_all entries entry_fits s.table) _ h)
 
 pub buffered-back : (s : BufferedSession) → buffered_fits s ≡ true → session_in true (stored true s) ≡ s
 unfolding buffered_fits
 buffered-back s h =
-    stored_back true s (all_get_d _ 0 h) (unfold state_fits in all_get_d _ 1 h) (all_get_d _ 2 h)
+    stored_back true s (and_left (are_all entries entry_fits s.table) _ h) (unfold state_fits in and_right (are_all entries entry_fits s.table) _ h)
     ∙ (unfold kept_in in ap (λ (fs : List BufferedFile). record { says = s.says; table = s.table; files = fs }) (map-id s.files))
 
 module _ (s : Session) (h : session_fits s ≡ true) where
@@ -222,12 +220,12 @@ module _ (s : Session) (h : session_fits s ≡ true) where
 
   table_fits : are_all entries entry_fits s.table ≡ true
   unfolding session_fits
-  table_fits = all_get_d _ 0 h
+  table_fits = and_left (are_all entries entry_fits s.table) (are_all most_open file_fits s.files) h
 
   files-fit : are_all most_open (state_fits false) (unheld s).files ≡ true
-  unfolding are_all unheld
+  unfolding session_fits are_all unheld
   files-fit =
-      let q : are_all most_open file_fits s.files ≡ true = (unfold session_fits in all_get_d _ 1 h) in
+      let q : are_all most_open file_fits s.files ≡ true = and_right (are_all entries entry_fits s.table) (are_all most_open file_fits s.files) h in
       rw (length-map s.files fresh, eq-eqb (length s.files) most_open (all-count most_open file_fits s.files q)) (fits-unheld s.files (all_fit most_open file_fits s.files q))
 
   bare-kept : (fs : List OpenFile) → map (λ f. f.file) (map (kept_in false) (map fresh fs)) ≡ fs
@@ -240,7 +238,7 @@ module _ (s : Session) (h : session_fits s ≡ true) where
 
   pub plain_back : plain_in (plain_stored s) ≡ s
   plain_back =
-      ap bare (stored_back false (unheld s) (unfold unheld in table_fits) files-fit (unfold unheld session_fits in all_get_d _ 2 h))
+      ap bare (stored_back false (unheld s) (unfold unheld in table_fits) files-fit)
       ∙ (unfold bare unheld in ap (λ (fs : List OpenFile). record { says = s.says; table = s.table; files = fs }) (bare-kept s.files))
 
 pub plain-kept : (b : List ℕ) → is_session false b ≡ true → plain_stored (plain_in b) ≡ b

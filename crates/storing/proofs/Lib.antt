@@ -9,5 +9,4 @@ pub mod Entries
 pub mod Laws
 pub mod Illegal
 pub mod Counts
-pub mod Figure
 pub mod Start

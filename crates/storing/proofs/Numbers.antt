@@ -1,17 +1,33 @@
--- Numbers and their bytes, by going down the bytes: each is told back from the other.
-use mathlib.Core.Path.{◌≡◌, refl, ap}
+-- Numbers and their bytes, by going down the bytes: each is told back from the other. And a part of bytes, written out.
+use mathlib.Core.Path.{◌≡◌, refl, sym, ap, ◌∙◌}
 use mathlib.Core.Bool.{true}
-use mathlib.Core.List.{List, [], ◌∷◌}
-use Prim.Native.Nat.{ℕ, zero, suc, ◌+◌, ◌*◌, ◌/◌, ◌%◌, ◌^◌, ◌<◌}
+use mathlib.Core.List.{List, [], ◌∷◌, map}
+use Prim.Native.Nat.{ℕ, zero, suc, ◌+◌, ◌*◌, ◌/◌, ◌%◌, ◌^◌, ◌≤◌, ◌<◌}
 use native.Mathlib.Nat.{pow-succ'}
 use native.Mathlib.Omega.{arith}
-use lib.ListN.{length}
+use lib.ListN.{length, get_or}
+use lib.Seq.{drop-cons}
 use borrow.Author.Tests.{ltb-true}
-use Rattle.geometry.specs.Bytes.{is_byte}
-use Rattle.geometry.specs.Lists.{every}
+use Rattle.geometry.specs.Bytes.{part, is_byte}
+use Rattle.geometry.specs.Lists.{every, numbers_from}
+use Rattle.geometry.proofs.Bytes.{same_bytes, length_part, get_d_part}
+use Rattle.geometry.proofs.Numbered.{length-numbered, get_d_numbered}
 use Rattle.geometry.proofs.Tests.{and_left, and_right}
 use Rattle.tables.specs.Numbers.{number_in}
 use Rattle.storing.specs.Numbers.{bytes_of}
+
+-- ---- bytes written out
+
+pub written : (b : List ℕ) (at n : ℕ) → at + suc n ≤ length b → part b at (suc n) ≡ get_or b at 0 ∷ map (λ k. get_or b (at + k) 0) (numbers_from 1 n)
+unfolding part
+written b at n h =
+    let l : length (part b (suc at) n) ≡ n = length_part b (suc at) n (omega arith) in
+    rw (drop-cons b at 0 (omega arith))
+    (ap (λ (r : List ℕ). get_or b at 0 ∷ r)
+    (same_bytes _ _ (l ∙ sym (length-numbered (λ k. get_or b (at + k) 0) 1 n)) λ (i : ℕ) (q : i < length (part b (suc at) n)).
+    let p : i < n = omega arith in
+    let e : suc at + i ≡ at + (1 + i) = omega arith in
+    get_d_part b (suc at) n i 0 p ∙ ap (λ (j : ℕ). get_or b j 0) e ∙ sym (get_d_numbered (λ k. get_or b (at + k) 0) 1 n i 0 p)))
 
 -- ---- a number from its bytes
 
@@ -28,11 +44,6 @@ pub length-bytes : (n x : ℕ) → length (bytes_of n x) ≡ n
 unfolding bytes_of
 length-bytes zero x = refl
 length-bytes (suc n) x = ap suc (length-bytes n (x / 256))
-
--- a number of two bytes
-pub two_bytes : (x : ℕ) → x < 65536 → x % 256 ∷ x / 256 ∷ [] ≡ bytes_of 2 x
-unfolding bytes_of
-two_bytes x h = let e : (x / 256) % 256 ≡ x / 256 = omega arith in rw e
 
 -- ---- bytes from their number
 

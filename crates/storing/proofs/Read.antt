@@ -21,11 +21,11 @@ use Rattle.storing.specs.Stored.{file_width, held_width, files_at, width, said_a
 
 -- ---- sizes
 
-pub size-plain : size_of false ≡ 519
+pub size-plain : size_of false ≡ 517
 unfolding size_of width
 size-plain = refl
 
-pub size-buffered : size_of true ≡ 1983
+pub size-buffered : size_of true ≡ 1981
 unfolding size_of width
 size-buffered = refl
 

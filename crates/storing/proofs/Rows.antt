@@ -69,7 +69,7 @@ lay-first a r x at h =
     lay-fits (a ++ r) at x (omega arith)
     ∙ rw (take-append-le at a r (omega arith), drop-append-le (at + length x) a r h, lay-fits a at x h) (sym (append_assoc (take at a) (x ++ drop (at + length x) a) r ∙ ap (λ (t : List ℕ). take at a ++ t) (append_assoc x (drop (at + length x) a) r)))
 
-pub lay-second : (a r x : List ℕ) (at k : ℕ) → length a + k ≡ at → k + length x ≤ length r → lay (a ++ r) at x ≡ a ++ lay r k x
+lay-second : (a r x : List ℕ) (at k : ℕ) → length a + k ≡ at → k + length x ≤ length r → lay (a ++ r) at x ≡ a ++ lay r k x
 lay-second a r x at k e h =
     let l : length (a ++ r) ≡ length a + length r = length-append a r in
     let z : at + length x ≡ length a + (k + length x) = omega arith in

@@ -41,7 +41,7 @@ free_bytes = refl
 
 -- zeros with what a session says of itself laid over the last
 zeros-said : (u : Bool) (s : Saying) → lay (replicate (size_of u) 0) (said_at u) (saying_stored s) ≡ replicate files_at 0 ++ (replicate (width u * most_open) 0 ++ saying_stored s)
-unfolding lay width size_of saying_stored bytes_of
+unfolding lay width size_of saying_stored
 zeros-said true s = refl
 zeros-said false s = refl
 
@@ -53,14 +53,14 @@ said-last u n l = omega arith
 
 -- whether bytes are as many as a session takes
 abbrev pub is_size : List ℕ → Bool
-is_size b = eqb (length b) 519 || eqb (length b) 1983
+is_size b = eqb (length b) 517 || eqb (length b) 1981
 
 module _ (b image : List ℕ) where
   abbrev u : Bool
   u = has_buffers b
 
   pub sized : is_size b ≡ true → length b ≡ size_of u
-  sized h = or-either (eqb (length b) 519) (eqb (length b) 1983) h (λ (q : eqb (length b) 519 ≡ true). of_size false (eqb-true (length b) 519 q ∙ sym size-plain)) (λ (q : eqb (length b) 1983 ≡ true). of_size true (eqb-true (length b) 1983 q ∙ sym size-buffered))
+  sized h = or-either (eqb (length b) 517) (eqb (length b) 1981) h (λ (q : eqb (length b) 517 ≡ true). of_size false (eqb-true (length b) 517 q ∙ sym size-plain)) (λ (q : eqb (length b) 1981 ≡ true). of_size true (eqb-true (length b) 1981 q ∙ sym size-buffered))
     where
       of_size : (v : Bool) → length b ≡ size_of v → length b ≡ size_of u
       of_size v n = n ∙ ap size_of (sym (told-by-size v b n))
@@ -76,8 +76,8 @@ module _ (b image : List ℕ) where
   other-number h = ne_eqb (length b) (size_of u) (differs u)
     where
       differs : (v : Bool) → ¬ (length b ≡ size_of v)
-      differs true l = false≢true (sym (neither_right (eqb (length b) 519) (eqb (length b) 1983) h) ∙ eq-eqb (length b) 1983 (l ∙ size-buffered))
-      differs false l = false≢true (sym (neither_left (eqb (length b) 519) (eqb (length b) 1983) h) ∙ eq-eqb (length b) 519 (l ∙ size-plain))
+      differs true l = false≢true (sym (neither_right (eqb (length b) 517) (eqb (length b) 1981) h) ∙ eq-eqb (length b) 1981 (l ∙ size-buffered))
+      differs false l = false≢true (sym (neither_left (eqb (length b) 517) (eqb (length b) 1981) h) ∙ eq-eqb (length b) 517 (l ∙ size-plain))
 
   pub start-other : (s : Saying) (table : List Entry) → is_size b ≡ false → b ≡ lay_start b s table
   unfolding lay_start

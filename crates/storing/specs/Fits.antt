@@ -7,7 +7,6 @@ use Rattle.directory.specs.declared.Entry.{Entry}
 use Rattle.sessions.specs.declared.BufferedFile.{BufferedFile}
 use Rattle.sessions.specs.declared.BufferedSession.{BufferedSession}
 use Rattle.sessions.specs.declared.OpenFile.{OpenFile}
-use Rattle.sessions.specs.declared.Saying.{Saying}
 use Rattle.sessions.specs.declared.Session.{Session}
 
 -- a number of n bytes
@@ -32,17 +31,13 @@ file_fits f =
 unfoldable pub held_fits : BufferedFile → Bool
 held_fits f = all (file_fits f.file ∷ fits 4 f.held ∷ are_bytes sector f.buffer ∷ [])
 
--- what a session says of itself: a `u16`
-unfoldable pub saying_fits : Saying → Bool
-saying_fits s = fits 2 s.free
-
 module _ {A : Type 0} where
   -- an array of n things that fit
   unfoldable pub are_all : ℕ → (A → Bool) → List A → Bool
   are_all n p xs = eqb (length xs) n && every p xs
 
 unfoldable pub session_fits : Session → Bool
-session_fits s = all (are_all entries entry_fits s.table ∷ are_all most_open file_fits s.files ∷ saying_fits s.says ∷ [])
+session_fits s = are_all entries entry_fits s.table && are_all most_open file_fits s.files
 
 unfoldable pub buffered_fits : BufferedSession → Bool
-buffered_fits s = all (are_all entries entry_fits s.table ∷ are_all most_open held_fits s.files ∷ saying_fits s.says ∷ [])
+buffered_fits s = are_all entries entry_fits s.table && are_all most_open held_fits s.files

@@ -1,5 +1,5 @@
 -- A session in bytes that a caller lends: 18 entries of 22 bytes, then four open-file states, with a buffer each or without, then what it says of itself. Definitions only.
-use Rattle.std.specs.Prelude.{Bool, true, false, ◌&&◌, List, [], ◌∷◌, ◌++◌, ℕ, ◌+◌, ◌-◌, ◌*◌, eqb, leb, ltb, length, get_or, replicate}
+use Rattle.std.specs.Prelude.{Bool, true, false, ◌&&◌, not, List, [], ◌∷◌, ◌++◌, ℕ, ◌+◌, ◌*◌, eqb, ltb, length, get_or, replicate}
 use Rattle.geometry.specs.Bytes.{part, lay, is_byte}
 use Rattle.geometry.specs.Lists.{all, every}
 use Rattle.geometry.specs.Sizes.{sector, entries, most_open}
@@ -37,18 +37,14 @@ unfoldable pub width : Bool → ℕ
 width true = held_width
 width false = file_width
 
--- where what a session says of itself stands, behind four states, and its bytes: 1 and 2
+-- where what a session says of itself stands, behind four states, and its bytes: 1
 abbrev pub said_at : Bool → ℕ
 said_at u = files_at + width u * most_open
 
 abbrev pub said_width : ℕ
-said_width = 3
+said_width = 1
 
--- the bytes of the free sectors, which are its last
-abbrev pub free_width : ℕ
-free_width = 2
-
--- the bytes of a session: 1,983 or 519
+-- the bytes of a session: 1,981 or 517
 unfoldable pub size_of : Bool → ℕ
 size_of u = said_at u + said_width
 
@@ -129,12 +125,12 @@ state_flags false b at = file_flags b at
 
 -- ---- what a session says of itself
 
--- whether it is from a refused mounting, and the free sectors
+-- whether it is from a refused mounting
 unfoldable pub saying_stored : Saying → List ℕ
-saying_stored s = (flag_of s.refused ∷ []) ++ bytes_of free_width s.free
+saying_stored s = flag_of s.refused ∷ []
 
 unfoldable pub saying_in : List ℕ → ℕ → Saying
-saying_in b at = record { refused = is_set (get_or b at 0); free = number_in (part b (at + 1) free_width) }
+saying_in b at = record { refused = is_set (get_or b at 0) }
 
 -- each of its truth values is 0 or 1
 unfoldable pub saying_flags : List ℕ → ℕ → Bool
@@ -165,7 +161,7 @@ unlawful_entry = record { name = replicate 8 0; kind = 5; length = 0; first = 0;
 
 -- "bytes that are no session are a session that is not legal": its entries are of no kind that there is
 unfoldable pub unlawful : BufferedSession
-unlawful = record { says = record { refused = false; free = 0 }; table = replicate entries unlawful_entry; files = replicate most_open (fresh idle) }
+unlawful = record { says = record { refused = false }; table = replicate entries unlawful_entry; files = replicate most_open (fresh idle) }
 
 -- the session that bytes are
 unfoldable pub session_in : Bool → List ℕ → BufferedSession
@@ -204,17 +200,13 @@ lay_state u b k f h = lay_part most_open files_at (width u) b k (front_stored u 
 abbrev pub lay_fresh : Bool → List ℕ → ℕ → OpenFile → List ℕ
 lay_fresh u b k f = lay_part most_open files_at (width u) b k (state_stored u (fresh f))
 
--- other free sectors, in the last two bytes; as they were where there are no two
-unfoldable pub lay_free : List ℕ → ℕ → List ℕ
-lay_free b free = elim (leb free_width (length b)) [ true ↦ lay b (length b - free_width) (bytes_of free_width free) | false ↦ b ]
-
--- the free sectors that stand there; 0 where there are no two
-unfoldable pub free_in : List ℕ → ℕ
-free_in b = elim (leb free_width (length b)) [ true ↦ number_in (part b (length b - free_width) free_width) | false ↦ 0 ]
-
 -- the directory of an image that is mounted; else a table with no used entry
 unfoldable pub start_table : Bool → List ℕ → List Entry
 start_table mounted image = elim (mounted && has_rows one_word_wide entries image) [ true ↦ table_of image | false ↦ replicate entries free_entry ]
+
+-- "The session from a refused mounting says that it is one"
+unfoldable pub start_saying : Bool → Saying
+start_saying mounted = record { refused = not mounted }
 
 -- a session that says so, with that table and nothing open, over bytes that are as many as one takes
 unfoldable pub lay_start : List ℕ → Saying → List Entry → List ℕ

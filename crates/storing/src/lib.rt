@@ -1,9 +1,9 @@
 // A session in bytes that a caller lends: 18 entries of 22 bytes, as tables has them, then four open-file states, numbers low byte first,
 // then what the session says of itself.
 // With a buffer for each open file, or with none: the number of the bytes says which.
-ghost use Rattle.std.specs.Prelude.{◌≡◌, not, ◌≤◌};
-ghost use Rattle.storing.specs.Numbers.{bytes_of, flag_of};
-ghost use Rattle.storing.specs.Stored.{held_width, width, has_buffers, no_hold, saying_stored, free_width, free_in, lay_free, start_table, lay_start};
+ghost use Rattle.std.specs.Prelude.{◌≡◌, ◌≤◌};
+ghost use Rattle.storing.specs.Numbers.{flag_of};
+ghost use Rattle.storing.specs.Stored.{held_width, width, has_buffers, no_hold, saying_stored, start_saying, start_table, lay_start};
 
 use geometry::Geometry;
 use laying::copy_table;
@@ -25,13 +25,11 @@ impl Form {
     // Where the open-file states begin, behind 18 entries.
     pub const FILES: usize = 396;
     // The bytes of what a session says of itself, which are its last.
-    pub const SAYING: usize = 3;
-    // The bytes of the free sectors, the last of these.
-    pub const FREE: usize = 2;
+    pub const SAYING: usize = 1;
     // The bytes of a session.
-    pub const SESSION: usize = 519;
+    pub const SESSION: usize = 517;
     // The bytes of a session with buffers.
-    pub const BUFFERED: usize = 1983;
+    pub const BUFFERED: usize = 1981;
 }
 
 // Whether so many bytes are to be a session with buffers.
@@ -66,59 +64,32 @@ pub fn no_hold() -> Holding
     }
 }
 
-// ---- the free sectors
-
-fn free_bytes(free: u16) -> [u8; 2]
-    ensures { result ≡ bytes_of free_width free }
-{
-    [(free % 256) as u8, (free / 256) as u8]
-}
-
-// The free sectors that the last bytes of a session are; 0 where there are no two.
-pub fn free_in(b: &[u8]) -> u16
-    ensures { result ≡ free_in b.now }
-{
-    let n = b.len();
-    if Form::FREE <= n {
-        let low = b[n - Form::FREE] as u16;
-        let high = b[n - 1] as u16;
-        low + 256 * high
-    } else {
-        0
-    }
-}
-
-// Lays them there.
-pub fn put_free(b: &mut [u8], free: u16)
-    ensures { b.new ≡ lay_free b.old free }
-{
-    let n = b.len();
-    if Form::FREE <= n {
-        let x = free_bytes(free);
-        lay(b, n - Form::FREE, &x);
-    }
-}
-
 // ---- a session with nothing open
 
-fn saying_bytes(s: Saying) -> [u8; 3]
+fn saying_bytes(s: Saying) -> [u8; 1]
     ensures { result ≡ saying_stored s }
 {
-    let free = free_bytes(s.free);
-    [flag(s.refused), free[0], free[1]]
+    [flag(s.refused)]
 }
 
-// Lays a session with nothing open over bytes that are as many as one takes, which says so of itself: with the directory of the image, or with no
-// used entry if it says that the mounting was refused.
-pub fn put_start(b: &mut [u8], image: &[u8], says: Saying)
-    ensures { b.new ≡ lay_start b.old says (start_table (not says.refused) image.now) }
+// What a session with nothing open says of itself.
+fn start_saying(mounted: bool) -> Saying
+    ensures { result ≡ start_saying mounted }
+{
+    Saying { refused: !mounted }
+}
+
+// Lays a session with nothing open over bytes that are as many as one takes: with the directory of the image, if that is mounted, or with no used
+// entry and saying that the mounting was refused.
+pub fn put_start(b: &mut [u8], image: &[u8], mounted: bool)
+    ensures { b.new ≡ lay_start b.old (start_saying mounted) (start_table mounted image.now) }
 {
     let n = b.len();
     if (n == Form::SESSION) | (n == Form::BUFFERED) {
         fill(b, 0, n, 0);
-        let said = saying_bytes(says);
-        lay(b, n - Form::SAYING, &said);
-        if !says.refused {
+        let says = saying_bytes(start_saying(mounted));
+        lay(b, n - Form::SAYING, &says);
+        if mounted {
             copy_table(b, Width::TWO, image, Width::ONE, Geometry::ENTRIES);
         }
     }

@@ -33,10 +33,6 @@ pub count-two : (w : ℕ) (b : List ℕ) (at : ℕ) → ¬ (w ≡ 20) → count_
 unfolding count_at
 count-two w b at e = rw (ne_eqb w 20 e, count_at)
 
--- a good one that is not zero is used
-pub good-used : (N : ℕ) (e : Entry) → is_zero e ≡ false → entry_good N e ≡ true → ¬ (e.kind ≡ 0)
-good-used N e other good k = false≢true (sym other ∙ sym (free-good N e k) ∙ good)
-
 -- ---- zero bytes
 
 module _ (b : List ℕ) where
@@ -138,3 +134,8 @@ module _ (b : List ℕ) where
 
         pub used-told : r ≡ true → (e : Entry) (s : Bool) → e ≡ entry_in w b at → s ≡ used_good N e → s ≡ entry_good N (entry_in w b at)
         used-told t e s q m = m ∙ ap (used_good N) q ∙ sym (other-good N (entry_in w b at) other ∙ rw (named, t))
+
+      -- a good one is used
+      pub good-used : entry_good N (entry_in w b at) ≡ true → ¬ (word_at b (at + 8) ≡ 0)
+      unfolding entry_in
+      good-used t k = false≢true (sym other ∙ sym (free-good N (entry_in w b at) k) ∙ t)

@@ -18,24 +18,18 @@ use Rattle.directory.specs.Entries.{free_entry, is_free}
 use Rattle.directory.specs.Rules.{names_differ, extents_apart, table_good}
 use Rattle.directory.specs.Grouped.{is_zero, entry_good, two_good}
 use Rattle.directory.specs.Search.{matches, told, find}
-use Rattle.directory.specs.Sectors.{sectors_taken, sectors_used, free_sectors}
 use Rattle.directory.proofs.Free.{zero-free, zero-good}
 use Rattle.directory.proofs.Grouped.{grouped, free-apart}
 use Rattle.directory.proofs.Find.{found_none}
-use Rattle.directory.proofs.Sectors.{taken-used, taken_free}
-use Rattle.directory.proofs.Counted.{good-fits}
 use Rattle.directory.specs.declared.Entry.{Entry}
 use Rattle.directory.specs.declared.Found.TheVariants.{Nothing}
-use Rattle.tables.specs.Judged.{judged}
 use Rattle.tables.specs.Numbers.{long_at, number_in}
 use Rattle.tables.specs.Rows.{row_in}
 use Rattle.tables.specs.Tables.{has_rows, entry_in, entries_in, table_in}
 use Rattle.tables.proofs.Numbers.{same-eights}
 use Rattle.tables.proofs.Rows.{length-row, get_or-row, take_row}
 use Rattle.tables.proofs.Widths.{below, one_on, row_before, row_upto}
-use Rattle.tables.specs.declared.Judged.TheVariants.{Good, Bad}
-use Rattle.tables.proofs.Figure.{good-judged, bad-judged, judged-same, used-more}
-use Rattle.tables.proofs.Entries.{name-is, good-used}
+use Rattle.tables.proofs.Entries.{name-is}
 
 -- ---- entry i
 
@@ -82,11 +76,7 @@ module _ (w i : ℕ) (b : List ℕ) where
   more-pairs r =
       ap (pairwise r) (sym all_of) ∙ pairwise-more r (entries_in w (i + 1) b) i free_entry there ∙ rw (first-entries w (i + 1) b i (omega arith), next-is)
 
-  -- its sectors, and the rules of a table with it
-  pub more-used : sectors_used (entries_in w (i + 1) b) ≡ sectors_used (entries_in w i b) + sectors_taken (entry_in w b (w * i))
-  more-used =
-      ap sectors_used (sym all_of) ∙ used-more (entries_in w (i + 1) b) i free_entry there ∙ rw (first-entries w (i + 1) b i (omega arith), next-is)
-
+  -- the rules of a table, with one entry more
   pub more-good : (N : ℕ) → table_good N (entries_in w (i + 1) b)
       ≡ (table_good N (entries_in w i b) && (entry_good N (entry_in w b (w * i)) && every (λ a. two_good a (entry_in w b (w * i))) (entries_in w i b)))
   more-good N =
@@ -101,17 +91,15 @@ module _ (w i : ℕ) (b : List ℕ) where
       swapped true true c y = refl
 
   -- which is zero
-  pub zero_more : is_zero (entry_in w b (w * i)) ≡ true → (N : ℕ) → judged N (entries_in w (i + 1) b) ≡ judged N (entries_in w i b)
+  pub zero_more : is_zero (entry_in w b (w * i)) ≡ true → (N : ℕ) → table_good N (entries_in w (i + 1) b) ≡ table_good N (entries_in w i b)
   zero_more z N =
-      let f : (entry_in w b (w * i)).kind ≡ 0 = zero-free N (entry_in w b (w * i)) z in
-      judged-same N (entries_in w (i + 1) b) (entries_in w i b)
-      (more-good N ∙ rw (zero-good N (entry_in w b (w * i)) z, free-apart (entry_in w b (w * i)) f (entries_in w i b), and-true (table_good N (entries_in w i b))))
-      (omega (arith, more-used, taken_free (entry_in w b (w * i)) (eq-eqb (entry_in w b (w * i)).kind 0 f)))
+      more-good N
+      ∙ rw (zero-good N (entry_in w b (w * i)) z, free-apart (entry_in w b (w * i)) (zero-free N (entry_in w b (w * i)) z) (entries_in w i b), and-true (table_good N (entries_in w i b)))
 
-pub zero-less : (w i at : ℕ) (b : List ℕ) → 0 < i → at ≡ w * (i - 1) → is_zero (entry_in w b at) ≡ true → (N : ℕ) → judged N (entries_in w i b) ≡ judged N (entries_in w (i - 1) b)
+pub zero-less : (w i at : ℕ) (b : List ℕ) → 0 < i → at ≡ w * (i - 1) → is_zero (entry_in w b at) ≡ true → (N : ℕ) → table_good N (entries_in w i b) ≡ table_good N (entries_in w (i - 1) b)
 zero-less w i at b h q z N =
     let e : i ≡ (i - 1) + 1 = omega arith in
-    ap (λ (n : ℕ). judged N (entries_in w n b)) e ∙ zero_more w (i - 1) b (ap (λ (n : ℕ). is_zero (entry_in w b n)) (sym q) ∙ z) N
+    ap (λ (n : ℕ). table_good N (entries_in w n b)) e ∙ zero_more w (i - 1) b (ap (λ (n : ℕ). is_zero (entry_in w b n)) (sym q) ∙ z) N
 
 -- ---- a rule of one, of the entries before a byte
 
@@ -282,50 +270,39 @@ two-told e t r p q =
 all-follow : (p q : Entry → Bool) → ((e : Entry) → p e ≡ true → q e ≡ true) → (t : List Entry) → every p t ≡ true → every q t ≡ true
 all-follow p q f t h = every-from q t free_entry λ (i : ℕ) (l : i < length t). f (get_or t i free_entry) (every-get_or p t i free_entry h l)
 
--- ---- a table tested from its front: the entries before a byte keep every rule, end by a sector, and take so many with sector 0
+-- ---- a table tested from its front: the entries before a byte keep every rule, and end by a sector
 
-pub record Passed (w N : ℕ) (b : List ℕ) (s k at : ℕ) : Type 0 where
+pub record Passed (w N : ℕ) (b : List ℕ) (s at : ℕ) : Type 0 where
   pub row : ℕ
   pub place : at ≡ w * row
   pub good : table_good N (entries_in w row b) ≡ true
   pub ended : every (ends_by s) (entries_in w row b) ≡ true
-  pub summed : k ≡ 1 + sectors_used (entries_in w row b)
 
 module _ (w N : ℕ) (b : List ℕ) where
-  pub passed_none : Passed w N b 0 1 0
-  unfolding entries_in row_in every pairwise sectors_used
-  passed_none = record { row = 0; place = omega arith; good = grouped N []; ended = refl; summed = refl }
+  pub passed_none : Passed w N b 0 0
+  unfolding entries_in row_in every pairwise
+  passed_none = record { row = 0; place = omega arith; good = grouped N []; ended = refl }
 
-  module _ (s k at : ℕ) (o : Passed w N b s k at) where
-    on : (s' k' : ℕ) → s ≤ s' → k' ≡ k + sectors_taken (entry_in w b at)
-        → entry_good N (entry_in w b at) ≡ true → every (λ a. two_good a (entry_in w b at)) (entries_in w o.row b) ≡ true → ends_by s' (entry_in w b at) ≡ true
-        → Passed w N b s' k' (at + w)
-    on s' k' l m g t e = record {
+  module _ (s at : ℕ) (o : Passed w N b s at) where
+    on : (s' : ℕ) → s ≤ s' → entry_good N (entry_in w b at) ≡ true → every (λ a. two_good a (entry_in w b at)) (entries_in w o.row b) ≡ true → ends_by s' (entry_in w b at) ≡ true
+        → Passed w N b s' (at + w)
+    on s' l g t e = record {
       row = o.row + 1;
       place = omega (arith, o.place, one_on w o.row);
       good = more-good w o.row b N ∙ rw (sym o.place, o.good, g, t);
       ended = more-every w o.row b (ends_by s') ∙ rw (sym o.place, all-follow (ends_by s) (ends_by s') (λ (x : Entry) (h : ends_by s x ≡ true). ends_on s s' x l h) (entries_in w o.row b) o.ended, e);
-      summed = omega (arith, m, o.summed, ap (λ (n : ℕ). sectors_taken (entry_in w b n)) o.place, more-used w o.row b);
     }
 
-    pub passed-zero : is_zero (entry_in w b at) ≡ true → (s' k' : ℕ) → s' ≡ s → k' ≡ k → Passed w N b s' k' (at + w)
-    passed-zero z s' k' q r =
+    pub passed-zero : is_zero (entry_in w b at) ≡ true → (s' : ℕ) → s' ≡ s → Passed w N b s' (at + w)
+    passed-zero z s' q =
         let f = zero-free N (entry_in w b at) z in
-        let free : is_free (entry_in w b at) ≡ true = eq-eqb (entry_in w b at).kind 0 f in
-        on s' k' (omega arith) (omega (arith, r, taken_free (entry_in w b at) free)) (zero-good N (entry_in w b at) z) (free-apart (entry_in w b at) f (entries_in w o.row b)) (rw free)
+        on s' (omega arith) (zero-good N (entry_in w b at) z) (free-apart (entry_in w b at) f (entries_in w o.row b)) (rw (eq-eqb (entry_in w b at).kind 0 f))
 
-    pub passed-used : is_zero (entry_in w b at) ≡ false → entry_good N (entry_in w b at) ≡ true
-        → (r : Bool) → ((i : ℕ) → at ≡ w * i → r ≡ every (λ a. two_good a (entry_in w b at)) (entries_in w i b)) → r ≡ true
-        → (end s' : ℕ) → end ≡ word_at b (at + 12) + word_at b (at + 14) → s' ≡ max s end → (x k' : ℕ) → x ≡ word_at b (at + 14) → k' ≡ k + x
-        → Passed w N b s' k' (at + w)
+    pub passed-used : entry_good N (entry_in w b at) ≡ true → (r : Bool) → ((i : ℕ) → at ≡ w * i → r ≡ every (λ a. two_good a (entry_in w b at)) (entries_in w i b)) → r ≡ true
+        → (end s' : ℕ) → end ≡ word_at b (at + 12) + word_at b (at + 14) → s' ≡ max s end → Passed w N b s' (at + w)
     unfolding entry_in
-    passed-used z g r t q end s' m n x k' v p =
-        let u : sectors_taken (entry_in w b at) ≡ word_at b (at + 14) = taken-used (entry_in w b at) (ne_eqb (entry_in w b at).kind 0 (good-used N (entry_in w b at) z g)) in
-        on s' k' (omega arith) (omega arith) g (sym (t o.row o.place) ∙ q) (rw (sym m, le-leb end s' (omega arith), or-true (is_free (entry_in w b at))))
-
-    -- files that share no sector take no more than there are
-    pub passed-sum : k ≤ 1 + (N - 1)
-    passed-sum = omega (arith, o.summed, good-fits N (entries_in w o.row b) o.good)
+    passed-used g r t q end s' m n =
+        on s' (omega arith) g (sym (t o.row o.place) ∙ q) (rw (sym m, le-leb end s' (omega arith), or-true (is_free (entry_in w b at))))
 
     -- those before it share no sector with one that begins behind them
     pub passed-behind : (i : ℕ) → at ≡ w * i → 0 < w → s ≤ word_at b (at + 12) → every (λ a. extents_apart a (entry_in w b at)) (entries_in w i b) ≡ true
@@ -344,20 +321,18 @@ module _ (w N : ℕ) (b : List ℕ) where
       here h = row_before w o.row n (omega (arith, o.place))
 
       -- one that breaks a rule of one, and one that breaks a rule of two
-      pub passed-one : at < w * n → entry_good N (entry_in w b at) ≡ false → Bad ≡ judged N (entries_in w n b)
+      pub passed-one : at < w * n → entry_good N (entry_in w b at) ≡ false → false ≡ table_good N (entries_in w n b)
       passed-one h e =
-          sym (bad-judged N (entries_in w n b) (grouped N (entries_in w n b) ∙ front-one (entry_good N) two_good (entries_in w n b) o.row free_entry (omega (arith, length-entries w n b, here h))
-          (ap (entry_good N) (entry-is w n b o.row at (here h) o.place) ∙ e)))
+          sym (grouped N (entries_in w n b) ∙ front-one (entry_good N) two_good (entries_in w n b) o.row free_entry (omega (arith, length-entries w n b, here h))
+          (ap (entry_good N) (entry-is w n b o.row at (here h) o.place) ∙ e))
 
       pub passed-two : at < w * n → (r : Bool) → ((i : ℕ) → at ≡ w * i → r ≡ every (λ a. two_good a (entry_in w b at)) (entries_in w i b)) → r ≡ false
-          → Bad ≡ judged N (entries_in w n b)
+          → false ≡ table_good N (entries_in w n b)
       passed-two h r t q =
-          sym (bad-judged N (entries_in w n b) (grouped N (entries_in w n b) ∙ front-some (entry_good N) two_good (entries_in w n b) o.row free_entry (omega (arith, length-entries w n b, here h))
-          (rw (entry-is w n b o.row at (here h) o.place, first-entries w n b o.row (omega (arith, here h))) (sym (t o.row o.place) ∙ q))))
+          sym (grouped N (entries_in w n b) ∙ front-some (entry_good N) two_good (entries_in w n b) o.row free_entry (omega (arith, length-entries w n b, here h))
+          (rw (entry-is w n b o.row at (here h) o.place, first-entries w n b o.row (omega (arith, here h))) (sym (t o.row o.place) ∙ q)))
 
-      pub passed-whole : 0 < w → w * n ≤ at → at ≤ w * n → (free : ℕ) → free ≡ N - k → Good free ≡ judged N (entries_in w n b)
-      unfolding free_sectors
-      passed-whole p h l free f =
+      pub passed-whole : 0 < w → w * n ≤ at → at ≤ w * n → true ≡ table_good N (entries_in w n b)
+      passed-whole p h k =
           let e : o.row ≡ n = omega (arith, row_upto w o.row n p (omega (arith, o.place)), row_upto w n o.row p (omega (arith, o.place))) in
-          let v : free ≡ N - 1 - sectors_used (entries_in w o.row b) = omega (arith, o.summed) in
-          sym (ap (λ (m : ℕ). judged N (entries_in w m b)) (sym e) ∙ good-judged N (entries_in w o.row b) o.good ∙ ap Good (sym v))
+          sym (ap (λ (m : ℕ). table_good N (entries_in w m b)) (sym e) ∙ o.good)

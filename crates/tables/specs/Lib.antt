@@ -1,4 +1,3 @@
 pub mod Numbers
 pub mod Rows
 pub mod Tables
-pub mod Judged

@@ -1,14 +1,13 @@
 // A table of entries in lent bytes, judged and searched where it lies: n entries of 20 bytes, as on an image, or of 22, whose count is two words.
 // Fields: name 8, kind 2, length 2, first 2, sectors 2, count 2 or 4, flags 2; high byte first.
-ghost use Rattle.std.specs.Prelude.{◌≡◌, true, false, ◌&&◌, [], ◌∷◌, ℕ, ◌+◌, ◌-◌, ◌*◌, ◌/◌, ◌%◌, ◌≤◌, max, length};
+ghost use Rattle.std.specs.Prelude.{◌≡◌, true, false, ◌&&◌, [], ◌∷◌, ℕ, ◌+◌, ◌*◌, ◌/◌, ◌%◌, ◌≤◌, max, length};
 ghost use Rattle.geometry.specs.Bytes.{part, padded, word_at};
 ghost use Rattle.geometry.specs.Lists.{every};
 ghost use Rattle.directory.specs.Entries.{entry_at};
-ghost use Rattle.directory.specs.Rules.{names_differ, extents_apart};
+ghost use Rattle.directory.specs.Rules.{names_differ, extents_apart, table_good};
 ghost use Rattle.directory.specs.Grouped.{is_zero, entry_good, two_good};
 ghost use Rattle.directory.specs.Search.{told, find};
 ghost use Rattle.tables.specs.Numbers.{long_at, number_in};
-ghost use Rattle.tables.specs.Judged.{judged, judged_in};
 ghost use Rattle.tables.specs.Tables.{Wide, has_rows, count_at, entry_in, entries_in, table_in};
 
 use directory::{Entry, Found, free_entry};
@@ -16,13 +15,6 @@ use geometry::Geometry;
 use moving::turned;
 use names::is_name;
 use vetting::used_good;
-
-// What judging a table tells: that it keeps every rule of a directory but the decoding one, and then how many sectors are free.
-#[derive(Drop)]
-pub enum Judged {
-    Good(u32),
-    Bad,
-}
 
 // The widths of an entry in bytes.
 #[derive(Drop)]
@@ -279,10 +271,10 @@ fn two_good(b: &[u8], width: usize, end: usize, behind: u32) -> bool
 
 // ---- the table
 
-// How many entries there are up to the last that is not zero: those behind it break no rule and take no sector.
+// How many entries there are up to the last that is not zero: those behind it break no rule.
 fn rows_in_use(b: &[u8], width: usize, rows: usize) -> usize
     requires { Wide width × (width * rows ≤ length b.now) }
-    ensures { (result ≤ rows) × ((N : ℕ) → judged N (entries_in width rows b.now) ≡ judged N (entries_in width result b.now)) }
+    ensures { (result ≤ rows) × ((N : ℕ) → table_good N (entries_in width rows b.now) ≡ table_good N (entries_in width result b.now)) }
 {
     let mut i = rows;
     let mut at = width * rows;
@@ -303,48 +295,39 @@ fn greatest(a: u32, b: u32) -> u32
     if a <= b { b } else { a }
 }
 
-// The first less the second, and nothing where that is more.
-fn less(a: u32, b: u32) -> u32
-    ensures { result ≡ a - b }
-{
-    if b <= a { a - b } else { 0 }
-}
-
-// Judges so many entries, in an image of n sectors. Sector 0, which is the directory's, and the sectors of each are summed on the way.
-fn judge_rows(b: &[u8], width: usize, rows: usize, n: u32) -> Judged
+// Whether so many entries keep every rule of a directory but the decoding one, in an image of n sectors.
+fn rows_good(b: &[u8], width: usize, rows: usize, n: u32) -> bool
     requires { Wide width × (width * rows ≤ length b.now) }
-    ensures { result ≡ judged n (entries_in width rows b.now) }
+    ensures { result ≡ table_good n (entries_in width rows b.now) }
 {
     let used = rows_in_use(b, width, rows);
     let end = width * used;
     let mut behind: u32 = 0;
-    let mut taken: u32 = 1;
     let mut at: usize = 0;
     while at < end {
         if !is_zero(b, width, at) {
             if !used_row(b, width, at, n) {
-                return Judged::Bad;
+                return false;
             }
             if !two_good(b, width, at, behind) {
-                return Judged::Bad;
+                return false;
             }
             behind = greatest(behind, end_in(b, at));
-            taken += word_in(b, at + 14) as u32;
         }
         at += width;
     }
-    Judged::Good(less(n, taken))
+    true
 }
 
-// Judges the table of so many entries of that width that bytes hold, in an image of so many sectors.
+// Whether bytes hold a table of so many entries of that width that keeps every rule of a directory but the decoding one, in an image of so many sectors.
 // Bytes with no room for it hold none, and there is none of a width but 20 and 22.
-pub fn judge_table(b: &[u8], width: usize, rows: usize, sectors: u32) -> Judged
-    ensures { result ≡ judged_in width rows sectors b.now }
+pub fn table_good(b: &[u8], width: usize, rows: usize, sectors: u32) -> bool
+    ensures { result ≡ (has_rows width rows b.now && table_good sectors (entries_in width rows b.now)) }
 {
     if has_rows(b, width, rows) {
-        judge_rows(b, width, rows, sectors)
+        rows_good(b, width, rows, sectors)
     } else {
-        Judged::Bad
+        false
     }
 }
 

@@ -17,8 +17,7 @@ use Rattle.directory.specs.declared.Entry.{Entry}
 use Rattle.directory.specs.declared.Found.{Found}
 use Rattle.tables.specs.Tables.{two_words_wide}
 use Rattle.tables.specs.Tables as Tables
-use Rattle.storing.specs.Stored.{has_buffers, is_session, lent_session, free_in}
-use Rattle.storing.proofs.Figure.{figure-is, figure-none}
+use Rattle.storing.specs.Stored.{has_buffers, is_session}
 use Rattle.texts.specs.Texts.{spelled, Wrote}
 use Rattle.finding.proofs.Lent.{lent-table}
 use Rattle.telling.specs.Told.{found, field_of, field_in, words, words_of}
@@ -55,13 +54,6 @@ module _ (b : List ℕ) (u s : Bool) (pu : u ≡ has_buffers b) (ps : s ≡ is_s
         let z : is_session (has_buffers b) b ≡ true = told-session ∙ t in
         h ∙ ap (λ (x : Entry). field_of x k) (p ∙ ap (λ (table : List Entry). entry_at table i) (sym (lent-table b z)))
         ∙ sym (chosen (is_session (has_buffers b) b) _ _ z)
-
-  -- the free sectors that it says
-  pub no-figure : s ≡ false → 0 ≡ (lent_session b).says.free
-  no-figure t = sym (figure-none (has_buffers b) b (told-session ∙ t))
-
-  pub figure-told : s ≡ true → (n : ℕ) → n ≡ free_in b → n ≡ (lent_session b).says.free
-  figure-told t n p = p ∙ figure-is (has_buffers b) b (told-session ∙ t)
 
 -- ---- the fields of an entry
 

@@ -1,7 +1,6 @@
-// What a caller is told besides the answers to requests: an entry by its name, a field of an entry, the free sectors, the words of an answer's number.
+// What a caller is told besides the answers to requests: an entry by its name, a field of an entry, the words of an answer's number.
 ghost use Rattle.std.specs.Prelude.{◌≡◌, get_or};
 ghost use Rattle.geometry.specs.Bytes as Bytes;
-ghost use Rattle.storing.specs.Stored.{lent_session};
 ghost use Rattle.texts.specs.Texts.{Wrote};
 ghost use Rattle.telling.specs.Told.{found, field_of, field_in, words_of, all_words};
 
@@ -9,7 +8,7 @@ use directory::{Entry, Found};
 use geometry::Geometry;
 use knowing::is_session;
 use moving::part;
-use storing::{free_in, has_buffers};
+use storing::has_buffers;
 use tables::{Width, entry_in, search_in};
 use texts::put_all;
 
@@ -59,14 +58,6 @@ pub fn field_in(b: &[u8], i: usize, field: u16) -> u32
     } else {
         0
     }
-}
-
-// The free sectors that the session stores; 0 where the bytes are none.
-pub fn free_told(b: &[u8]) -> u16
-    ensures { result ≡ (lent_session b.now).says.free }
-{
-    let known = is_session(b, has_buffers(b));
-    if known { free_in(b) } else { 0 }
 }
 
 // ---- answers in words

@@ -1,11 +1,11 @@
--- `calling::mount` meets its contract: the table of an image that mounts, or one with no used entry; bytes of another number stay.
+-- The table of an image that mounts, or one with no used entry; bytes of another number stay.
 use Rattle.calling.proofs.Mounted.{mount-done, mount-bad, mount-leaves, mount-none}
 use borrow.Author.Rules.{rules}
 use Rattle.calling.proofs.mount.Statement.{statement}
 use Rattle.calling.proofs.mount.Tie as tie
 
-start-saying-requires : tie.Need-start-saying-requires
-start-saying-requires c κs = search rules
+mounts-requires : tie.Need-mounts-requires
+mounts-requires c κs = search rules
 
 put-start-requires : tie.Need-put-start-requires
 put-start-requires c κs = search rules
@@ -16,7 +16,7 @@ same_length c = search rules
 returns : tie.Need-returns
 returns c =
     let a = c.before.before.before.before.before.before.before.before.before.args in
-    (mount-bad a.image.now a.session.now c.before.before.before.before.before.before.if1.true _ c.before.before.before.before.before.start-saying.ensures c.if2.true, mount-leaves a.image.now a.session.now c.before.before.before.before.before.before.if1.true _ c.before.before.before.before.before.start-saying.ensures _ c.before.before.before.put-start.ensures)
+    (mount-done a.image.now a.session.now c.before.before.before.before.before.before.if1.true _ c.before.before.before.before.before.mounts.ensures c.if2.true, mount-leaves a.image.now a.session.now c.before.before.before.before.before.before.if1.true _ c.before.before.before.before.before.mounts.ensures _ c.before.before.before.put-start.ensures)
 
 same-length-2 : tie.Need-same-length-2
 same-length-2 c = search rules
@@ -24,7 +24,7 @@ same-length-2 c = search rules
 returns-2 : tie.Need-returns-2
 returns-2 c =
     let a = c.before.before.before.before.before.before.before.before.before.args in
-    (mount-done a.image.now a.session.now c.before.before.before.before.before.before.if1.true _ c.before.before.before.before.before.start-saying.ensures c.if2.false, mount-leaves a.image.now a.session.now c.before.before.before.before.before.before.if1.true _ c.before.before.before.before.before.start-saying.ensures _ c.before.before.before.put-start.ensures)
+    (mount-bad a.image.now a.session.now c.before.before.before.before.before.before.if1.true _ c.before.before.before.before.before.mounts.ensures c.if2.false, mount-leaves a.image.now a.session.now c.before.before.before.before.before.before.if1.true _ c.before.before.before.before.before.mounts.ensures _ c.before.before.before.put-start.ensures)
 
 returns-3 : tie.Need-returns-3
 returns-3 c =
@@ -35,7 +35,7 @@ pub mount-spec : {M : Type 1} → statement M
 mount-spec =
     tie.close
     (tie.spec
-    start-saying-requires
+    mounts-requires
     put-start-requires
     same_length
     returns

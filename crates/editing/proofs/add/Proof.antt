@@ -4,7 +4,7 @@ use Prim.Native.Nat.{ℕ}
 use native.Mathlib.Omega.{arith}
 use borrow.Author.Tests.{not-true, not-false}
 use Rattle.editing.proofs.Lent.{legal-told}
-use Rattle.editing.proofs.Adding.{few, from-refused, unnamed, misshapen, in_use, none_free, no_room, eight, enough, added}
+use Rattle.editing.proofs.Adding.{few, from-refused, unnamed, misshapen, in_use, none_free, no_room, eight, added}
 use borrow.Author.Rules.{rules}
 use Rattle.editing.proofs.add.Statement.{statement}
 use Rattle.editing.proofs.add.Tie as tie
@@ -88,23 +88,11 @@ returns-6 c =
     let a = c.before.before.before.before.before.before.before.before.before.before.before.before.before.before.before.before.before.before.before.before.before.args in
     λ i. no_room a.image.now a.session.now c.before.before.before.before.before.before.before.before.before.before.before.before.before.before.before.before.before.before.before.before.before.requires a.kind a.length a.sectors a.name.now i a.at.now _ c.before.before.before.before.before.before.before.before.before.before.before.before.before.before.before.before.says-refused.ensures c.before.before.before.before.before.before.before.before.before.before.before.before.before.before.before.if1.false _ c.before.before.before.before.before.before.before.before.before.before.before.before.before.before.is-named.ensures (not-false _ c.before.before.before.before.before.before.before.before.before.before.before.before.before.if2.false) _ c.before.before.before.before.before.before.before.before.before.before.before.before.shape-good.ensures (not-false _ c.before.before.before.before.before.before.before.before.before.before.before.if3.false) _ c.before.before.before.before.before.before.before.before.before.is-taken.ensures c.before.before.before.before.before.before.before.before.if4.false _ c.before.before.before.before.before.before.lowest-free.ensures (omega (arith, c.before.before.before.before.before.if5.false)) _ c.before.before.before.sectors-of.ensures _ c.before.lowest-gap.ensures (omega (arith, c.if6.true))
 
-free-in-requires : tie.Need-free-in-requires
-free-in-requires c κs = search rules
-
-sub-free : tie.Need-overflow-sub-free
-sub-free c =
-    let a = c.before.before.before.before.before.before.before.before.before.before.before.before.before.before.before.before.before.before.before.before.before.before.before.args in
-    let i : ℕ = 0 in
-    omega (arith, c.Free-in.ensures, enough a.image.now a.session.now c.before.before.before.before.before.before.before.before.before.before.before.before.before.before.before.before.before.before.before.before.before.before.before.requires a.kind a.length a.sectors a.name.now i a.at.now _ c.before.before.before.before.before.before.before.before.before.before.before.before.before.before.before.before.before.before.says-refused.ensures c.before.before.before.before.before.before.before.before.before.before.before.before.before.before.before.before.before.if1.false _ c.before.before.before.before.before.before.before.before.before.before.before.before.before.before.before.before.is-named.ensures (not-false _ c.before.before.before.before.before.before.before.before.before.before.before.before.before.before.before.if2.false) _ c.before.before.before.before.before.before.before.before.before.before.before.before.before.before.shape-good.ensures (not-false _ c.before.before.before.before.before.before.before.before.before.before.before.before.before.if3.false) _ c.before.before.before.before.before.before.before.before.before.before.before.is-taken.ensures c.before.before.before.before.before.before.before.before.before.before.if4.false _ c.before.before.before.before.before.before.before.before.lowest-free.ensures (omega (arith, c.before.before.before.before.before.before.before.if5.false)) _ c.before.before.before.before.before.sectors-of.ensures _ c.before.before.before.lowest-gap.ensures (omega (arith, c.before.before.if6.false)))
-
-put-free-requires : tie.Need-put-free-requires
-put-free-requires c κs = search rules
-
 put-file-requires : tie.Need-put-file-requires
 put-file-requires c κs =
-    let a = c.before.before.before.before.before.before.before.before.before.before.before.before.before.before.before.before.before.before.before.before.before.before.before.before.before.before.before.before.before.args in
+    let a = c.before.before.before.before.before.before.before.before.before.before.before.before.before.before.before.before.before.before.before.before.before.before.before.args in
     let i : ℕ = 0 in
-    (eight a.image.now a.session.now c.before.before.before.before.before.before.before.before.before.before.before.before.before.before.before.before.before.before.before.before.before.before.before.before.before.before.before.before.before.requires a.kind a.length a.sectors a.name.now i a.at.now _ c.before.before.before.before.before.before.before.before.before.before.before.before.before.before.before.before.before.before.before.before.before.before.before.before.says-refused.ensures c.before.before.before.before.before.before.before.before.before.before.before.before.before.before.before.before.before.before.before.before.before.before.before.if1.false _ c.before.before.before.before.before.before.before.before.before.before.before.before.before.before.before.before.before.before.before.before.before.before.is-named.ensures (not-false _ c.before.before.before.before.before.before.before.before.before.before.before.before.before.before.before.before.before.before.before.before.before.if2.false) _ c.before.before.before.before.before.before.before.before.before.before.before.before.before.before.before.before.before.before.before.before.shape-good.ensures (not-false _ c.before.before.before.before.before.before.before.before.before.before.before.before.before.before.before.before.before.before.before.if3.false) _ c.before.before.before.before.before.before.before.before.before.before.before.before.before.before.before.before.before.is-taken.ensures c.before.before.before.before.before.before.before.before.before.before.before.before.before.before.before.before.if4.false _ c.before.before.before.before.before.before.before.before.before.before.before.before.before.before.lowest-free.ensures (omega (arith, c.before.before.before.before.before.before.before.before.before.before.before.before.before.if5.false)) _ c.before.before.before.before.before.before.before.before.before.before.before.sectors-of.ensures _ c.before.before.before.before.before.before.before.before.before.lowest-gap.ensures, omega (arith, few a.image.now a.session.now c.before.before.before.before.before.before.before.before.before.before.before.before.before.before.before.before.before.before.before.before.before.before.before.before.before.before.before.before.before.requires, c.before.before.before.before.before.before.before.before.if6.false, c.before.before.before.before.before.before.before.before.before.before.before.sectors-of.ensures))
+    (eight a.image.now a.session.now c.before.before.before.before.before.before.before.before.before.before.before.before.before.before.before.before.before.before.before.before.before.before.before.requires a.kind a.length a.sectors a.name.now i a.at.now _ c.before.before.before.before.before.before.before.before.before.before.before.before.before.before.before.before.before.before.says-refused.ensures c.before.before.before.before.before.before.before.before.before.before.before.before.before.before.before.before.before.if1.false _ c.before.before.before.before.before.before.before.before.before.before.before.before.before.before.before.before.is-named.ensures (not-false _ c.before.before.before.before.before.before.before.before.before.before.before.before.before.before.before.if2.false) _ c.before.before.before.before.before.before.before.before.before.before.before.before.before.before.shape-good.ensures (not-false _ c.before.before.before.before.before.before.before.before.before.before.before.before.before.if3.false) _ c.before.before.before.before.before.before.before.before.before.before.before.is-taken.ensures c.before.before.before.before.before.before.before.before.before.before.if4.false _ c.before.before.before.before.before.before.before.before.lowest-free.ensures (omega (arith, c.before.before.before.before.before.before.before.if5.false)) _ c.before.before.before.before.before.sectors-of.ensures _ c.before.before.before.lowest-gap.ensures, omega (arith, few a.image.now a.session.now c.before.before.before.before.before.before.before.before.before.before.before.before.before.before.before.before.before.before.before.before.before.before.before.requires, c.before.before.if6.false, c.before.before.before.before.before.sectors-of.ensures))
 
 same-length-8 : tie.Need-same-length-8
 same-length-8 c = search rules
@@ -114,8 +102,8 @@ same-length-9 c = search rules
 
 returns-7 : tie.Need-returns-7
 returns-7 c =
-    let a = c.before.before.before.before.before.before.before.before.before.before.before.before.before.before.before.before.before.before.before.before.before.before.before.before.before.before.before.before.before.before.before.before.before.before.args in
-    λ i. added a.image.now a.session.now c.before.before.before.before.before.before.before.before.before.before.before.before.before.before.before.before.before.before.before.before.before.before.before.before.before.before.before.before.before.before.before.before.before.before.requires a.kind a.length a.sectors a.name.now i a.at.now _ c.before.before.before.before.before.before.before.before.before.before.before.before.before.before.before.before.before.before.before.before.before.before.before.before.before.before.before.before.before.says-refused.ensures c.before.before.before.before.before.before.before.before.before.before.before.before.before.before.before.before.before.before.before.before.before.before.before.before.before.before.before.before.if1.false _ c.before.before.before.before.before.before.before.before.before.before.before.before.before.before.before.before.before.before.before.before.before.before.before.before.before.before.before.is-named.ensures (not-false _ c.before.before.before.before.before.before.before.before.before.before.before.before.before.before.before.before.before.before.before.before.before.before.before.before.before.before.if2.false) _ c.before.before.before.before.before.before.before.before.before.before.before.before.before.before.before.before.before.before.before.before.before.before.before.before.before.shape-good.ensures (not-false _ c.before.before.before.before.before.before.before.before.before.before.before.before.before.before.before.before.before.before.before.before.before.before.before.before.if3.false) _ c.before.before.before.before.before.before.before.before.before.before.before.before.before.before.before.before.before.before.before.before.before.before.is-taken.ensures c.before.before.before.before.before.before.before.before.before.before.before.before.before.before.before.before.before.before.before.before.before.if4.false _ c.before.before.before.before.before.before.before.before.before.before.before.before.before.before.before.before.before.before.before.lowest-free.ensures (omega (arith, c.before.before.before.before.before.before.before.before.before.before.before.before.before.before.before.before.before.before.if5.false)) _ c.before.before.before.before.before.before.before.before.before.before.before.before.before.before.before.before.sectors-of.ensures _ c.before.before.before.before.before.before.before.before.before.before.before.before.before.before.lowest-gap.ensures (omega (arith, c.before.before.before.before.before.before.before.before.before.before.before.before.before.if6.false)) c.before.before.before.before.put-file.ensures.2 _ c.before.before.before.before.before.before.before.before.before.before.before.Free-in.ensures _ _ _ c.before.before.before.before.before.before.before.before.before.put-free.ensures c.before.before.before.before.put-file.ensures.0 c.before.before.before.before.put-file.ensures.1
+    let a = c.before.before.before.before.before.before.before.before.before.before.before.before.before.before.before.before.before.before.before.before.before.before.before.before.before.before.before.before.args in
+    λ i. added a.image.now a.session.now c.before.before.before.before.before.before.before.before.before.before.before.before.before.before.before.before.before.before.before.before.before.before.before.before.before.before.before.before.requires a.kind a.length a.sectors a.name.now i a.at.now _ c.before.before.before.before.before.before.before.before.before.before.before.before.before.before.before.before.before.before.before.before.before.before.before.says-refused.ensures c.before.before.before.before.before.before.before.before.before.before.before.before.before.before.before.before.before.before.before.before.before.before.if1.false _ c.before.before.before.before.before.before.before.before.before.before.before.before.before.before.before.before.before.before.before.before.before.is-named.ensures (not-false _ c.before.before.before.before.before.before.before.before.before.before.before.before.before.before.before.before.before.before.before.before.if2.false) _ c.before.before.before.before.before.before.before.before.before.before.before.before.before.before.before.before.before.before.before.shape-good.ensures (not-false _ c.before.before.before.before.before.before.before.before.before.before.before.before.before.before.before.before.before.before.if3.false) _ c.before.before.before.before.before.before.before.before.before.before.before.before.before.before.before.before.is-taken.ensures c.before.before.before.before.before.before.before.before.before.before.before.before.before.before.before.if4.false _ c.before.before.before.before.before.before.before.before.before.before.before.before.before.lowest-free.ensures (omega (arith, c.before.before.before.before.before.before.before.before.before.before.before.before.if5.false)) _ c.before.before.before.before.before.before.before.before.before.before.sectors-of.ensures _ c.before.before.before.before.before.before.before.before.lowest-gap.ensures (omega (arith, c.before.before.before.before.before.before.before.if6.false)) c.before.before.before.before.put-file.ensures.2 _ _ c.before.before.before.before.put-file.ensures.0 c.before.before.before.before.put-file.ensures.1
 
 pub add_spec : {M : Type 1} → statement M
 add_spec =
@@ -142,9 +130,6 @@ add_spec =
     same-length-6
     same-length-7
     returns-6
-    free-in-requires
-    sub-free
-    put-free-requires
     put-file-requires
     same-length-8
     same-length-9

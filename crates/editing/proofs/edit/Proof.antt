@@ -1,7 +1,7 @@
 -- Not legal; or one of the two, on a session that is.
 use mathlib.Core.Path.{refl, sym, ◌∙◌}
 use borrow.Author.Tests.{not-true, not-false}
-use Rattle.editing.proofs.Lent.{unlawful-in, seen-lawful, seen_entry, seen-open, handed-as}
+use Rattle.editing.proofs.Lent.{unlawful-in, seen-lawful, seen-used, seen-open, handed-as}
 use borrow.Author.Rules.{rules}
 use Rattle.editing.proofs.edit.Statement.{statement}
 use Rattle.editing.proofs.edit.Tie as tie
@@ -33,8 +33,8 @@ enum_told c = search rules
 
 delete-requires : tie.Need-delete-requires
 delete-requires c κs =
-    let a = c.before.before.before.before.before.before.before.before.before.before.before.before.before.before.args in
-    (sym (seen-lawful a.image.now a.session.now a.i c.before.before.before.before.before.before.before.before.find-in.result c.before.before.before.before.before.before.before.before.find-in.ensures) ∙ not-false _ c.before.before.before.before.before.before.if1.false, (seen_entry a.image.now a.session.now a.i c.before.before.before.before.before.before.before.before.find-in.result c.before.before.before.before.before.before.before.before.find-in.ensures, seen-open a.image.now a.session.now a.i c.before.before.before.before.before.before.before.before.find-in.result c.before.before.before.before.before.before.before.before.find-in.ensures))
+    let a = c.before.before.before.before.before.before.before.before.before.before.before.before.before.before.before.args in
+    (sym (seen-lawful a.image.now a.session.now a.i c.before.before.before.before.before.before.before.before.before.find-in.result c.before.before.before.before.before.before.before.before.before.find-in.ensures) ∙ not-false _ c.before.before.before.before.before.before.before.if1.false, (seen-used a.image.now a.session.now a.i c.before.before.before.before.before.before.before.before.before.find-in.result c.before.before.before.before.before.before.before.before.before.find-in.ensures, seen-open a.image.now a.session.now a.i c.before.before.before.before.before.before.before.before.before.find-in.result c.before.before.before.before.before.before.before.before.before.find-in.ensures))
 
 same-length-3 : tie.Need-same-length-3
 same-length-3 c = search rules
@@ -55,8 +55,8 @@ same-length-6 c = search rules
 
 returns-3 : tie.Need-returns-3
 returns-3 c =
-    let a = c.before.before.before.before.before.before.before.before.before.before.before.before.before.before.before.before.before.before.before.args in
-    handed-as a.image.now a.session.now a.i a.x _ a.name.now c.before.before.before.before.before.before.before.before.before.enum_told.given.1 _ _ _ _ _ (c.before.before.before.before.delete.ensures a.name.now a.at.now)
+    let a = c.before.before.before.before.before.before.before.before.before.before.before.before.before.before.before.before.before.before.before.before.args in
+    handed-as a.image.now a.session.now a.i a.x _ a.name.now c.before.before.before.before.before.before.before.before.before.before.enum_told.given.1 _ _ _ _ _ (c.before.before.before.before.delete.ensures a.name.now a.at.now)
 
 pub edit-spec : {M : Type 1} → statement M
 edit-spec =

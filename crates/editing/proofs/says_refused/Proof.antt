@@ -1,4 +1,4 @@
--- The first byte of what a session says of itself says so.
+-- The last byte of a session says so.
 use native.Mathlib.Omega.{arith}
 use Rattle.editing.proofs.Adding.{said-there, said-is}
 use Rattle.editing.proofs.says_refused.Statement.{statement}

@@ -1,7 +1,7 @@
 -- The bytes that stand there, taken together.
 use Rattle.tables.specs.Numbers.{number_in}
 use mathlib.Core.Path.{sym, ap, ◌∙◌}
-use Rattle.tables.proofs.Numbers.{written}
+use Rattle.storing.proofs.Numbers.{written}
 use borrow.Author.Rules.{rules}
 use Rattle.finding.proofs.long_at.Statement.{statement}
 use Rattle.finding.proofs.long_at.Tie as tie

@@ -4,8 +4,7 @@ use mathlib.Core.Path.{◌≡◌}
 use mathlib.Core.Bool.{false}
 use native.Mathlib.Omega.{arith}
 use Rattle.tables.specs.Tables.{entries_in}
-use Rattle.directory.specs.Sectors.{is_taken}
-use Rattle.gaps.specs.Gaps.{stands_free}
+use Rattle.gaps.specs.Gaps.{is_taken, stands_free}
 use Rattle.gaps.proofs.Gaps.{stands-directory}
 use Rattle.gaps.proofs.Sweep.{swept-on, passed_on, rests, leaves}
 use Rattle.gaps.proofs.gap_in.Statement.{statement}

@@ -8,8 +8,7 @@ use Rattle.tables.specs.Rows.{row_in}
 use Rattle.tables.specs.Tables.{has_rows, entries_in}
 use Rattle.tables.proofs.Tables.{table_is, table_none}
 use Rattle.tables.proofs.Widths.{rows-wide, rows_fit}
-use Rattle.directory.specs.Sectors.{is_taken}
-use Rattle.gaps.specs.Gaps.{lowest_gap}
+use Rattle.gaps.specs.Gaps.{is_taken, lowest_gap}
 use borrow.Author.Rules.{rules}
 use Rattle.gaps.proofs.lowest_gap.Statement.{statement}
 use Rattle.gaps.proofs.lowest_gap.Tie as tie

@@ -1,4 +1,4 @@
--- The call that the row's code names, the number that it tells, and the free sectors behind it.
+-- The call that the row's code names, and the number that it tells.
 use mathlib.Core.Path.{sym}
 use Prim.Native.Nat.{◌%◌}
 use native.Mathlib.Omega.{arith}
@@ -14,9 +14,6 @@ cast-lleuadrys-delete c = search rules
 lleuadrys-delete-requires : tie.Need-lleuadrys-delete-requires
 lleuadrys-delete-requires c κs = search rules
 
-lleuadrys-free-sectors-requires : tie.Need-lleuadrys-free-sectors-requires
-lleuadrys-free-sectors-requires c κs = search rules
-
 edit-said-requires : tie.Need-edit-said-requires
 edit-said-requires c κs = search rules
 
@@ -28,8 +25,8 @@ same-length-2 c = search rules
 
 returns : tie.Need-returns
 returns c =
-    let a = c.before.before.before.before.before.before.before.before.before.before.before.before.before.before.before.before.args in
-    handed _ _ (deleting a.row a.given.now a.image.now a.session.now c.before.before.before.before.before.before.before.before.before.before.before.if1.true) _ _ _ _ _ _ c.before.before.before.before.before.before.before.lleuadrys-delete.ensures (sym (deletes-none a.image.now a.session.now a.row.entry _)) c.before.lleuadrys-free-sectors.ensures c.edit-said.ensures
+    let a = c.before.before.before.before.before.before.before.before.before.before.before.before.before.before.args in
+    handed _ _ (deleting a.row a.given.now a.image.now a.session.now c.before.before.before.before.before.before.before.before.before.if1.true) _ _ _ _ _ c.before.before.before.before.before.lleuadrys-delete.ensures (sym (deletes-none a.image.now a.session.now a.row.entry _)) c.edit-said.ensures
 
 cast-length : tie.Need-overflow-cast-length
 cast-length c = search rules
@@ -37,13 +34,10 @@ cast-length c = search rules
 lleuadrys-add-requires : tie.Need-lleuadrys-add-requires
 lleuadrys-add-requires c κs = search rules
 
-lleuadrys-free-sectors-requires-2 : tie.Need-lleuadrys-free-sectors-requires-2
-lleuadrys-free-sectors-requires-2 c κs = search rules
-
 cast-edit-said : tie.Need-overflow-cast-edit-said
 cast-edit-said c =
-    let a = c.before.before.before.before.before.before.before.before.before.before.before.before.before.before.before.before.before.args in
-    omega (arith, c.before.before.before.before.before.before.before.lleuadrys-add.ensures.1, adds-most a.image.now a.session.now 0 a.row.entry (a.row.granule % 65536) a.row.sectors a.given.now)
+    let a = c.before.before.before.before.before.before.before.before.before.before.before.before.before.before.before.args in
+    omega (arith, c.before.before.before.before.before.lleuadrys-add.ensures.1, adds-most a.image.now a.session.now 0 a.row.entry (a.row.granule % 65536) a.row.sectors a.given.now)
 
 edit-said-requires-2 : tie.Need-edit-said-requires-2
 edit-said-requires-2 c κs = search rules
@@ -56,8 +50,8 @@ same-length-4 c = search rules
 
 returns-2 : tie.Need-returns-2
 returns-2 c =
-    let a = c.before.before.before.before.before.before.before.before.before.before.before.before.before.before.before.before.before.before.args in
-    handed _ _ (adding a.row a.given.now a.image.now a.session.now c.before.before.before.before.before.before.before.before.before.before.before.before.before.if1.false) _ _ _ _ _ _ c.before.before.before.before.before.before.before.before.lleuadrys-add.ensures.0 c.before.before.before.before.before.before.before.before.lleuadrys-add.ensures.1 c.before.before.lleuadrys-free-sectors2.ensures c.edit-said2.ensures
+    let a = c.before.before.before.before.before.before.before.before.before.before.before.before.before.before.before.before.args in
+    handed _ _ (adding a.row a.given.now a.image.now a.session.now c.before.before.before.before.before.before.before.before.before.before.before.if1.false) _ _ _ _ _ c.before.before.before.before.before.before.lleuadrys-add.ensures.0 c.before.before.before.before.before.before.lleuadrys-add.ensures.1 c.edit-said2.ensures
 
 pub play-edit-spec : {M : Type 1} → statement M
 play-edit-spec =
@@ -65,14 +59,12 @@ play-edit-spec =
     (tie.spec
     cast-lleuadrys-delete
     lleuadrys-delete-requires
-    lleuadrys-free-sectors-requires
     edit-said-requires
     same_length
     same-length-2
     returns
     cast-length
     lleuadrys-add-requires
-    lleuadrys-free-sectors-requires-2
     cast-edit-said
     edit-said-requires-2
     same-length-3

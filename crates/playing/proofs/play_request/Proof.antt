@@ -16,9 +16,6 @@ sum-moved-requires c κs = search rules
 lleuadrys-position-requires : tie.Need-lleuadrys-position-requires
 lleuadrys-position-requires c κs = search rules
 
-lleuadrys-free-sectors-requires : tie.Need-lleuadrys-free-sectors-requires
-lleuadrys-free-sectors-requires c κs = search rules
-
 same_length : tie.Need-same-length
 same_length c = search rules
 
@@ -31,8 +28,8 @@ same-length-3 c = search rules
 returns : tie.Need-returns
 unfolding asked said_of
 returns c =
-    let e = c.before.before.before.before.before.before.before.before.before.before.before.before.before.before.before.lleuadrys-request.ensures in
-    (e, rw (c.before.before.before.before.before.sum_moved.ensures, c.before.before.lleuadrys-position.ensures.0, c.before.before.lleuadrys-position.ensures.1, c.lleuadrys-free-sectors.ensures, ← e))
+    let e = c.before.before.before.before.before.before.before.before.before.before.before.before.before.lleuadrys-request.ensures in
+    (e, rw (c.before.before.before.sum_moved.ensures, c.lleuadrys-position.ensures.0, c.lleuadrys-position.ensures.1, ← e))
 
 pub play-request-spec : {M : Type 1} → statement M
 play-request-spec =
@@ -42,7 +39,6 @@ play-request-spec =
     lleuadrys-request-requires
     sum-moved-requires
     lleuadrys-position-requires
-    lleuadrys-free-sectors-requires
     same_length
     same-length-2
     same-length-3

@@ -29,7 +29,7 @@ returns : tie.Need-returns
 unfolding spaced row_line
 returns c =
     let a = c.before.before.before.before.before.before.before.before.before.before.before.before.before.before.before.before.before.before.args in
-    rw (before (decimal a.p.sum) a.p.standing a.p.position a.p.free)
+    rw (before (decimal a.p.sum) a.p.standing a.p.position)
     (word-then (decimal a.n) 32 c.before.before.before.before.before.before.before.before.before.before.before.before.before.before.before.put-number.ensures
     (word-then (decimal a.p.number) 32 c.before.before.before.before.before.before.before.before.before.before.put-number2.ensures
     (word-then (decimal a.p.sum) 32 c.before.before.before.before.before.before.put-number3.ensures c.before.before.put-stand.ensures)))

@@ -1,10 +1,10 @@
--- `tables::rows_in_use` meets its contract: a last entry that is zero is left out, and as much is told of the table as with it.
+-- `tables::rows_in_use` meets its contract: a last entry that is zero is left out, and the table is as good as with it.
 use Prim.Native.Nat.{ℕ, ◌-◌, ◌*◌, ◌≤◌}
 use mathlib.Core.Path.{◌≡◌, refl, sym, ap, ◌∙◌}
 use native.Mathlib.Nat.{mul-le-mul_left}
 use native.Mathlib.Omega.{arith}
 use borrow.Author.Tests.{not-false}
-use Rattle.tables.specs.Judged.{judged}
+use Rattle.directory.specs.Rules.{table_good}
 use Rattle.tables.specs.Tables.{entries_in}
 use Rattle.tables.proofs.Widths.{one_less}
 use Rattle.tables.proofs.Tables.{zero-less}
@@ -12,7 +12,7 @@ use Rattle.tables.proofs.rows_in_use.Statement.{statement}
 use Rattle.tables.proofs.rows_in_use.Tie as tie
 
 abbrev invariant-loop : tie.invariant-loop
-invariant-loop b width rows i₀ at₀ i at = (i ≤ rows) × (at ≡ width * i) × ((N : ℕ) → judged N (entries_in width rows b) ≡ judged N (entries_in width i b))
+invariant-loop b width rows i₀ at₀ i at = (i ≤ rows) × (at ≡ width * i) × ((N : ℕ) → table_good N (entries_in width rows b) ≡ table_good N (entries_in width i b))
 
 abbrev decreases-loop : tie.decreases-loop
 decreases-loop b width rows i₀ at₀ i at = i
@@ -56,7 +56,7 @@ returns-2 c =
     let a = c.before.before.before.args in
     let l = c.before.loop in
     let z : l.i ≡ 0 = omega arith in
-    (omega arith, λ N. l.invariant.2 N ∙ ap (λ (n : ℕ). judged N (entries_in a.width n a.b.now)) z)
+    (omega arith, λ N. l.invariant.2 N ∙ ap (λ (n : ℕ). table_good N (entries_in a.width n a.b.now)) z)
 
 pub rows-in-use-spec : {M : Type 1} → statement M
 rows-in-use-spec =
