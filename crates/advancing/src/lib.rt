@@ -1,4 +1,6 @@
 // The state of a request's file in the lent bytes of a session, with buffers or with none: made ready before the request, and the next one laid behind it.
+#![tactic(auto)]
+
 ghost use Rattle.std.specs.Prelude.{◌≡◌};
 ghost use Rattle.storing.specs.Stored.{has_buffers};
 ghost use Rattle.advancing.specs.Advancing.{readied, lay_next};

@@ -1,4 +1,6 @@
 // The tests of a request, made one after another in document 01's order: the answer is the first that holds.
+#![tactic(auto)]
+
 ghost use Rattle.std.specs.Prelude.{◌≡◌, [], ◌∷◌};
 ghost use Rattle.requests.specs.Judge.{whether, or_else, first_of, judge, behind_code, is_full, not_legal, no_entry, not_open, not_sequential, not_random, odd_count, bad_size, bad_code, meets_mark, at_end, no_granule};
 ghost use Rattle.steps.specs.Next.{facts_but};

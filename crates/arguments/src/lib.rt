@@ -1,5 +1,7 @@
 // What the programs share: the files that their arguments name, and the line that tells an error. What a file gives and what is printed,
 // no contract can say.
+#![tactic(auto)]
+
 ghost use Rattle.io.specs.Counts.{IsPrefixLen};
 
 use libc::STDOUT_FILENO;

@@ -1,4 +1,6 @@
 // A request by its code, on a session in lent bytes.
+#![tactic(auto)]
+
 ghost use Rattle.std.specs.Prelude.{◌≡◌};
 ghost use Rattle.requests.specs.Codes.{asked_for};
 ghost use Rattle.asking.specs.Requested.{left, requested};

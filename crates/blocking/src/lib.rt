@@ -1,5 +1,7 @@
 // The blocking buffer: document 01's "The tape a file is". A file takes the sectors that it reads or changes into its buffer, which is lent: what one act does.
 // A buffer of another size than a sector's stays as it is, and nothing is put back from it.
+#![tactic(auto)]
+
 ghost use Rattle.std.specs.Prelude.{◌≡◌, ◌+◌, ◌-◌, ◌≤◌, length};
 ghost use Rattle.geometry.specs.Bytes.{part, padded};
 ghost use Rattle.geometry.specs.Sizes.{sector};

@@ -1,4 +1,6 @@
 // What a request answered 0 does in the engine with a blocking buffer for each open blocked or compressed file.
+#![tactic(auto)]
+
 ghost use Rattle.std.specs.Prelude.{◌≡◌};
 ghost use Rattle.blocking.specs.Blocking.{lent, scene};
 ghost use Rattle.held.specs.Held.{held_all};

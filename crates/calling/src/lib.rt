@@ -1,4 +1,6 @@
 // The calls from C that ask for no request, on a session in lent bytes: an image mounted, a granule looked at, where a file stands.
+#![tactic(auto)]
+
 ghost use Rattle.std.specs.Prelude.{◌≡◌, length};
 ghost use Rattle.sessions.specs.Session.{bare, spot_of};
 ghost use Rattle.storing.specs.Stored.{lent_session};

@@ -1,5 +1,7 @@
 // The files of cases that the second program writes: a case's header, its image, the patches of an image or a session, and the line that
 // tells which case it is. What a file gives and what is printed, no contract can say.
+#![tactic(auto)]
+
 ghost use Rattle.std.specs.Prelude.{◌<◌};
 
 use arguments::open_read;

@@ -1,4 +1,6 @@
 // EBCDIC and ASCII: document 02's item 4, "a full table of 256 bytes from EBCDIC to ASCII, and one of 256 back".
+#![tactic(auto)]
+
 ghost use Rattle.std.specs.Prelude.{◌≡◌, map, take};
 ghost use Rattle.texts.specs.Texts.{Wrote};
 ghost use Rattle.characters.specs.Characters.{ascii_of, ebcdic_of};

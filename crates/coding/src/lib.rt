@@ -1,4 +1,6 @@
 // Writing one compressed record: document 01's "Compressed records". The proofs have the round trip: what is written here reads back.
+#![tactic(auto)]
+
 ghost use Rattle.std.specs.Prelude.{◌≡◌, true, false, ◌∷◌, ◌+◌, ◌-◌, ◌<◌, ◌^◌, min, length, take, drop, get_or};
 ghost use Rattle.std.proofs.lemmas.List.Edits.{sets};
 ghost use Rattle.coding.specs.Encode.{gap_at, run_length, runs_code};

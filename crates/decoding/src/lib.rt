@@ -1,4 +1,6 @@
 // Reading one compressed record: document 01's "Compressed records". The reader is two functions that call each other, one for each sort of run.
+#![tactic(auto)]
+
 ghost use Rattle.std.specs.Prelude.{◌≡◌, ◌+◌, ◌≤◌, ◌<◌, length, drop, get_or};
 ghost use Rattle.geometry.specs.Sizes as Sizes;
 ghost use Rattle.decoding.specs.Decode.{decode_from, stopped, answer, given, Awaited, filled};

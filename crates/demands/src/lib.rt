@@ -1,1 +1,2 @@
 // The three demands, stated over an engine in specs/ and proved in proofs/. No function is here.
+#![tactic(auto)]

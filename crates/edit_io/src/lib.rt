@@ -1,5 +1,7 @@
 // What the editor takes from its arguments and what it prints: a file's name, kind and numbers as they are typed, and an answer. What an
 // argument says and what is printed, no contract can say.
+#![tactic(auto)]
+
 ghost use Rattle.io.specs.Counts.{IsPrefixLen};
 
 use arguments::{complain, save};

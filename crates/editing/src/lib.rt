@@ -1,5 +1,7 @@
 // The RAD Editor's ADD and DELETE on a session in lent bytes, in both engines: document 02's item 1. No edit looks at a buffer.
 // The tests of each stand in that document's order, and an edit ends at the first that holds.
+#![tactic(auto)]
+
 ghost use Rattle.std.specs.Prelude.{◌≡◌, true, not, List, ℕ, ◌≤◌};
 ghost use Rattle.std.proofs.Math.ListN as ListN;
 ghost use Rattle.geometry.specs.Bytes.{is_byte};

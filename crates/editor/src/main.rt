@@ -1,5 +1,7 @@
 // Adds a file to an image, or deletes one: editor add IMAGE NAME KIND LENGTH SECTORS OUT, editor delete IMAGE NAME OUT. docs/OPERATORS.md
 // says what is printed.
+#![tactic(auto)]
+
 ghost use Rattle.io.specs.Counts.{IsPrefixLen};
 
 use arguments::{Taken, read_image, says};

@@ -1,4 +1,6 @@
 // A request on a session in lent bytes, in both engines: the number of the bytes says which. One judgement serves both, and each moves bytes in its own way.
+#![tactic(auto)]
+
 ghost use Rattle.std.specs.Prelude.{◌≡◌, true, ◌<◌};
 ghost use Rattle.geometry.specs.Sizes.{most_open};
 ghost use Rattle.storing.specs.Stored.{has_buffers};

@@ -1,5 +1,7 @@
 // A session in lent bytes, judged and searched where it lies: no session is made of it.
 // States stand w bytes apart, with or without a buffer behind each: the first 30 bytes are the same.
+#![tactic(auto)]
+
 ghost use Rattle.std.specs.Prelude.{◌≡◌, true, false, not, [], ◌∷◌, ◌+◌, ◌*◌, ◌≤◌, ◌<◌, length, get_or, take};
 ghost use Rattle.geometry.specs.Bytes as Bytes;
 ghost use Rattle.geometry.specs.Lists.{every, first_with};

@@ -1,5 +1,7 @@
 // The next entry and the next state of a file, by the answer to a request: document 01's "The tape a file is". `judging` finds the answer, and the
 // place that the next state is made from.
+#![tactic(auto)]
+
 ghost use Rattle.std.specs.Prelude.{◌≡◌, ◌-◌, ◌≤◌};
 ghost use Rattle.geometry.specs.Places.{origin};
 ghost use Rattle.steps.specs.Next.{moved, counted, file_met};

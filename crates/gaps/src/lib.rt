@@ -1,4 +1,6 @@
 // Where document 02's ADD puts a file: the lowest free entry of a table in lent bytes, and the lowest gap between its extents.
+#![tactic(auto)]
+
 ghost use Rattle.std.specs.Prelude.{◌≡◌, ℕ, ◌+◌, ◌*◌, ◌≤◌, length};
 ghost use Rattle.geometry.specs.Bytes.{word_at};
 ghost use Rattle.geometry.specs.Lists.{every};

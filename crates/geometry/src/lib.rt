@@ -1,5 +1,7 @@
 // Sizes and places: document 01's "Sizes and the directory" and "Where a record lies". The laws of bytes, parts and laying stand here too, as
 // definitions and proofs; `moving` has their code.
+#![tactic(auto)]
+
 ghost use Rattle.std.specs.Prelude.{◌≡◌, ◌/◌, ◌%◌};
 ghost use Rattle.geometry.specs.Sizes.{sectors_of, lawful_length};
 ghost use Rattle.geometry.specs.Places.{sectors_for, per_sector, place_of, bytes_for};

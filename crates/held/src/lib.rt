@@ -1,4 +1,6 @@
 // What a request does by way of the blocking buffer, act by act: document 01's "The tape a file is".
+#![tactic(auto)]
+
 ghost use Rattle.std.specs.Prelude.{◌≡◌, map};
 ghost use Rattle.packing.specs.Placing.{changes};
 ghost use Rattle.requests.specs.declared.Request.TheVariants.{Position};

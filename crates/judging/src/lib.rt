@@ -1,6 +1,8 @@
 // One request, judged once for both engines: document 01's "The tape a file is" and "Answer numbers". The next entry and the next state of its
 // file are made by `following`.
 // Decoding happens only in its turn: a request is first judged as if a bad code were met, and only where that gives 11 is anything decoded.
+#![tactic(auto)]
+
 ghost use Rattle.std.specs.Prelude.{◌≡◌, true, false, ◌&&◌, ◌+◌, ◌*◌, ◌≤◌, eqb, length};
 ghost use Rattle.std.proofs.lemmas.List.Edits.{sets};
 ghost use Rattle.geometry.specs.Bytes as Bytes;

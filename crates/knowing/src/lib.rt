@@ -1,4 +1,6 @@
 // Whether lent bytes are a session, with buffers or with none: their number, and that each truth value in them is 0 or 1.
+#![tactic(auto)]
+
 ghost use Rattle.std.specs.Prelude.{◌≡◌, true, ◌+◌, ◌≤◌, length, get_or};
 ghost use Rattle.geometry.specs.Bytes.{is_byte};
 ghost use Rattle.geometry.specs.Lists.{every};

@@ -1,4 +1,6 @@
 // Entries laid in a table in lent bytes, of 20 bytes each or of 22: one entry, the count and flags of one, and a whole table in another width.
+#![tactic(auto)]
+
 ghost use Rattle.std.specs.Prelude.{◌≡◌, [], ◌∷◌, ◌++◌, ◌*◌, ◌≤◌, length};
 ghost use Rattle.geometry.specs.Bytes as Bytes;
 ghost use Rattle.tables.specs.Rows.{row_of};

@@ -1,5 +1,7 @@
 // Lists the directory of the image in the file that its first argument names, or on standard input if there is none.
 // What cannot be opened or read is an image of no bytes, which is bad.
+#![tactic(auto)]
+
 use libc::{STDIN_FILENO, STDOUT_FILENO};
 
 // Prints the listing of an image. A listing has at most 1,596 bytes (`short`, in listing's proofs).

@@ -1,5 +1,7 @@
 // Lists each image of a file of cases, which its first argument names: a case is a length of four bytes, high byte first, and that
 // many bytes. What it must print is what the second program, written from document 01 alone, says of each image.
+#![tactic(auto)]
+
 use libc::STDOUT_FILENO;
 use moving::word_at;
 

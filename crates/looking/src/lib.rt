@@ -1,4 +1,6 @@
 // A granule shown in place in the image: document 01's "Where a record lies", for both engines, on a session in lent bytes.
+#![tactic(auto)]
+
 ghost use Rattle.std.specs.Prelude.{◌≡◌};
 ghost use Rattle.directory.specs.Entries.{entry_at};
 ghost use Rattle.steps.specs.Look.{buffered_look_answer};

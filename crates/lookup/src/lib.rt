@@ -1,4 +1,6 @@
 // An entry found by name in a lent list of entries.
+#![tactic(auto)]
+
 ghost use Rattle.std.specs.Prelude.{◌≡◌};
 ghost use Rattle.directory.specs.Search.{told, find};
 

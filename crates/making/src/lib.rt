@@ -1,4 +1,6 @@
 // An image with no files, made in bytes that are lent.
+#![tactic(auto)]
+
 ghost use Rattle.std.specs.Prelude.{◌≡◌};
 ghost use Rattle.geometry.specs.Sizes.{lawful_length};
 ghost use Rattle.making.specs.Making.{emptied};

@@ -1,4 +1,6 @@
 // Mounting an image: document 01's "Sizes and the directory". The directory is judged where it lies.
+#![tactic(auto)]
+
 ghost use Rattle.std.specs.Prelude.{◌≡◌, ◌≤◌, length};
 ghost use Rattle.geometry.specs.Lists.{every};
 ghost use Rattle.geometry.specs.Sizes.{sector};

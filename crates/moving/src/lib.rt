@@ -1,4 +1,6 @@
 // The movers of bytes: bytes and words read, parts, and bytes laid over others. What does not fit is not laid, and past the end there are zeros.
+#![tactic(auto)]
+
 ghost use Rattle.std.specs.Prelude.{◌≡◌, ◌+◌, ◌*◌, ◌/◌, ◌%◌, ◌≤◌, min, leb, length, get_or, set, replicate};
 ghost use Rattle.geometry.specs.Lists as Lists;
 ghost use Rattle.geometry.specs.Bytes.{word_at, padded};

@@ -1,4 +1,6 @@
 // A name: document 01's "Sizes and the directory".
+#![tactic(auto)]
+
 ghost use Rattle.std.specs.Prelude.{◌≡◌, ◌||◌};
 ghost use Rattle.names.specs.Names.{capital, digit, is_name};
 

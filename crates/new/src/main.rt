@@ -1,5 +1,7 @@
 // Makes an image with no files: new OUT SECTORS. docs/OPERATORS.md says what is printed. The image mounts: `emptied-mounts`, in making's
 // proofs, of what is written.
+#![tactic(auto)]
+
 use arguments::complain;
 use geometry::Geometry;
 use libc::{EEXIST, STDERR_FILENO, STDOUT_FILENO};

@@ -1,4 +1,6 @@
 // What C reads as numbers, where Rattle has enums: the answer to a code that names no request, where a file stands, the size of a code.
+#![tactic(auto)]
+
 ghost use Rattle.std.specs.Prelude.{◌≡◌, min, length};
 ghost use Rattle.std.proofs.lemmas.List.Edits.{sets};
 ghost use Rattle.decoding.specs.Decode as Decode;

@@ -1,5 +1,7 @@
 // Compressed records in the sectors of an extent: document 01's "Compressed records". Where a coded record goes, and where reading leads; how it
 // leads there is a definition here (specs/Reading.antt).
+#![tactic(auto)]
+
 ghost use Rattle.std.specs.Prelude.{◌≡◌};
 ghost use Rattle.packing.specs.Placing.{fits_here, goes_to, has_room};
 

@@ -1,4 +1,6 @@
 // Where a sector, a record or a granule of a file lies in the image, and how much of a sector is left: document 01's "Where a record lies".
+#![tactic(auto)]
+
 ghost use Rattle.std.specs.Prelude.{◌≡◌, ◌+◌, ◌-◌, ◌*◌};
 ghost use Rattle.geometry.specs.Places.{place_of, byte_of};
 ghost use Rattle.geometry.specs.Sizes as Sizes;

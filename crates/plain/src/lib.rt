@@ -1,4 +1,6 @@
 // What a request answered 0 does to the image in the engine with no buffer: every byte is moved straight.
+#![tactic(auto)]
+
 ghost use Rattle.std.specs.Prelude.{◌≡◌};
 ghost use Rattle.plain.specs.Plain.{written_with, acted_with};
 

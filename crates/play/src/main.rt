@@ -1,5 +1,7 @@
 // Plays a script of requests on an image, with one of the two engines: play plain|buffered IMAGE SCRIPT BYTES OUT. docs/PLAY.md says what
 // these files hold and what is printed.
+#![tactic(auto)]
+
 use arguments::{complain, open_read, read_image, readable, save, says, writable};
 use libc::STDERR_FILENO;
 use storing::Form;

@@ -1,5 +1,7 @@
 // Plays each case of a file, which its first argument names, with both engines. docs/PLAY.md has the form of that file. What it must print is
 // what the second program, written from documents 01 and 02 alone, says of each case.
+#![tactic(auto)]
+
 use case_io::{
     Ahead, Files, Header, close_cases, find_rows, make_image, open_cases, patch, print_engine,
     skip_patches, skip_rows,

@@ -1,5 +1,7 @@
 // Scripts played from files: `row_io` reads rows and bytes, `playing` plays them, and what is said goes to standard output. What a file gives
 // and what is printed, no contract can say.
+#![tactic(auto)]
+
 ghost use Rattle.std.specs.Prelude.{◌≤◌, length};
 
 use lleuadrys::lleuadrys_mount;

@@ -1,4 +1,6 @@
 // A row of a script played: its request, through the calls that C uses, and the sum of the words that it moved.
+#![tactic(auto)]
+
 ghost use Rattle.std.specs.Prelude.{◌≡◌};
 ghost use Rattle.asking.specs.Requested.{left};
 ghost use Rattle.lleuadrys.specs.Calls.{Edits};

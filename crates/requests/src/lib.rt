@@ -1,5 +1,7 @@
 // Requests, edits, their codes, what the tests of one ask about, answers and their numbers: document 01's "The tape a file is" and "Answer numbers",
 // document 02's item 1. The tests are definitions here (specs/Judge.antt).
+#![tactic(auto)]
+
 ghost use Rattle.std.specs.Prelude.{◌≡◌};
 ghost use Rattle.requests.specs.Numbers.{number_of};
 ghost use Rattle.requests.specs.Codes.{asked_for};

@@ -1,5 +1,7 @@
 // The rows of a script read from files, with the bytes that they use up, and the test of them. What a file gives and what is printed, no
 // contract can say.
+#![tactic(auto)]
+
 ghost use Rattle.std.specs.Prelude.{◌≤◌, length};
 
 use libc::STDOUT_FILENO;

@@ -1,4 +1,6 @@
 // What is said of a script, line by line: of a mounting, a row, an image, a row that is not in order. docs/PLAY.md has the lines.
+#![tactic(auto)]
+
 ghost use Rattle.std.specs.Prelude.{[], ◌∷◌, ◌++◌};
 ghost use Rattle.texts.specs.Texts.{decimal, spaced, Wrote};
 ghost use Rattle.saying.specs.Said.{mount_line, stand_words, row_line, image_line, fault_words, fault_line};

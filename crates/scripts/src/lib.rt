@@ -1,4 +1,6 @@
 // Scripts of requests: what a row asks for, and the sums of words. docs/PLAY.md has the form of a script.
+#![tactic(auto)]
+
 ghost use Rattle.std.specs.Prelude.{◌≡◌};
 ghost use Rattle.scripts.specs.Script.{is_edit, used_by, takes_granule, granule_in, row_in, is_misshapen, row_of, missing_for};
 ghost use Rattle.scripts.specs.Sums.{sums_of};

@@ -1,5 +1,7 @@
 // Sessions of both engines, and the rules of an open file in a legal one: document 01's "Answer numbers", last paragraph,
 // and document 02's item 1.
+#![tactic(auto)]
+
 ghost use Rattle.std.specs.Prelude.{◌≡◌};
 ghost use Rattle.sessions.specs.Session.{idle, fresh, stand, place_good};
 ghost use Rattle.sessions.specs.Grouped.{open_good, hold_good};

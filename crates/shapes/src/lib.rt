@@ -1,4 +1,6 @@
 // What document 02's ADD asks of the file that it is given: its name, and its kind, R and number of sectors.
+#![tactic(auto)]
+
 ghost use Rattle.std.specs.Prelude.{◌≡◌};
 ghost use Rattle.directory.specs.Rules as Rules;
 ghost use Rattle.shapes.specs.Made.{is_named, shape_good};

@@ -1,5 +1,7 @@
 // Prints the pass listing of a file: show IMAGE NAME, the name as it is typed. docs/OPERATORS.md says what is printed. Standard output has the listing alone;
 // why there is none, and which files there are where none has the name, goes to standard error.
+#![tactic(auto)]
+
 use libc::STDERR_FILENO;
 use moving::part;
 

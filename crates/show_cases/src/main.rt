@@ -1,5 +1,7 @@
 // Prints the pass listing of each case of a file, which its first argument names: an image and a name. What it must print is what the second program, written
 // from the documents alone, says of each case. docs/SHOW.md has the form of that file.
+#![tactic(auto)]
+
 use case_io::{Ahead, Header};
 use libc::SEEK_CUR;
 use moving::part;

@@ -1,4 +1,6 @@
 // The pass listing printed, piece by piece. What is printed, no contract can say.
+#![tactic(auto)]
+
 use libc::STDOUT_FILENO;
 use moving::part;
 use showing::{Piece, begin, next};

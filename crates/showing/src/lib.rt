@@ -1,5 +1,7 @@
 // The readable pass listing: document 02's item 4, above the file layer. A file is opened by its name as it is typed, and each of its records made a line of
 // ASCII.
+#![tactic(auto)]
+
 ghost use Rattle.std.specs.Prelude.{◌≡◌, take, get_or};
 ghost use Rattle.texts.specs.Texts.{Wrote};
 ghost use Rattle.typing.specs.Typing.{name_of};

@@ -1,4 +1,6 @@
 // An open-file state laid in the bytes of a session, with or without a buffer: numbers low byte first.
+#![tactic(auto)]
+
 ghost use Rattle.std.specs.Prelude.{◌≡◌, [], ◌∷◌, ◌+◌, ◌*◌, ◌≤◌, ◌<◌};
 ghost use Rattle.geometry.specs.Sizes.{most_open};
 ghost use Rattle.storing.specs.Numbers.{bytes_of};

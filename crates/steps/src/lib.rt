@@ -1,4 +1,6 @@
 // One request, judged once for both engines, and its effects on bytes: document 01's "The tape a file is" and "Answer numbers".
+#![tactic(auto)]
+
 use directory::Entry;
 use requests::Answer;
 use sessions::OpenFile;

@@ -1,6 +1,8 @@
 // A session in bytes that a caller lends: 18 entries of 22 bytes, as tables has them, then four open-file states, numbers low byte first,
 // then what the session says of itself.
 // With a buffer for each open file, or with none: the number of the bytes says which.
+#![tactic(auto)]
+
 ghost use Rattle.std.specs.Prelude.{◌≡◌, ◌≤◌};
 ghost use Rattle.storing.specs.Numbers.{flag_of};
 ghost use Rattle.storing.specs.Stored.{held_width, width, has_buffers, no_hold, saying_stored, start_saying, start_table, lay_start};

@@ -1,4 +1,6 @@
 // The sum of the words that the request of a row moved: what is said of a row behind it.
+#![tactic(auto)]
+
 ghost use Rattle.std.specs.Prelude.{◌≡◌};
 ghost use Rattle.directory.specs.Entries.{entry_at, table_of};
 ghost use Rattle.geometry.specs.Bytes as Bytes;

@@ -1,5 +1,7 @@
 // A table of entries in lent bytes, judged and searched where it lies: n entries of 20 bytes, as on an image, or of 22, whose count is two words.
 // Fields: name 8, kind 2, length 2, first 2, sectors 2, count 2 or 4, flags 2; high byte first.
+#![tactic(auto)]
+
 ghost use Rattle.std.specs.Prelude.{◌≡◌, true, false, ◌&&◌, [], ◌∷◌, ℕ, ◌+◌, ◌*◌, ◌/◌, ◌%◌, ◌≤◌, max, length};
 ghost use Rattle.geometry.specs.Bytes.{part, padded, word_at};
 ghost use Rattle.geometry.specs.Lists.{every};

@@ -1,4 +1,6 @@
 // What a caller is told besides the answers to requests: an entry by its name, a field of an entry, the words of an answer's number.
+#![tactic(auto)]
+
 ghost use Rattle.std.specs.Prelude.{◌≡◌, get_or};
 ghost use Rattle.geometry.specs.Bytes as Bytes;
 ghost use Rattle.texts.specs.Texts.{Wrote};

@@ -1,4 +1,6 @@
 // Text put into bytes that are lent, piece by piece: what the programs print is made of these. And numbers read from text.
+#![tactic(auto)]
+
 ghost use Rattle.std.specs.Prelude.{◌≡◌, [], ◌∷◌, ◌++◌, ◌+◌, ◌%◌};
 ghost use Rattle.texts.specs.Texts.{decimal_in, decimal, Wrote, with_digit, number_in};
 

@@ -1,4 +1,6 @@
 // What is typed to describe a file: its name, its kind, a number.
+#![tactic(auto)]
+
 ghost use Rattle.std.specs.Prelude.{◌≡◌, map};
 ghost use Rattle.texts.specs.Texts.{Wrote};
 ghost use Rattle.typing.specs.Typing.{typed_code, name_of, in_two_bytes, number_of, kind_of};

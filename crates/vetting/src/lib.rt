@@ -1,4 +1,6 @@
 // The rules of one entry of a good directory, but that of its name: document 01's "Sizes and the directory".
+#![tactic(auto)]
+
 ghost use Rattle.std.specs.Prelude.{◌≡◌};
 ghost use Rattle.geometry.specs.Sizes.{unblocked, blocked, compressed, random};
 ghost use Rattle.directory.specs.Rules.{extent_fits};

@@ -1,5 +1,7 @@
 // Compressed records read in the sectors of an extent: document 01's "Compressed records".
 // The readers take an extent's bytes and, lent beside them, the held sector's, which stand in place of its own.
+#![tactic(auto)]
+
 ghost use Rattle.std.specs.Prelude.{◌≡◌, true, false, ◌&&◌, ◌⊎◌, ℕ, ◌+◌, ◌*◌, ◌≤◌, eqb, leb, ltb, length, drop};
 ghost use Rattle.std.proofs.Math.ListN as ListN;
 ghost use Rattle.geometry.specs.Bytes as Bytes;
