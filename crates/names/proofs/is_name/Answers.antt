@@ -1,13 +1,10 @@
 -- `names::is_name` meets its contract: no bytes are no name; else what is asked of the bytes left decides, and then the first byte.
-use mathlib.Core.Path.{◌≡◌, refl, sym, ◌∙◌}
+use mathlib.Core.Path.{refl, sym, ◌∙◌}
 use mathlib.Core.Bool.{and-true, and-false}
-use mathlib.Core.Logic.{⊎_elim}
-use Prim.Native.Nat.{◌-◌}
 use native.Mathlib.Omega.{arith}
-use lib.ListN.{length, drop, get_or}
-use Rattle.names.specs.Names.{capital, rest_of_name}
-use Rattle.names.proofs.Names.{left, left_end, blank-on, blank-off, name-on, name-ends, name-off, name-whole, name-none}
-use borrow.Author.Rules.{rules}
+use lib.ListN.{get_or}
+use Rattle.names.specs.Names.{capital}
+use Rattle.names.proofs.Names.{left_end, blank-on, blank-off, name-on, name-ends, name-off, name-whole, name-none}
 use Rattle.names.proofs.is_name.Goals as goal
 use Rattle.names.proofs.is_name.Goals.{then-ended+else-c-ne-BLANK, else-ended+then-not-is_capital_or_digit+else-c-ne-BLANK-2, else-ended+else-not-is_capital_or_digit}
 

@@ -1,13 +1,9 @@
 -- `names::is_name` meets its contract: no bytes are no name; else what is asked of the bytes left decides, and then the first byte.
-use mathlib.Core.Path.{◌≡◌, refl, sym, ◌∙◌}
-use mathlib.Core.Bool.{and-true, and-false}
-use mathlib.Core.Logic.{⊎_elim}
+use mathlib.Core.Path.{◌≡◌}
 use Prim.Native.Nat.{◌-◌}
-use native.Mathlib.Omega.{arith}
-use lib.ListN.{length, drop, get_or}
-use Rattle.names.specs.Names.{capital, rest_of_name}
-use Rattle.names.proofs.Names.{left, left_end, blank-on, blank-off, name-on, name-ends, name-off, name-whole, name-none}
-use borrow.Author.Rules.{rules}
+use lib.ListN.{length, drop}
+use Rattle.names.specs.Names.{rest_of_name}
+use Rattle.names.proofs.Names.{left}
 use Rattle.names.proofs.is_name.Given as goal
 
 abbrev pub invariant-loop-k : goal.invariant-loop-k
