@@ -1,9 +1,9 @@
 -- `laying::copy_rows` meets its contract: each entry is laid behind those before it.
-use Prim.Native.Nat.{◌-◌, ◌*◌, ◌≤◌, ◌<◌}
+use Prim.Native.Nat.{◌*◌, ◌<◌}
 use mathlib.Core.Path.{◌≡◌, refl, sym, ap, ◌∙◌}
 use mathlib.Core.List.{List}
 use native.Mathlib.Omega.{arith}
-use lib.ListN.{length, take}
+use lib.ListN.{length}
 use lib.Seq.{take_all}
 use Rattle.geometry.specs.Bytes.{lay}
 use Rattle.geometry.proofs.Bytes.{length-lay}
@@ -14,7 +14,6 @@ use Rattle.tables.specs.Tables.{entry_of, entries_in}
 use Rattle.tables.proofs.Widths.{below, one_on, rows-there}
 use Rattle.tables.proofs.Rows.{laid_none, size_none, turn}
 use Rattle.tables.proofs.Tables.{length-entries, table_is}
-use borrow.Author.Rules.{rules}
 use Rattle.laying.proofs.copy_rows.Goals as goal
 
 pub loop-i-init : goal.loop-i-init

@@ -4,7 +4,6 @@ use mathlib.Core.Bool.{true}
 use Rattle.tables.specs.Tables.{has_rows}
 use Rattle.tables.proofs.Widths.{rows-wide, rows_fit}
 use Rattle.tables.proofs.Laid.{copied-there, copied-not, copied_none}
-use borrow.Author.Rules.{rules}
 use Rattle.laying.proofs.copy_table.Goals as goal
 
 pub copy_rows-requires : goal.copy_rows-requires

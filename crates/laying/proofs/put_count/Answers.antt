@@ -3,7 +3,6 @@ use mathlib.Core.Path.{sym, ap, ◌∙◌}
 use mathlib.Core.List.{◌++◌}
 use Rattle.geometry.specs.Bytes.{lay, word}
 use Rattle.tables.proofs.Laid.{counts-one, counts-two}
-use borrow.Author.Rules.{rules}
 use Rattle.laying.proofs.put_count.Goals as goal
 
 pub returns-then-width-eq-ONE : goal.returns-then-width-eq-ONE

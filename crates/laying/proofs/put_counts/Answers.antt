@@ -7,7 +7,6 @@ use lib.ListN.{length}
 use Rattle.tables.specs.Tables.{has_rows}
 use Rattle.tables.proofs.Widths.{below, rows-wide, rows_fit}
 use Rattle.tables.proofs.Laid.{row-there, row-not, row-none}
-use borrow.Author.Rules.{rules}
 use Rattle.laying.proofs.put_counts.Goals as goal
 
 pub overflow_mul-width : goal.overflow_mul-width

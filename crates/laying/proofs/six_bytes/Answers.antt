@@ -3,7 +3,6 @@ use mathlib.Core.Path.{refl}
 use Rattle.geometry.specs.Bytes.{word}
 use Rattle.tables.specs.Numbers.{long}
 use Rattle.tables.specs.Tables.{count_of}
-use borrow.Author.Rules.{rules}
 use Rattle.laying.proofs.six_bytes.Goals as goal
 
 pub returns : goal.returns

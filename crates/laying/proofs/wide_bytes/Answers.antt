@@ -2,7 +2,6 @@
 use Rattle.geometry.specs.Bytes.{word}
 use Rattle.tables.specs.Numbers.{long}
 use Rattle.tables.specs.Tables.{count_of, entry_of}
-use borrow.Author.Rules.{rules}
 use Rattle.laying.proofs.wide_bytes.Goals as goal
 
 pub returns : goal.returns
