@@ -4,7 +4,6 @@ use native.Mathlib.Omega.{arith}
 use lib.ListN.{length, get_or-eq_default}
 use Rattle.directory.specs.Entries.{table_of, free_entry, entry_from}
 use Rattle.directory.proofs.Table.{table_at, length-table}
-use borrow.Author.Rules.{rules}
 use Rattle.directory.proofs.entry_at.Goals as goal
 
 pub returns-then-i-lt-ENTRIES : goal.returns-then-i-lt-ENTRIES

@@ -1,6 +1,5 @@
 -- `directory::entry_bytes` meets its contract: the code is the definition.
 use Rattle.directory.specs.Entries.{entry_bytes}
-use borrow.Author.Rules.{rules}
 use Rattle.directory.proofs.entry_bytes.Goals as goal
 
 pub returns : goal.returns

@@ -1,6 +1,5 @@
 -- `directory::entry_from` meets its contract: field by field, the code is the definition.
 use Rattle.directory.specs.Entries.{entry_from}
-use borrow.Author.Rules.{rules}
 use Rattle.directory.proofs.entry_from.Goals as goal
 
 pub returns : goal.returns

@@ -1,7 +1,6 @@
 -- `directory::is_named` meets its contract, test by test.
 use mathlib.Core.Path.{sym, ◌∙◌}
 use Rattle.directory.proofs.Find.{match-tested, match-refused}
-use borrow.Author.Rules.{rules}
 use Rattle.directory.proofs.is_named.Goals as goal
 
 pub returns-then-name-e : goal.returns-then-name-e

@@ -7,7 +7,6 @@ use lib.ListN.{length, replicate}
 use Rattle.geometry.specs.Bytes.{part, lay}
 use Rattle.geometry.proofs.Bytes.{length-part-min}
 use Rattle.directory.proofs.Table.{lay-over}
-use borrow.Author.Rules.{rules}
 use Rattle.directory.proofs.name_from.Goals as goal
 
 pub returns : goal.returns

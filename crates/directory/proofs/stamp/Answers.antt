@@ -3,7 +3,6 @@ use mathlib.Core.Path.{◌∙◌, ap, sym}
 use native.Mathlib.Omega.{arith}
 use Rattle.geometry.specs.Bytes.{lay}
 use Rattle.directory.proofs.Stamped.{stamped-in, stamped-none}
-use borrow.Author.Rules.{rules}
 use Rattle.directory.proofs.stamp.Goals as goal
 
 pub returns-then-i-lt-ENTRIES : goal.returns-then-i-lt-ENTRIES

@@ -2,7 +2,6 @@
 use mathlib.Core.Path.{refl}
 use Rattle.geometry.specs.Bytes.{word}
 use Rattle.directory.specs.Stamp.{stamp_bytes}
-use borrow.Author.Rules.{rules}
 use Rattle.directory.proofs.stamp_bytes.Goals as goal
 
 pub returns : goal.returns

@@ -3,7 +3,6 @@ use Prim.Native.Nat.{ℕ, ◌<◌}
 use native.Mathlib.Omega.{arith}
 use lib.ListN.{get_or}
 use Rattle.tables.proofs.Tables.{apart-before, apart-behind, apart-free}
-use borrow.Author.Rules.{rules}
 use Rattle.tables.proofs.apart.Goals as goal
 
 pub returns-then-behind-extent : goal.returns-then-behind-extent

@@ -1,7 +1,6 @@
 -- `tables::count_in` meets its contract: one word or two, by the width.
 use mathlib.Core.Path.{sym, ◌∙◌}
 use Rattle.tables.proofs.Entries.{count-one, count-two}
-use borrow.Author.Rules.{rules}
 use Rattle.tables.proofs.count_in.Goals as goal
 
 pub returns-then-width-eq-ONE : goal.returns-then-width-eq-ONE

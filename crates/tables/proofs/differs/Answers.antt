@@ -3,7 +3,6 @@ use Prim.Native.Nat.{ℕ, ◌<◌}
 use native.Mathlib.Omega.{arith}
 use lib.ListN.{get_or}
 use Rattle.tables.proofs.Tables.{names-other, names_same}
-use borrow.Author.Rules.{rules}
 use Rattle.tables.proofs.differs.Goals as goal
 
 pub returns-then-eight_in-name : goal.returns-then-eight_in-name

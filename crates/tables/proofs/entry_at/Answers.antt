@@ -1,6 +1,5 @@
 -- `tables::entry_at` meets its contract: each field is read at its place.
 use Rattle.tables.specs.Tables.{entry_in}
-use borrow.Author.Rules.{rules}
 use Rattle.tables.proofs.entry_at.Goals as goal
 
 pub returns : goal.returns

@@ -4,12 +4,10 @@ use mathlib.Core.Path.{◌≡◌, refl, sym, ap, ◌∙◌}
 use mathlib.Core.Bool.{true}
 use native.Mathlib.Omega.{arith}
 use lib.ListN.{length, get_or-eq_default}
-use borrow.Author.Tests.{not-true, not-false}
 use Rattle.directory.specs.Entries.{free_entry, entry_at}
 use Rattle.tables.specs.Tables.{has_rows, entries_in}
 use Rattle.tables.proofs.Widths.{below, rows-wide, rows_fit}
 use Rattle.tables.proofs.Tables.{length-entries, entry-is, table_is, table_none}
-use borrow.Author.Rules.{rules}
 use Rattle.tables.proofs.entry_in.Goals as goal
 
 pub returns-then-not-has_rows : goal.returns-then-not-has_rows

@@ -1,7 +1,6 @@
 -- `tables::four` meets its contract: each byte counts 256 times the one before it.
 use native.Mathlib.Omega.{arith}
 use Rattle.tables.specs.Numbers.{number_in}
-use borrow.Author.Rules.{rules}
 use Rattle.tables.proofs.four.Goals as goal
 
 pub returns : goal.returns

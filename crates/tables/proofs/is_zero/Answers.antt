@@ -1,6 +1,5 @@
 -- `tables::is_zero` meets its contract: the bytes are three numbers of eight, of which the last begins in the one before.
 use Rattle.tables.proofs.Entries.{zero-not, zero-not-next, zero-first}
-use borrow.Author.Rules.{rules}
 use Rattle.tables.proofs.is_zero.Goals as goal
 
 pub returns-then-eight_in-ne0 : goal.returns-then-eight_in-ne0

@@ -2,7 +2,6 @@
 use mathlib.Core.Path.{sym, ◌∙◌}
 use Rattle.tables.proofs.Numbers.{written}
 use Rattle.tables.proofs.Entries.{name-is}
-use borrow.Author.Rules.{rules}
 use Rattle.tables.proofs.name_in.Goals as goal
 
 pub returns : goal.returns

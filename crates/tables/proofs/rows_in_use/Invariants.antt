@@ -1,13 +1,8 @@
 -- `tables::rows_in_use` meets its contract: a last entry that is zero is left out, and the table is as good as with it.
-use Prim.Native.Nat.{ℕ, ◌-◌, ◌*◌, ◌≤◌}
-use mathlib.Core.Path.{◌≡◌, refl, sym, ap, ◌∙◌}
-use native.Mathlib.Nat.{mul-le-mul_left}
-use native.Mathlib.Omega.{arith}
-use borrow.Author.Tests.{not-false}
+use Prim.Native.Nat.{ℕ, ◌*◌, ◌≤◌}
+use mathlib.Core.Path.{◌≡◌}
 use Rattle.directory.specs.Rules.{table_good}
 use Rattle.tables.specs.Tables.{entries_in}
-use Rattle.tables.proofs.Widths.{one_less}
-use Rattle.tables.proofs.Tables.{zero-less}
 use Rattle.tables.proofs.rows_in_use.Given as goal
 
 abbrev pub invariant-loop-i : goal.invariant-loop-i

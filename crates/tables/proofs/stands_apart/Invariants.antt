@@ -1,12 +1,8 @@
 -- `tables::stands_apart` meets its contract: each entry that is passed keeps both rules of two with it.
 use Prim.Native.Nat.{◌-◌}
-use mathlib.Core.Path.{sym, ◌∙◌}
-use native.Mathlib.Omega.{arith}
-use borrow.Author.Tests.{not-true, not-false}
 use Rattle.directory.specs.Grouped.{two_good}
 use Rattle.tables.specs.Tables.{entry_in}
-use Rattle.tables.proofs.Tables.{Kept, kept-none, kept_on, kept_off, kept_whole, two-shared, two-apart}
-use borrow.Author.Rules.{rules}
+use Rattle.tables.proofs.Tables.{Kept}
 use Rattle.tables.proofs.stands_apart.Given as goal
 
 abbrev pub invariant-loop-at : goal.invariant-loop-at

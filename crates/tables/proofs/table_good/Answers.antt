@@ -4,7 +4,6 @@ use mathlib.Core.Bool.{Bool, true, ◌&&◌}
 use Rattle.directory.specs.Rules.{table_good}
 use Rattle.tables.specs.Tables.{has_rows, entries_in}
 use Rattle.tables.proofs.Widths.{rows-wide, rows_fit}
-use borrow.Author.Rules.{rules}
 use Rattle.tables.proofs.table_good.Goals as goal
 
 pub rows_good-requires : goal.rows_good-requires

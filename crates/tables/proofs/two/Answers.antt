@@ -1,7 +1,6 @@
 -- `tables::two` meets its contract: the second byte counts 256 times.
 use native.Mathlib.Omega.{arith}
 use Rattle.tables.specs.Numbers.{number_in}
-use borrow.Author.Rules.{rules}
 use Rattle.tables.proofs.two.Goals as goal
 
 pub returns : goal.returns

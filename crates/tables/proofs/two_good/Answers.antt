@@ -1,6 +1,5 @@
 -- `tables::two_good` meets its contract: an entry that begins behind those before it shares no sector with them, so names are left.
 use Rattle.tables.proofs.Tables.{two-told}
-use borrow.Author.Rules.{rules}
 use Rattle.tables.proofs.two_good.Goals as goal
 
 pub returns-then-word_in-behind : goal.returns-then-word_in-behind

@@ -1,7 +1,5 @@
 -- `tables::used_row` meets its contract: it has a name, and keeps the other rules.
-use borrow.Author.Tests.{not-true, not-false}
 use Rattle.tables.proofs.Entries.{unnamed_told, used-told}
-use borrow.Author.Rules.{rules}
 use Rattle.tables.proofs.used_row.Goals as goal
 
 pub returns-then-not-is_name : goal.returns-then-not-is_name

@@ -1,10 +1,8 @@
 -- `directory::blocked_good` meets its contract: R first, then the count.
 use mathlib.Core.Path.{sym, ap, ◌∙◌}
 use lib.Dec.{leb}
-use borrow.Author.Tests.{not-true, not-false}
 use Rattle.directory.specs.Rules.{longest}
 use Rattle.directory.proofs.Grouped.{sizes-off, sizes-blocked}
-use borrow.Author.Rules.{rules}
 use Rattle.vetting.proofs.blocked_good.Goals as goal
 
 pub returns-then-not-length_good : goal.returns-then-not-length_good

@@ -1,9 +1,7 @@
 -- `directory::compressed_good` meets its contract: R first, then the count.
 use mathlib.Core.Path.{sym, ap, ◌∙◌}
-use borrow.Author.Tests.{not-true, not-false}
 use Rattle.directory.specs.Rules.{longest}
 use Rattle.directory.proofs.Grouped.{sizes-off, sizes-compressed}
-use borrow.Author.Rules.{rules}
 use Rattle.vetting.proofs.compressed_good.Goals as goal
 
 pub returns-then-not-length_good : goal.returns-then-not-length_good

@@ -2,10 +2,8 @@
 use mathlib.Core.Path.{sym, ap, ◌∙◌}
 use mathlib.Core.Bool.{Bool, ◌&&◌, not}
 use lib.Dec.{eqb}
-use borrow.Author.Tests.{not-true, not-false}
 use Rattle.directory.specs.Rules.{longest}
 use Rattle.directory.proofs.Grouped.{sizes-off, sizes-random}
-use borrow.Author.Rules.{rules}
 use Rattle.vetting.proofs.random_good.Goals as goal
 
 pub returns-then-not-length_good : goal.returns-then-not-length_good

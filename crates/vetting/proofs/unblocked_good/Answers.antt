@@ -4,11 +4,9 @@ use Prim.Native.Nat.{ℕ, ◌*◌, ◌≤◌}
 use native.Mathlib.Nat.{mul-le-mul_left}
 use native.Mathlib.Omega.{arith}
 use lib.Dec.{leb}
-use borrow.Author.Tests.{not-true, not-false}
 use Rattle.geometry.specs.Places.{sectors_for}
 use Rattle.directory.specs.Rules.{longest}
 use Rattle.directory.proofs.Grouped.{sizes-off, sizes-unblocked}
-use borrow.Author.Rules.{rules}
 use Rattle.vetting.proofs.unblocked_good.Goals as goal
 
 pub returns-then-not-length_good : goal.returns-then-not-length_good

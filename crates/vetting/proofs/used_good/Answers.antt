@@ -1,10 +1,9 @@
 -- `directory::used_good` meets its contract: the rules that do not differ from kind to kind first, then those of the kind; there is no fifth.
 use mathlib.Core.Path.{sym, ◌∙◌}
 use native.Mathlib.Omega.{arith}
-use borrow.Author.Tests.{le-leb, lt-leb, not-true, not-false}
+use borrow.Author.Tests.{le-leb, lt-leb}
 use Rattle.directory.specs.Rules.{flags_known}
 use Rattle.directory.proofs.Grouped.{used-outside, used-flagged, used-kind, used-other}
-use borrow.Author.Rules.{rules}
 use Rattle.vetting.proofs.used_good.Goals as goal
 
 pub returns-then-not-extent_inside : goal.returns-then-not-extent_inside
