@@ -3,34 +3,25 @@ use Prim.Native.Nat.{◌*◌, ◌≤◌}
 use mathlib.Core.Path.{refl}
 use native.Mathlib.Nat.{mul-le-mul, mul-le-mul_left}
 use native.Mathlib.Omega.{arith}
-use Rattle.finding.proofs.state_place.Statement.{statement}
-use Rattle.finding.proofs.state_place.Tie as tie
+use Rattle.finding.proofs.state_place.Goals as goal
 
-mul-result : tie.Need-overflow-mul-result
-mul-result c =
+pub overflow_mul-result : goal.overflow_mul-result
+overflow_mul-result c =
     let a = c.args in
     let k : a.k ≤ 3 = omega (arith, c.requires.0) in
     let p : a.w * a.k ≤ 396 * 3 = mul-le-mul c.requires.1 k in
     omega arith
 
-add-result : tie.Need-overflow-add-result
-add-result c =
+pub overflow_add-result : goal.overflow_add-result
+overflow_add-result c =
     let a = c.args in
     let k : a.k ≤ 3 = omega (arith, c.requires.0) in
     let p : a.w * a.k ≤ 396 * 3 = mul-le-mul c.requires.1 k in
     omega arith
 
-returns : tie.Need-returns
+pub returns : goal.returns
 returns c =
     let a = c.args in
     let k : a.k ≤ 3 = omega (arith, c.requires.0) in
     let p : a.w * a.k ≤ a.w * 3 = mul-le-mul_left a.w k in
     (refl, omega arith)
-
-pub state-place-spec : {M : Type 1} → statement M
-state-place-spec =
-    tie.close
-    (tie.spec
-    mul-result
-    add-result
-    returns)
