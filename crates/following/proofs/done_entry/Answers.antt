@@ -1,7 +1,5 @@
 -- By the request: a write and a write file mark count anew, any other leaves the entry as it is.
 use borrow.Author.Rules.{rules}
-use Rattle.following.proofs.done_entry.Statement.{statement}
-use Rattle.following.proofs.done_entry.Tie as tie
 use mathlib.Core.Path.{◌≡◌, refl}
 use mathlib.Core.List.{[], ◌∷◌}
 use types.Run.{OneOf, miss}
@@ -15,6 +13,7 @@ use Rattle.requests.specs.declared.Order.TheVariants.{WriteMark, RewindOnline, R
 use Rattle.requests.specs.contracts.Request as Request
 use Rattle.requests.specs.contracts.Order as Order
 use Rattle.following.specs.Following.{counted_from}
+use Rattle.following.proofs.done_entry.Goals as goal
 
 -- any other request, and any other order, leaves the entry as it is
 other-request : (e : Entry) (f : OpenFile) (q : Request) → OneOf (0 ∷ 1 ∷ 3 ∷ 4 ∷ 5 ∷ []) (tag_of (Request.the_type) q) → e ≡ counted_from q e f
@@ -37,50 +36,18 @@ other-order e f RecordBack k = refl
 other-order e f FileForward k = refl
 other-order e f FileBack k = refl
 
-one-more-requires : tie.Need-one-more-requires
-one-more-requires c κs = search rules
-
-enum_told : tie.Need-enum-told
-enum_told c = search rules
-
-counted-requires : tie.Need-counted-requires
-counted-requires c κs = search rules
-
-enum-known-q : tie.Need-enum-known-q
-enum-known-q c = search rules
-
-enum-told-2 : tie.Need-enum-told-2
-enum-told-2 c = search rules
-
-counted-requires-2 : tie.Need-counted-requires-2
-counted-requires-2 c κs = search rules
-
-returns : tie.Need-returns
+pub returns-in-Write : goal.returns-in-Write
 unfolding counted_from
-returns c = rw (c.before.enum_told.given.1, c.counted.ensures, c.before.before.before.one_more.ensures)
+returns-in-Write c = rw (c.in-Write.is, c.counted.ensures, c.one_more-past.ensures)
 
-returns-2 : tie.Need-returns-2
+pub returns-in-WriteMark : goal.returns-in-WriteMark
 unfolding counted_from
-returns-2 c = rw (c.before.before.before.before.q.given.1, c.before.enum-told2.given.1, c.counted2.ensures)
+returns-in-WriteMark c = rw (c.in-Position.is, c.in-WriteMark.is, c.counted-in-WriteMark.ensures)
 
-returns-3 : tie.Need-returns-3
+pub returns-in_default-o : goal.returns-in_default-o
 unfolding counted_from
-returns-3 c = rw c.before.before.q.given.1 (other-order c.before.before.before.before.before.args.e c.before.before.before.before.before.args.f c.before.before.q.given.0.0 c.match2.keys2)
+returns-in_default-o c =
+    rw c.in-Position.is (other-order c.args.e c.args.f c.in-Position.o (search rules))
 
-returns-4 : tie.Need-returns-4
-returns-4 c = other-request c.before.before.args.e c.before.before.args.f c.before.before.args.q c.match.keys3
-
-pub done-entry-spec : {M : Type 1} → statement M
-done-entry-spec =
-    tie.close
-    (tie.spec
-    one-more-requires
-    enum_told
-    counted-requires
-    enum-known-q
-    enum-told-2
-    counted-requires-2
-    returns
-    returns-2
-    returns-3
-    returns-4)
+pub returns-in_default : goal.returns-in_default
+returns-in_default c = other-request c.args.e c.args.f c.args.q (search rules)
