@@ -6,7 +6,6 @@ use borrow.Author.Tests.{eq-eqb, ne_eqb}
 use Rattle.geometry.specs.Sizes.{compressed}
 use Rattle.directory.specs.Entries.{is_kind}
 use Rattle.judging.proofs.Written.{goes_near, written-packed, written-fixed}
-use borrow.Author.Rules.{rules}
 use Rattle.judging.proofs.behind_written.Goals as goal
 
 pub overflow_cast-result : goal.overflow_cast-result

@@ -4,7 +4,6 @@ use Rattle.geometry.specs.Bytes.{part, lay}
 use native.Mathlib.Omega.{arith}
 use Prim.Native.Nat.{ℕ}
 use mathlib.Core.Path.{ap, ◌∙◌}
-use borrow.Author.Rules.{rules}
 use Rattle.judging.proofs.copy_record.Goals as goal
 
 pub lay_part-requires : goal.lay_part-requires

@@ -4,7 +4,6 @@ use borrow.Author.Tests.{eq-eqb, ne_eqb}
 use Rattle.mounting.specs.Mounting.{counted_walk}
 use Rattle.packing.specs.declared.Led.TheVariants.{To}
 use Rattle.judging.proofs.Turns.{end-packed, end-fixed}
-use borrow.Author.Rules.{rules}
 use Rattle.judging.proofs.end_place.Goals as goal
 
 pub returns-then-e-eq-COMPRESSED : goal.returns-then-e-eq-COMPRESSED

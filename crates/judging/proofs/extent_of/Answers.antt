@@ -5,7 +5,6 @@ use native.Mathlib.Omega.{arith}
 use Rattle.geometry.specs.Bytes.{part}
 use Rattle.geometry.specs.Sizes.{sector}
 use Rattle.sessions.specs.Session.{extent}
-use borrow.Author.Rules.{rules}
 use Rattle.judging.proofs.extent_of.Goals as goal
 
 pub returns : goal.returns

@@ -8,7 +8,6 @@ use Rattle.steps.specs.Verdict.{seen_bytes}
 use Rattle.requests.proofs.InTurn.{turn}
 use Rattle.requests.proofs.Done.{done-allows}
 use lib.ListN.{length}
-use borrow.Author.Rules.{rules}
 use Rattle.judging.proofs.lawful_ruling.Goals as goal
 
 pub decode-led-requires : goal.decode-led-requires

@@ -3,7 +3,6 @@ use Rattle.geometry.specs.Bytes.{part}
 use native.Mathlib.Omega.{arith}
 use Prim.Native.Nat.{◌-◌}
 use mathlib.Core.Path.{◌≡◌}
-use borrow.Author.Rules.{rules}
 use Rattle.judging.proofs.read_record.Goals as goal
 
 pub returns : goal.returns

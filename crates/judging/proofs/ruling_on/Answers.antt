@@ -1,6 +1,5 @@
 -- 12 and 8 are given at once; behind them the entry and its state are lawful.
 use Rattle.judging.proofs.Entered.{twelve, eight, inside, enters, ruled}
-use borrow.Author.Rules.{rules}
 use Rattle.judging.proofs.ruling_on.Goals as goal
 
 pub returns-then-not-seen : goal.returns-then-not-seen

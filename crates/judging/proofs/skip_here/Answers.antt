@@ -3,7 +3,6 @@ use Rattle.judging.proofs.Here.{packed-led, fixed-led}
 use Rattle.judging.proofs.Turns.{here_end}
 use borrow.Author.Tests.{le-ltb, eq-eqb, ne_eqb}
 use mathlib.Core.Path.{sym, ◌∙◌}
-use borrow.Author.Rules.{rules}
 use Rattle.judging.proofs.skip_here.Goals as goal
 
 pub returns-then-e-f : goal.returns-then-e-f

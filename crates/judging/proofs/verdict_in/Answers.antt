@@ -6,7 +6,6 @@ use Rattle.finding.specs.Lent.{lent_by, own_state, seen_in}
 use Rattle.storing.specs.Stored.{lent_session}
 use Rattle.finding.specs.declared.Seen.{Seen}
 use Rattle.judging.proofs.Entered.{seen-stands, seen-lent, judged}
-use borrow.Author.Rules.{rules}
 use Rattle.judging.proofs.verdict_in.Goals as goal
 
 pub ruling_on-r-requires : goal.ruling_on-r-requires
