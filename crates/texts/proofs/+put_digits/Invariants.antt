@@ -1,0 +1,5 @@
+-- `texts::put_digits` ends: k falls.
+use Rattle.texts.proofs.+put_digits.Given as goal
+
+abbrev pub decreases-put_digits : goal.decreases-put_digits
+decreases-put_digits l = l.k
