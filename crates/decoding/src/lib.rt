@@ -10,7 +10,7 @@ use geometry::Geometry;
 use moving::{byte_at, fill, lay, part};
 
 // What decoding one record gives: the number of bytes of its code, or the offset of the control byte that cannot be obeyed.
-#[derive(Drop)]
+#[derive(Clone, Copy)]
 pub enum Coded {
     Good(usize),
     Bad(usize),

@@ -12,7 +12,7 @@ use geometry::Geometry;
 use moving::{lay, part, same, word_at};
 
 // A directory entry: bytes 0-7 name, then kind, R, first sector, number of sectors, count of records, flags.
-#[derive(Drop)]
+#[derive(Clone, Copy)]
 pub struct Entry {
     pub name: [u8; 8],
     pub kind: u16,
@@ -24,7 +24,7 @@ pub struct Entry {
 }
 
 // What a search by name finds: an entry's number, or nothing (8).
-#[derive(Drop)]
+#[derive(Clone, Copy)]
 pub enum Found {
     Number(usize),
     Nothing,

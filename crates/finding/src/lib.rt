@@ -24,7 +24,7 @@ use tables::{Width, entry_in, table_good};
 
 // What a request asks of a session: whether it is legal for the image, how many files are open, which state is the entry's or is to be,
 // the entry, its file, and what that holds.
-#[derive(Drop)]
+#[derive(Clone, Copy)]
 pub struct Seen {
     pub lawful: bool,
     pub opened: u32,

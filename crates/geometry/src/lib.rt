@@ -8,7 +8,7 @@ ghost use Rattle.geometry.specs.Places.{sectors_for, per_sector, place_of, bytes
 ghost use Rattle.geometry.specs.Places as Places;
 
 // A place in an extent: one of its sectors, from 0 on, and a byte 0 to 360 of that sector.
-#[derive(Drop)]
+#[derive(Clone, Copy)]
 pub struct Place {
     pub sector: u32,
     pub byte: u32,

@@ -192,7 +192,7 @@ fn extent_of(image: &[u8], e: Entry) -> &[u8]
 // ---- what a request is answered
 
 // What a request is answered, and the place that its file's next state is made from.
-#[derive(Drop)]
+#[derive(Clone, Copy)]
 struct Ruling {
     answer: Answer,
     place: Place,
@@ -295,7 +295,7 @@ fn ruling_on(
 // ---- the verdict
 
 // A verdict, what was seen of the session, and the length of the code of the bytes given.
-#[derive(Drop)]
+#[derive(Clone, Copy)]
 pub struct Judged {
     pub verdict: Verdict,
     pub seen: Seen,

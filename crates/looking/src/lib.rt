@@ -17,7 +17,7 @@ use placing::record_at;
 use requests::{Answer, number};
 
 // The answer to a look, and the entry looked at.
-#[derive(Drop)]
+#[derive(Clone, Copy)]
 struct Looked {
     answer: Answer,
     entry: Entry,

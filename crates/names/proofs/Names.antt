@@ -1,14 +1,14 @@
 -- A name is read from its front: a capital or digit is no blank, so what stands behind it decides; where there is none, only blanks may stand.
 use mathlib.Core.Path.{◌≡◌, refl, sym, ap, ◌∙◌}
-use mathlib.Core.Bool.{Bool, true, false, ◌&&◌, ◌||◌, not, or-false, true≢false}
+use mathlib.Core.Bool.{Bool, true, false, ◌&&◌, ◌||◌, or-false, true≢false}
 use mathlib.Core.List.{List, [], ◌∷◌}
-use Prim.Native.Nat.{ℕ, suc, ◌+◌, ◌-◌, ◌<◌, ◌≤◌}
+use Prim.Native.Nat.{ℕ, suc, ◌+◌, ◌<◌, ◌≤◌}
 use native.Mathlib.Nat.{suc-ne-zero}
 use native.Mathlib.Numerals.{add-one}
 use lib.ListN.{length, drop, get_or, drop_of_length-le}
 use lib.Seq.{drop-cons}
 use lib.Dec.{eqb}
-use borrow.Author.Tests.{eq-eqb, ne_eqb, not-true, not-false}
+use borrow.Author.Tests.{eq-eqb, ne_eqb}
 use Rattle.geometry.specs.Lists.{every}
 use Rattle.geometry.specs.Sizes.{blank}
 use Rattle.geometry.proofs.Left.{every-on, every-off, every-end}
@@ -55,12 +55,12 @@ module _ (x : List ℕ) (k : ℕ) where
 
     -- behind capitals and digits
     module _ (t : e ≡ false) (r : Bool) (p : r ≡ (capital (get_or x k 0) || digit (get_or x k 0))) where
-      pub name-on : not r ≡ false → f ≡ e → left x e k ≡ left x f (k + 1)
-      name-on n q = rw (q, t) (rest-on x k h (sym p ∙ not-false r n))
+      pub name-on : r ≡ true → f ≡ e → left x e k ≡ left x f (k + 1)
+      name-on n q = rw (q, t) (rest-on x k h (sym p ∙ n))
 
-      module _ (n : not r ≡ true) where
+      module _ (n : r ≡ false) where
         ends : left x e k ≡ left x true k
-        ends = rw t (rest-off x k h (sym p ∙ not-true r n))
+        ends = rw t (rest-off x k h (sym p ∙ n))
 
         pub name-ends : get_or x k 0 ≡ blank → f ≡ true → left x e k ≡ left x f (k + 1)
         name-ends b q = ends ∙ rw q (every-on _ x k 0 h (eq-eqb (get_or x k 0) blank b))

@@ -11,7 +11,7 @@ use Rattle.geometry.specs.Sizes.{sector}
 use Rattle.geometry.specs.Places.{byte_of, origin}
 use Rattle.geometry.specs.declared.Place.{Place}
 use Rattle.packing.specs.declared.Led.TheVariants.{To, Lost}
-use Rattle.packing.specs.Reading.{Recorded, Got, got, lost, read_behind, Walk, walked, broken, and_then, walk_on, walk, decodes, records_of, behind_from, behind, led_to, walked_to}
+use Rattle.packing.specs.Reading.{Recorded, Got, got, lost, read_behind, Walk, walked, broken, and_then, walk_on, walk, decodes, records_of, behind_from, led_to, walked_to}
 use Rattle.packing.proofs.One.{Within, Upto, upto-less, Told, told, read-upto}
 
 pub no_walk : (p : Place) (rs : List Recorded) → broken p ≡ walked rs → ⊥

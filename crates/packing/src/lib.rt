@@ -8,7 +8,7 @@ ghost use Rattle.packing.specs.Placing.{fits_here, goes_to, has_room};
 use geometry::{Geometry, Place};
 
 // Where reading leads: the place behind the records read, or the place of the byte at which a code is bad.
-#[derive(Drop)]
+#[derive(Clone, Copy)]
 pub enum Led {
     To(Place),
     Lost(Place),

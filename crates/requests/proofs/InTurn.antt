@@ -176,6 +176,16 @@ module _ (f : Facts) where
   good-code Open o = rw (o.legal, o.used, o.shut, lt-leb most_open f.files o.few)
   good-code Read r = advanced (short_buffer ∷ bad_code ∷ meets_mark ∷ at_end ∷ []) r.advances ∙ rw (le-ltb f.buffer f.length r.buffered)
   good-code (Position RecordForward) a = advanced (bad_code ∷ meets_mark ∷ at_end ∷ []) a
+  good-code Write o = elim o [ ]
+  good-code (GranuleRead _) o = elim o [ ]
+  good-code (GranuleWrite _) o = elim o [ ]
+  good-code (GranuleLook _) o = elim o [ ]
+  good-code (Position WriteMark) a = elim a [ ]
+  good-code (Position RewindOnline) a = elim a [ ]
+  good-code (Position RewindOffline) a = elim a [ ]
+  good-code (Position RecordBack) a = elim a [ ]
+  good-code (Position FileForward) a = elim a [ ]
+  good-code (Position FileBack) a = elim a [ ]
 
   -- a read whose turn has come, of a record that is there and good, is done
   pub reads_on : ReadsThen f → f.position < f.count → judge Read (supposing false f) ≡ Done

@@ -10,7 +10,7 @@ ghost use Rattle.requests.specs.declared.Answer.TheVariants.{Met, Refused};
 use geometry::Place;
 
 // A position order, one of seven.
-#[derive(Drop)]
+#[derive(Clone, Copy)]
 pub enum Order {
     WriteMark,
     RewindOnline,
@@ -22,7 +22,7 @@ pub enum Order {
 }
 
 // A read, a write, a granule read, write or look, an opening, or a position order.
-#[derive(Drop)]
+#[derive(Clone, Copy)]
 pub enum Request {
     Open,
     Read,
@@ -35,7 +35,7 @@ pub enum Request {
 
 // What the directory is asked, the RAD Editor's ADD and DELETE: a file is added, with its kind, its record or granule length and its number of
 // sectors, the bytes given being its name; or the file of an entry is deleted.
-#[derive(Drop)]
+#[derive(Clone, Copy)]
 pub enum Edit {
     Add {
         kind: u16,
@@ -46,21 +46,21 @@ pub enum Edit {
 }
 
 // What a code asks for.
-#[derive(Drop)]
+#[derive(Clone, Copy)]
 pub enum Asked {
     For(Request),
     Unknown,
 }
 
 // What a request may meet: answers 1 and 2.
-#[derive(Drop)]
+#[derive(Clone, Copy)]
 pub enum Edge {
     EndOfFile,
     BeginningOfTape,
 }
 
 // Answers 3 to 17, in that order.
-#[derive(Drop)]
+#[derive(Clone, Copy)]
 pub enum Refusal {
     NoRoom,
     Protected,
@@ -80,7 +80,7 @@ pub enum Refusal {
 }
 
 // An answer: done, an edge met, or a refusal.
-#[derive(Drop)]
+#[derive(Clone, Copy)]
 pub enum Answer {
     Done,
     Met(Edge),
@@ -88,7 +88,7 @@ pub enum Answer {
 }
 
 // What the tests ask about: the session, the entry, its file, and what the caller lends.
-#[derive(Drop)]
+#[derive(Clone, Copy)]
 pub struct Facts {
     pub legal: bool, // the session is legal for this image
     pub files: u32, // how many files are open

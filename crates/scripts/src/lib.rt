@@ -11,7 +11,7 @@ use requests::{Asked, by_code};
 // ---- rows
 
 // A row that is in order.
-#[derive(Drop)]
+#[derive(Clone, Copy)]
 pub struct Row {
     pub code: u16,
     pub entry: u16, // of an adding: its kind
@@ -22,7 +22,7 @@ pub struct Row {
 }
 
 // Why a row is not in order.
-#[derive(Drop)]
+#[derive(Clone, Copy)]
 pub enum Fault {
     Cut(u32), // only so many of its bytes are there
     Shape, // word 7 is not zero, or word 6 where no granule is taken
@@ -33,7 +33,7 @@ pub enum Fault {
 }
 
 // What a row is read as.
-#[derive(Drop)]
+#[derive(Clone, Copy)]
 pub enum Found {
     InOrder(Row),
     Wrong(Fault),
@@ -136,7 +136,7 @@ pub fn missing_for(row: Row) -> Fault
 // ---- sums
 
 // The sum of some words, and the sum of those sums behind each word, both modulo 65,535.
-#[derive(Drop)]
+#[derive(Clone, Copy)]
 pub struct Sums {
     pub words: u32,
     pub running: u32,
@@ -164,7 +164,7 @@ pub fn sums_of(s: &[u8]) -> Sums
 // ---- what is said
 
 // What is said of a row.
-#[derive(Drop)]
+#[derive(Clone, Copy)]
 pub struct Played {
     pub number: u16, // its request's
     pub sum: u32, // of the words moved

@@ -10,7 +10,7 @@ use directory::{Entry, is_marked};
 use geometry::{Geometry, Place};
 
 // An open file: its entry, its position, and for a compressed file the current place and the end place.
-#[derive(Drop)]
+#[derive(Clone, Copy)]
 pub struct OpenFile {
     pub used: bool,
     pub entry: usize,
@@ -31,7 +31,7 @@ pub struct BufferedFile {
 }
 
 // What an open file holds, without the bytes: a sector of its extent, if it holds one, and whether that is changed.
-#[derive(Drop)]
+#[derive(Clone, Copy)]
 pub struct Holding {
     pub holds: bool,
     pub held: u32,
@@ -39,7 +39,7 @@ pub struct Holding {
 }
 
 // What a session says of itself.
-#[derive(Drop)]
+#[derive(Clone, Copy)]
 pub struct Saying {
     pub refused: bool, // it is from a refused mounting
 }
@@ -61,7 +61,7 @@ pub struct BufferedSession {
 }
 
 // Where an entry's file stands.
-#[derive(Drop)]
+#[derive(Clone, Copy)]
 pub enum Spot {
     Closed,
     At { record: u32, beyond: bool },

@@ -21,7 +21,7 @@ use texts::{put_all, put_byte, put_number};
 use typing::put_name;
 
 // A piece of a listing: a number, and how many bytes of text were put. More comes behind it where the number is 0.
-#[derive(Drop)]
+#[derive(Clone, Copy)]
 pub struct Piece {
     pub number: u16,
     pub size: usize,

@@ -14,7 +14,7 @@ use storing::{Form, flag, has_buffers, no_hold};
 // ---- the bytes of numbers
 
 // The four bytes of a number, and the eight of one: the first counts least.
-#[derive(Drop)]
+#[derive(Clone, Copy)]
 struct Long {
     a: u8,
     b: u8,
@@ -22,7 +22,7 @@ struct Long {
     d: u8,
 }
 
-#[derive(Drop)]
+#[derive(Clone, Copy)]
 struct Wide {
     a: u8,
     b: u8,

@@ -6,7 +6,7 @@ use requests::Answer;
 use sessions::OpenFile;
 
 // What a request comes to: the answer, and the next entry and the next state of its file.
-#[derive(Drop)]
+#[derive(Clone, Copy)]
 pub struct Verdict {
     pub answer: Answer,
     pub entry: Entry,

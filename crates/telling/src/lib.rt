@@ -65,7 +65,7 @@ pub fn field_in(b: &[u8], i: usize, field: u16) -> u32
 // ---- answers in words
 
 // Where the words of an answer's number begin among those of all, and how many bytes they have.
-#[derive(Drop)]
+#[derive(Clone, Copy)]
 struct Words {
     at: usize,
     size: usize,

@@ -11,7 +11,7 @@ use moving::{part, same};
 use texts::{Numeral, number_in, put_all, put_byte};
 
 // A number that two bytes hold, or none.
-#[derive(Drop)]
+#[derive(Clone, Copy)]
 pub enum Typed {
     Number(u16),
     Nothing,

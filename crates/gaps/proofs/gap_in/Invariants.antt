@@ -1,0 +1,16 @@
+-- `gaps::gap_in` meets its contract: at no sector passed do so many free sectors stand, and a sweep goes on unless nothing is in the way.
+use Prim.Native.Nat.{ℕ, suc, ◌-◌, ◌≤◌, ◌<◌}
+use mathlib.Core.Path.{◌≡◌}
+use mathlib.Core.Bool.{false}
+use native.Mathlib.Omega.{arith}
+use Rattle.tables.specs.Tables.{entries_in}
+use Rattle.gaps.specs.Gaps.{is_taken, stands_free}
+use Rattle.gaps.proofs.Gaps.{stands-directory}
+use Rattle.gaps.proofs.Sweep.{swept-on, passed_on, rests, leaves}
+use Rattle.gaps.proofs.gap_in.Given as goal
+
+abbrev pub invariant-loop-p : goal.invariant-loop-p
+invariant-loop-p l = (1 ≤ l.p) × (l.p ≤ 131070) × ((q : ℕ) → q < l.p → stands_free (is_taken (entries_in l.width l.rows l.b)) l.sectors l.n q ≡ false)
+
+abbrev pub decreases-loop-p : goal.decreases-loop-p
+decreases-loop-p l = suc l.sectors - l.p

@@ -1,0 +1,10 @@
+-- `laying::six_bytes` meets its contract: the code is the definition.
+use mathlib.Core.Path.{refl}
+use Rattle.geometry.specs.Bytes.{word}
+use Rattle.tables.specs.Numbers.{long}
+use Rattle.tables.specs.Tables.{count_of}
+use Rattle.laying.proofs.six_bytes.Goals as goal
+
+pub returns : goal.returns
+unfolding count_of long word
+returns c = refl

@@ -1,0 +1,54 @@
+-- `directory::used_good` meets its contract: the rules that do not differ from kind to kind first, then those of the kind; there is no fifth.
+use mathlib.Core.Path.{sym, ◌∙◌}
+use native.Mathlib.Omega.{arith}
+use borrow.Author.Tests.{le-leb, lt-leb}
+use Rattle.directory.specs.Rules.{flags_known}
+use Rattle.directory.proofs.Grouped.{used-outside, used-flagged, used-kind, used-other}
+use Rattle.vetting.proofs.used_good.Goals as goal
+
+pub returns-then-not-extent_inside : goal.returns-then-not-extent_inside
+returns-then-not-extent_inside c =
+    let a = c.args in
+    sym (used-outside a.n a.e (sym c.extent_inside.ensures ∙ c.if-not-extent_inside.true))
+
+pub returns-then-e-gt3 : goal.returns-then-e-gt3
+unfolding flags_known
+returns-then-e-gt3 c =
+    let a = c.args in
+    sym (used-flagged a.n a.e (sym c.extent_inside.ensures ∙ c.if-not-extent_inside.false) (lt-leb _ _ c.if-e-gt3.true))
+
+pub returns-then-e-eq-COMPRESSED : goal.returns-then-e-eq-COMPRESSED
+unfolding flags_known
+returns-then-e-eq-COMPRESSED c =
+    let a = c.args in
+    c.compressed_good.ensures ∙ sym (used-kind a.n a.e (sym c.extent_inside.ensures ∙ c.if-not-extent_inside.false) (le-leb _ _ c.if-e-gt3.false) (omega arith) (omega arith))
+
+pub returns-then-e-eq-RANDOM : goal.returns-then-e-eq-RANDOM
+unfolding flags_known
+returns-then-e-eq-RANDOM c =
+    let a = c.args in
+    c.random_good.ensures ∙ sym (used-kind a.n a.e (sym c.extent_inside.ensures ∙ c.if-not-extent_inside.false) (le-leb _ _ c.if-e-gt3.false) (omega arith) (omega arith))
+
+pub returns-then-e-gt-BLOCKED : goal.returns-then-e-gt-BLOCKED
+unfolding flags_known
+returns-then-e-gt-BLOCKED c =
+    let a = c.args in
+    sym (used-other a.n a.e (sym c.extent_inside.ensures ∙ c.if-not-extent_inside.false) (le-leb _ _ c.if-e-gt3.false) (λ z. omega arith) (λ z. omega arith) c.if-e-eq-COMPRESSED.false c.if-e-eq-RANDOM.false)
+
+pub returns-then-e-eq-BLOCKED : goal.returns-then-e-eq-BLOCKED
+unfolding flags_known
+returns-then-e-eq-BLOCKED c =
+    let a = c.args in
+    c.blocked_good.ensures ∙ sym (used-kind a.n a.e (sym c.extent_inside.ensures ∙ c.if-not-extent_inside.false) (le-leb _ _ c.if-e-gt3.false) (omega arith) (omega arith))
+
+pub returns-then-e-eq-UNBLOCKED : goal.returns-then-e-eq-UNBLOCKED
+unfolding flags_known
+returns-then-e-eq-UNBLOCKED c =
+    let a = c.args in
+    c.unblocked_good.ensures ∙ sym (used-kind a.n a.e (sym c.extent_inside.ensures ∙ c.if-not-extent_inside.false) (le-leb _ _ c.if-e-gt3.false) (omega arith) (omega arith))
+
+pub returns : goal.returns
+unfolding flags_known
+returns c =
+    let a = c.args in
+    sym (used-other a.n a.e (sym c.extent_inside.ensures ∙ c.if-not-extent_inside.false) (le-leb _ _ c.if-e-gt3.false) c.if-e-eq-UNBLOCKED.false c.if-e-eq-BLOCKED.false (λ z. omega arith) (λ z. omega arith))
