@@ -9,7 +9,7 @@ use lib.ListN.{length, get_or, get_or-eq_default}
 use lib.Dec.{eqb, ltb}
 use borrow.Author.Tests.{leb-true, ltb-true, eqb-true, not-true}
 use Rattle.geometry.specs.Lists.{every, pairwise}
-use Rattle.geometry.specs.Sizes.{sector, entries, compressed, sectors_of, lawful_length}
+use Rattle.geometry.specs.Sizes.{entries, compressed, sectors_of, lawful_length}
 use Rattle.geometry.proofs.Tests.{and_left, and_right, all_get_d, every_any, pairwise-get_or, both_ways, either}
 use Rattle.directory.specs.Entries.{entry_at, free_entry, is_free, is_kind, is_marked}
 use Rattle.directory.specs.Rules.{table_good}

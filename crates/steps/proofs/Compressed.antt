@@ -1,13 +1,13 @@
 -- A compressed file, as a request finds it: what is read at its place, where a record is written, and that the places behind lie in the extent,
 -- as the packing's laws say.
 use mathlib.Core.Path.{◌≡◌, refl, sym, ap, ◌∙◌}
-use mathlib.Core.Bool.{true, false, not, false≢true}
+use mathlib.Core.Bool.{true, false, false≢true}
 use Prim.Native.Nat.{ℕ, ◌≤◌, ◌<◌}
 use native.Mathlib.Omega.{arith}
 use lib.ListN.{length}
 use lib.Dec.{ltb}
 use borrow.Author.Tests.{lt-ltb, le-leb, ltb-true, leb-true, not-false}
-use Rattle.geometry.specs.Sizes.{sector, compressed}
+use Rattle.geometry.specs.Sizes.{compressed}
 use Rattle.geometry.specs.Places.{origin}
 use Rattle.geometry.specs.declared.Place.{Place}
 use Rattle.geometry.proofs.Tests.{and_left, and_right}
