@@ -8,7 +8,7 @@ use moving::same;
 use std::env::{Env, FillError};
 use std::fs::{File, OpenOptions};
 use std::io::{ErrorKind, Read, Seek, SeekFrom, Write};
-use std::{io, str};
+use std::{fs, io, str};
 
 // ---- arguments
 
@@ -146,6 +146,14 @@ pub fn readable(rt: &HostRuntime, i: usize) -> bool {
 // Opens a new file to write it. It fails where there is one of that name.
 pub fn create(rt: &HostRuntime, path: &[u8]) -> io::Result<File> {
     open(rt, OpenOptions::new().write(true).create_new(true), path)
+}
+
+// Removes a file.
+pub fn remove(rt: &HostRuntime, path: &[u8]) -> io::Result<()> {
+    match str::from_utf8(path) {
+        Ok(path) => fs::remove_file(rt, path),
+        Err(_) => Err(io::Error::from(ErrorKind::InvalidInput)),
+    }
 }
 
 // The file that argument i names, opened to be written, of which not a byte changes.
