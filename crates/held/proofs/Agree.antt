@@ -105,7 +105,8 @@ held_same c i [] u w = refl
 held_same c i (hold k ∷ xs) u w = held_same c i xs u _
 held_same c i (change x ∷ xs) u w = held_same c i xs u _
 held_same c i (store y ∷ xs) u w = held_same c i xs u _
-held_same c i (stamp ys ∷ xs) (inl p) w = rw p (held_same c c.number xs (inl refl) _)
+held_same c i (stamp ys ∷ xs) (inl p) w =
+    ap (λ (n : ℕ). held_all (scene n c.entry) (stamp ys ∷ xs) w) p ∙ held_same c c.number xs (inl refl) _
 held_same c i (stamp ys ∷ xs) (inr u) w = absurd u
 held_same c i (put_back ∷ xs) u w = held_same c i xs u _
 

@@ -1,0 +1,13 @@
+-- `blocking::is_there` meets its contract: two tests.
+use borrow.Author.Tests.{lt-ltb, le-ltb}
+use Rattle.blocking.specs.Blocking.{is_there}
+use borrow.Author.Rules.{rules}
+use Rattle.blocking.proofs.is_there.Goals as goal
+
+pub returns-then-k-e : goal.returns-then-k-e
+unfolding is_there
+returns-then-k-e c = rw (lt-ltb _ _ c.if-k-e.true)
+
+pub returns-else-k-e : goal.returns-else-k-e
+unfolding is_there
+returns-else-k-e c = rw (le-ltb _ _ c.if-k-e.false)

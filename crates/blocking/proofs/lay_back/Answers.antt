@@ -1,0 +1,19 @@
+-- `blocking::lay_back` meets its contract: a changed buffer is laid, any other left.
+use mathlib.Core.Path.{◌∙◌, ap}
+use mathlib.Core.Bool.{true, false}
+use Rattle.geometry.specs.Bytes.{lay}
+use Rattle.blocking.proofs.Cases.{lay-changed, lay-unchanged}
+use Rattle.blocking.specs.Blocking.{lent}
+use borrow.Author.Rules.{rules}
+use Rattle.blocking.proofs.lay_back.Goals as goal
+
+pub returns-then-h : goal.returns-then-h
+returns-then-h c =
+    let a = c.args in
+    ap (λ image. lent image (record { holds = true; held = a.h.held; changed = false }) a.buffer.now) (c.lay.ensures ∙ ap (λ at. lay a.image.now at a.buffer.now) c.sector_at.ensures)
+    ∙ lay-changed a.e (lent a.image.now a.h a.buffer.now) c.if-h.true
+
+pub returns-else-h : goal.returns-else-h
+returns-else-h c =
+    let a = c.args in
+    lay-unchanged a.e (lent a.image.now a.h a.buffer.now) c.if-h.false
