@@ -4,7 +4,6 @@ use mathlib.Core.List.{List}
 use Rattle.directory.specs.Entries.{entry_at}
 use Rattle.directory.specs.declared.Entry.{Entry}
 use Rattle.finding.proofs.Lent.{table_is}
-use borrow.Author.Rules.{rules}
 use Rattle.finding.proofs.entry_of.Goals as goal
 
 pub returns : goal.returns

@@ -1,6 +1,5 @@
 -- Each field is read at its place.
 use Rattle.storing.specs.Stored.{file_in}
-use borrow.Author.Rules.{rules}
 use Rattle.finding.proofs.file_at.Goals as goal
 
 pub returns : goal.returns

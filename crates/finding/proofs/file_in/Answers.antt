@@ -2,7 +2,6 @@
 use mathlib.Core.Path.{◌∙◌}
 use native.Mathlib.Omega.{arith}
 use Rattle.finding.proofs.Lent.{file-here, file-none}
-use borrow.Author.Rules.{rules}
 use Rattle.finding.proofs.file_in.Goals as goal
 
 pub returns-then-k-lt-MOST_OPEN : goal.returns-then-k-lt-MOST_OPEN

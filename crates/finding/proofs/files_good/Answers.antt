@@ -1,18 +1,15 @@
 -- `finding::lawful::files_good` meets its contract: what is done of the states keeps both rules.
-use Prim.Native.Nat.{◌≤◌, ◌-◌, ◌<◌}
+use Prim.Native.Nat.{◌<◌}
 use mathlib.Core.Path.{◌≡◌, refl, sym, ◌∙◌}
-use mathlib.Core.Bool.{true}
 use native.Mathlib.Omega.{arith}
 use lib.ListN.{length, take, get_or}
-use borrow.Author.Tests.{not-true, not-false}
-use Rattle.geometry.proofs.Front.{Front, front-none, front-on, front-one, front-some, front-whole}
+use Rattle.geometry.proofs.Front.{front-none, front-on, front-one, front-some, front-whole}
 use Rattle.sessions.specs.Session.{idle, of_other}
 use Rattle.sessions.specs.Grouped.{file_good}
 use Rattle.sessions.proofs.Grouped.{files-grouped, file-unused, others-unused}
 use Rattle.storing.specs.Stored.{table_in}
 use Rattle.finding.specs.Lent.{files_in}
 use Rattle.finding.proofs.Lent.{length-files, state-is, state-used, one-file-told, others-told}
-use borrow.Author.Rules.{rules}
 use Rattle.finding.proofs.files_good.Goals as goal
 use Rattle.finding.proofs.files_good.Goals.{then-is_set+else-not-file_good+else-not-none_before, else-is_set}
 

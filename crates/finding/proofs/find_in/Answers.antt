@@ -1,10 +1,8 @@
 -- Judged and searched where it lies; bytes that are no session are one that is legal for no image.
 use mathlib.Core.Path.{refl, sym, ◌∙◌}
 use native.Mathlib.Omega.{arith}
-use borrow.Author.Tests.{not-true, not-false}
 use Rattle.storing.specs.Stored.{width}
 use Rattle.finding.proofs.Lent.{spaced, flagged, none_seen, seen_none, seen-is}
-use borrow.Author.Rules.{rules}
 use Rattle.finding.proofs.find_in.Goals as goal
 
 pub returns-then-not-is_session : goal.returns-then-not-is_session

@@ -1,15 +1,13 @@
 -- `finding::lawful::first_idle` meets its contract: each state passed is in use.
-use Prim.Native.Nat.{ℕ, ◌<◌, ◌≤◌, ◌-◌}
 use mathlib.Core.Path.{◌≡◌, sym, ap, ◌∙◌}
-use mathlib.Core.Bool.{false, not}
+use mathlib.Core.Bool.{not}
 use native.Mathlib.Omega.{arith}
-use lib.ListN.{length, get_or}
+use lib.ListN.{length}
 use borrow.Author.Count.{below_more}
 use Rattle.geometry.proofs.Tests.{first-is}
 use Rattle.sessions.specs.Session.{idle}
 use Rattle.finding.specs.Lent.{files_in}
 use Rattle.finding.proofs.Lent.{length-files, state-used}
-use borrow.Author.Rules.{rules}
 use Rattle.finding.proofs.first_idle.Goals as goal
 
 pub loop-k-init : goal.loop-k-init

@@ -1,15 +1,10 @@
 -- `finding::lawful::first_idle` meets its contract: each state passed is in use.
 use Prim.Native.Nat.{ℕ, ◌<◌, ◌≤◌, ◌-◌}
-use mathlib.Core.Path.{◌≡◌, sym, ap, ◌∙◌}
+use mathlib.Core.Path.{◌≡◌}
 use mathlib.Core.Bool.{false, not}
-use native.Mathlib.Omega.{arith}
-use lib.ListN.{length, get_or}
-use borrow.Author.Count.{below_more}
-use Rattle.geometry.proofs.Tests.{first-is}
+use lib.ListN.{get_or}
 use Rattle.sessions.specs.Session.{idle}
 use Rattle.finding.specs.Lent.{files_in}
-use Rattle.finding.proofs.Lent.{length-files, state-used}
-use borrow.Author.Rules.{rules}
 use Rattle.finding.proofs.first_idle.Given as goal
 
 abbrev pub invariant-loop-k : goal.invariant-loop-k

@@ -1,16 +1,12 @@
 -- What is left of the states decides.
-use Prim.Native.Nat.{◌≤◌, ◌-◌}
 use mathlib.Core.Path.{◌≡◌, refl, sym, ◌∙◌}
 use native.Mathlib.Omega.{arith}
-use lib.ListN.{length, drop, get_or}
-use borrow.Author.Tests.{not-true, not-false}
-use Rattle.geometry.specs.Lists.{every}
+use lib.ListN.{length, get_or}
 use Rattle.geometry.proofs.Left.{every-on, every-off, every-end}
 use Rattle.sessions.specs.Session.{idle, fresh, held_good}
 use mathlib.Core.Bool.{true}
 use Rattle.storing.specs.Stored.{table_in, states_in}
 use Rattle.finding.proofs.Lent.{length-states, hold-told, hold-none}
-use borrow.Author.Rules.{rules}
 use Rattle.finding.proofs.held_good.Goals as goal
 use Rattle.finding.proofs.held_good.Goals.{then-is_set+else-not-hold_good, else-is_set}
 

@@ -1,7 +1,6 @@
 -- A state that is used has what it holds in its bytes; any other holds nothing.
 use mathlib.Core.Path.{◌∙◌}
 use Rattle.finding.proofs.Lent.{hold-used, hold-idle}
-use borrow.Author.Rules.{rules}
 use Rattle.finding.proofs.hold_at.Goals as goal
 
 pub returns-then-is_set : goal.returns-then-is_set

@@ -6,7 +6,6 @@ use borrow.Author.Tests.{ltb-true}
 use Rattle.geometry.proofs.Tests.{and_left, and_right}
 use Rattle.knowing.proofs.Known.{held-wide}
 use Rattle.finding.proofs.Lent.{hold-here, hold-past}
-use borrow.Author.Rules.{rules}
 use Rattle.finding.proofs.hold_in.Goals as goal
 
 pub state_place-requires : goal.state_place-requires

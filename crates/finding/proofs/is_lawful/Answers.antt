@@ -5,7 +5,6 @@ use Rattle.geometry.proofs.Places.{lawful-most}
 use Rattle.sessions.proofs.Grouped.{grouped}
 use Rattle.storing.proofs.Counts.{has-table}
 use Rattle.finding.specs.Lent.{bare_in}
-use borrow.Author.Rules.{rules}
 use Rattle.finding.proofs.is_lawful.Goals as goal
 
 pub overflow_cast-n : goal.overflow_cast-n

@@ -1,7 +1,6 @@
 -- `finding::lawful::is_of_at` meets its contract: the first byte says whether the state is in use, and the next eight whose it is.
 use Rattle.sessions.specs.Session.{is_of}
 use Rattle.storing.specs.Stored.{file_in}
-use borrow.Author.Rules.{rules}
 use Rattle.finding.proofs.is_of_at.Goals as goal
 
 pub returns : goal.returns

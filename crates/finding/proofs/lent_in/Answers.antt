@@ -4,7 +4,6 @@ use lib.Dec.{ltb}
 use borrow.Author.Tests.{ltb-true}
 use Rattle.geometry.proofs.Tests.{and_right}
 use Rattle.finding.proofs.Lent.{lent-part, lent_none}
-use borrow.Author.Rules.{rules}
 use Rattle.finding.proofs.lent_in.Goals as goal
 
 pub state_place-requires : goal.state_place-requires

@@ -1,7 +1,6 @@
 -- `finding::long` meets its contract: each byte counts 256 times the one before it.
 use native.Mathlib.Omega.{arith}
 use Rattle.tables.specs.Numbers.{number_in}
-use borrow.Author.Rules.{rules}
 use Rattle.finding.proofs.long.Goals as goal
 
 pub returns : goal.returns

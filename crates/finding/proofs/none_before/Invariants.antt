@@ -1,14 +1,11 @@
 -- `finding::lawful::none_before` meets its contract: what is left of the states before it decides.
 use Prim.Native.Nat.{◌≤◌, ◌-◌}
-use mathlib.Core.Path.{◌≡◌, refl, sym, ap, ◌∙◌}
+use mathlib.Core.Path.{◌≡◌}
 use mathlib.Core.Bool.{not}
-use native.Mathlib.Omega.{arith}
-use lib.ListN.{length, take, drop}
+use lib.ListN.{take, drop}
 use Rattle.geometry.specs.Lists.{every}
-use Rattle.sessions.specs.Session.{idle, is_of}
+use Rattle.sessions.specs.Session.{is_of}
 use Rattle.finding.specs.Lent.{files_in}
-use Rattle.finding.proofs.Lent.{length-files, state-of, before_on, before-off, before-end}
-use borrow.Author.Rules.{rules}
 use Rattle.finding.proofs.none_before.Given as goal
 
 abbrev pub invariant-loop-j : goal.invariant-loop-j

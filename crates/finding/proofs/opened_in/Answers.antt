@@ -1,6 +1,5 @@
 -- `finding::opened_in` meets its contract: the four truth values together.
 use Rattle.finding.proofs.Lent.{opened-sum}
-use borrow.Author.Rules.{rules}
 use Rattle.finding.proofs.opened_in.Goals as goal
 
 pub returns : goal.returns

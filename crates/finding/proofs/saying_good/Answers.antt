@@ -1,7 +1,6 @@
 -- The byte behind the states decides whether there is anything to be judged.
 use native.Mathlib.Omega.{arith}
 use Rattle.finding.proofs.Lent.{says-refused, says-mounted}
-use borrow.Author.Rules.{rules}
 use Rattle.finding.proofs.saying_good.Goals as goal
 
 pub returns-then-is_set : goal.returns-then-is_set

@@ -5,7 +5,6 @@ use lib.ListN.{length}
 use Rattle.sessions.proofs.Files.{slot-own, slot-new}
 use Rattle.finding.specs.Lent.{files_in}
 use Rattle.finding.proofs.Lent.{length-files}
-use borrow.Author.Rules.{rules}
 use Rattle.finding.proofs.slot_in.Goals as goal
 
 pub returns-then-own-lt-MOST_OPEN : goal.returns-then-own-lt-MOST_OPEN

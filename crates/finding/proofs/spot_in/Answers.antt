@@ -1,11 +1,10 @@
 -- It stands where its file does; bytes that are no session have none open.
 use mathlib.Core.Path.{sym, ap, ◌∙◌}
-use Rattle.sessions.specs.Session.{file_of, stand}
+use Rattle.sessions.specs.Session.{file_of}
 use mathlib.Core.List.{[]}
 use Prim.Native.Nat.{ℕ}
 use Rattle.finding.specs.Lent.{files_in}
 use Rattle.finding.proofs.Lent.{spaced, spot_is, spot-none}
-use borrow.Author.Rules.{rules}
 use Rattle.finding.proofs.spot_in.Goals as goal
 
 pub slot_in-requires : goal.slot_in-requires

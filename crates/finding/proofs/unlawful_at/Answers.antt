@@ -5,7 +5,6 @@ use Prim.Native.Nat.{◌≤◌}
 use lib.ListN.{length, get_or-replicate, get_or-eq_default}
 use Rattle.directory.specs.Entries.{free_entry}
 use Rattle.storing.specs.Stored.{unlawful_entry, unlawful}
-use borrow.Author.Rules.{rules}
 use Rattle.finding.proofs.unlawful_at.Goals as goal
 
 pub returns-then-i-lt-ENTRIES : goal.returns-then-i-lt-ENTRIES

@@ -1,5 +1,4 @@
 -- No file is open, so that state 0 is the first that is not in use.
-use borrow.Author.Rules.{rules}
 use Rattle.finding.proofs.unseen.Goals as goal
 
 pub returns : goal.returns

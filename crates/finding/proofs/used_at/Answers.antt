@@ -2,7 +2,6 @@
 use mathlib.Core.Path.{◌∙◌}
 use Rattle.storing.specs.Stored.{file_in}
 use Rattle.finding.proofs.Lent.{used-is, used-not}
-use borrow.Author.Rules.{rules}
 use Rattle.finding.proofs.used_at.Goals as goal
 
 pub returns-then-is_set : goal.returns-then-is_set

@@ -1,6 +1,5 @@
 -- Each truth value is 0 or 1.
 use Rattle.storing.specs.Stored.{file_flags}
-use borrow.Author.Rules.{rules}
 use Rattle.knowing.proofs.file_flags.Goals as goal
 
 pub returns : goal.returns

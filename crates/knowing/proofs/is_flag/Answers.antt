@@ -3,7 +3,6 @@ use Prim.Native.Nat.{ℕ}
 use native.Mathlib.Omega.{arith}
 use mathlib.Core.Path.{refl}
 use Rattle.storing.proofs.Read.{bytes}
-use borrow.Author.Rules.{rules}
 use Rattle.knowing.proofs.is_flag.Goals as goal
 
 pub returns : goal.returns

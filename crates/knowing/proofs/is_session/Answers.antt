@@ -1,6 +1,5 @@
 -- As many bytes as it takes, and each truth value of its four states and of what it says of itself.
 use Rattle.knowing.proofs.Known.{session-told, session-not}
-use borrow.Author.Rules.{rules}
 use Rattle.knowing.proofs.is_session.Goals as goal
 
 pub returns-then-b-says : goal.returns-then-b-says

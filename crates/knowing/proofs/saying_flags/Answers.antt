@@ -1,6 +1,5 @@
 -- Its one truth value.
 use Rattle.storing.specs.Stored.{saying_flags}
-use borrow.Author.Rules.{rules}
 use Rattle.knowing.proofs.saying_flags.Goals as goal
 
 pub returns : goal.returns

@@ -2,7 +2,6 @@
 use native.Mathlib.Omega.{arith}
 use Rattle.storing.proofs.Read.{width-least}
 use Rattle.knowing.proofs.Known.{held-wide, flags-held, flags-plain}
-use borrow.Author.Rules.{rules}
 use Rattle.knowing.proofs.state_flags.Goals as goal
 
 pub file_flags-requires : goal.file_flags-requires

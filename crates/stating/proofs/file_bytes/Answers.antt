@@ -5,7 +5,6 @@ use Prim.Native.Nat.{ℕ}
 use Rattle.storing.specs.Numbers.{bytes_of, flag_of}
 use Rattle.storing.specs.Stored.{place_stored, file_stored}
 use Rattle.sessions.specs.declared.OpenFile.{OpenFile}
-use borrow.Author.Rules.{rules}
 use Rattle.stating.proofs.file_bytes.Goals as goal
 
 joined : (o : OpenFile) (u y : ℕ) (i p h e : List ℕ)

@@ -1,7 +1,6 @@
 -- The bytes of a number are its remainders by 256.
 use mathlib.Core.Path.{refl}
 use Rattle.storing.specs.Numbers.{bytes_of}
-use borrow.Author.Rules.{rules}
 use Rattle.stating.proofs.four.Goals as goal
 
 pub returns : goal.returns

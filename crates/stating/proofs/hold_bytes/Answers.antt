@@ -5,7 +5,6 @@ use Prim.Native.Nat.{ℕ}
 use Rattle.storing.specs.Numbers.{bytes_of, flag_of}
 use Rattle.storing.specs.Stored.{hold_stored}
 use Rattle.sessions.specs.declared.Holding.{Holding}
-use borrow.Author.Rules.{rules}
 use Rattle.stating.proofs.hold_bytes.Goals as goal
 
 joined : (h : Holding) (a c : ℕ) (n : List ℕ) → a ≡ flag_of h.holds → n ≡ bytes_of 4 h.held → c ≡ flag_of h.changed → (a ∷ []) ++ (n ++ (c ∷ [])) ≡ hold_stored h

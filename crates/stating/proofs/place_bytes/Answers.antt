@@ -3,7 +3,6 @@ use mathlib.Core.Path.{ap₂}
 use mathlib.Core.List.{List, ◌++◌}
 use Prim.Native.Nat.{ℕ}
 use Rattle.storing.specs.Stored.{place_stored}
-use borrow.Author.Rules.{rules}
 use Rattle.stating.proofs.place_bytes.Goals as goal
 
 pub returns : goal.returns

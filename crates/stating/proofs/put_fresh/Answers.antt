@@ -5,7 +5,6 @@ use Rattle.geometry.specs.Bytes.{lay}
 use Rattle.storing.specs.Stored.{has_buffers, lay_state}
 use Rattle.sessions.specs.declared.BufferedFile.{BufferedFile}
 use Rattle.storing.proofs.Laid.{fresh-put, plain-fresh, past-fresh}
-use borrow.Author.Rules.{rules}
 use Rattle.stating.proofs.put_fresh.Goals as goal
 
 pub returns-then-k-lt-MOST_OPEN : goal.returns-then-k-lt-MOST_OPEN

@@ -1,6 +1,5 @@
 -- The state in one part, or with what it holds in two.
 use Rattle.storing.proofs.Laid.{state-past, plain-put, held-put}
-use borrow.Author.Rules.{rules}
 use Rattle.stating.proofs.put_state.Goals as goal
 
 pub returns-then-buffers : goal.returns-then-buffers

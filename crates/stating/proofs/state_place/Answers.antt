@@ -4,7 +4,6 @@ use Prim.Native.Nat.{◌+◌, ◌*◌}
 use mathlib.Core.Bool.{Bool}
 use native.Mathlib.Omega.{arith}
 use Rattle.storing.specs.Stored.{files_at, width}
-use borrow.Author.Rules.{rules}
 use Rattle.stating.proofs.state_place.Goals as goal
 
 pub returns-then-buffers : goal.returns-then-buffers

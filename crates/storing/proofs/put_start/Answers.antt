@@ -4,7 +4,6 @@ use mathlib.Core.Path.{ap, ◌∙◌, sym}
 use mathlib.Core.Bool.{Bool}
 use Rattle.storing.specs.Stored.{saying_stored, start_saying, start_table, lay_start}
 use Rattle.storing.proofs.Start.{sized, has-saying, start_none, start-table, start-other}
-use borrow.Author.Rules.{rules}
 use Rattle.storing.proofs.put_start.Goals as goal
 
 pub overflow_sub-n : goal.overflow_sub-n

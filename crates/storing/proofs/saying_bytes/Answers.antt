@@ -1,6 +1,5 @@
 -- A truth value in its byte.
 use Rattle.storing.specs.Stored.{saying_stored}
-use borrow.Author.Rules.{rules}
 use Rattle.storing.proofs.saying_bytes.Goals as goal
 
 pub returns : goal.returns
