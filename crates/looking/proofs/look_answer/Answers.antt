@@ -1,0 +1,9 @@
+-- Judged by the session that the bytes are.
+use Rattle.looking.proofs.Looks.{answered}
+use borrow.Author.Rules.{rules}
+use Rattle.looking.proofs.look_answer.Goals as goal
+
+pub returns : goal.returns
+returns c =
+    let a = c.args in
+    answered a.image.now a.session.now a.i a.g _ c.look_in-seen.ensures.0
