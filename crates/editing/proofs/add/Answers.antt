@@ -2,10 +2,8 @@
 use mathlib.Core.Path.{refl}
 use Prim.Native.Nat.{ℕ}
 use native.Mathlib.Omega.{arith}
-use borrow.Author.Tests.{not-true, not-false}
 use Rattle.editing.proofs.Lent.{legal-told}
 use Rattle.editing.proofs.Adding.{few, from-refused, unnamed, misshapen, in_use_lem, none_free, no_room, eight, added}
-use borrow.Author.Rules.{rules}
 use Rattle.editing.proofs.add.Goals as goal
 
 pub says_refused-requires : goal.says_refused-requires

@@ -1,10 +1,8 @@
 -- One way for each test, and one past them.
 use mathlib.Core.Path.{ap, ◌∙◌}
-use borrow.Author.Tests.{not-true, not-false}
 use Rattle.geometry.specs.Sizes.{entries}
 use Rattle.tables.specs.Tables.{one_word_wide, two_words_wide, lay_entry}
 use Rattle.editing.proofs.Deleting.{none-such, is_open, deleted}
-use borrow.Author.Rules.{rules}
 use Rattle.editing.proofs.delete.Goals as goal
 
 pub returns-then-not-used : goal.returns-then-not-used

@@ -2,7 +2,6 @@
 use mathlib.Core.Path.{refl, sym, ◌∙◌}
 use borrow.Author.Tests.{not-true, not-false}
 use Rattle.editing.proofs.Lent.{unlawful-in, seen-lawful, seen-used, seen-open, handed-as}
-use borrow.Author.Rules.{rules}
 use Rattle.editing.proofs.edit.Goals as goal
 
 pub shape_of-image-then-not-seen : goal.shape_of-image-then-not-seen

@@ -5,7 +5,6 @@ use Rattle.directory.specs.declared.Found.{Found}
 use Rattle.geometry.specs.Sizes.{entries}
 use Rattle.tables.specs.Tables.{two_words_wide, table_in}
 use Rattle.editing.proofs.Adding.{name-found, name_free}
-use borrow.Author.Rules.{rules}
 use Rattle.editing.proofs.is_taken.Goals as goal
 
 pub returns-in-Number : goal.returns-in-Number

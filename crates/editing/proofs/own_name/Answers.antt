@@ -5,7 +5,6 @@ use native.Mathlib.Omega.{arith}
 use Rattle.geometry.proofs.Bytes.{part-all}
 use Rattle.tables.proofs.Numbers.{written}
 use Rattle.storing.proofs.Read.{bytes}
-use borrow.Author.Rules.{rules}
 use Rattle.editing.proofs.own_name.Goals as goal
 
 pub returns : goal.returns

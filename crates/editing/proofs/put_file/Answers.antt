@@ -5,7 +5,6 @@ use Prim.Native.Nat.{ℕ}
 use Rattle.geometry.specs.Sizes.{entries}
 use Rattle.tables.specs.Tables.{one_word_wide, two_words_wide, lay_entry}
 use Rattle.shapes.specs.Made.{file_made}
-use borrow.Author.Rules.{rules}
 use Rattle.editing.proofs.put_file.Goals as goal
 
 pub returns : goal.returns

@@ -1,7 +1,6 @@
 -- One way for each engine.
 use mathlib.Core.Path.{refl, sym, ◌∙◌}
 use Rattle.engines.proofs.Parts.{moved-held, moved_plain}
-use borrow.Author.Rules.{rules}
 use Rattle.engines.proofs.act.Goals as goal
 
 pub act_held-requires : goal.act_held-requires
