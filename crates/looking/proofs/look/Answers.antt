@@ -1,6 +1,5 @@
 -- Answered 0, the granule and its place; else an empty part, and no place.
 use Rattle.looking.proofs.Looks.{look-shown, look-placed, look-empty, look-stays}
-use borrow.Author.Rules.{rules}
 use Rattle.looking.proofs.look.Goals as goal
 
 pub returns-then-number-eq0 : goal.returns-then-number-eq0

@@ -1,6 +1,5 @@
 -- Judged by the session that the bytes are.
 use Rattle.looking.proofs.Looks.{answered}
-use borrow.Author.Rules.{rules}
 use Rattle.looking.proofs.look_answer.Goals as goal
 
 pub returns : goal.returns

@@ -3,7 +3,6 @@ use mathlib.Core.Path.{ap, ◌∙◌}
 use Rattle.finding.specs.declared.Seen.{Seen}
 use Rattle.looking.specs.Looks.{looked_by}
 use Rattle.looking.proofs.Judged.{looked}
-use borrow.Author.Rules.{rules}
 use Rattle.looking.proofs.look_in.Goals as goal
 
 pub returns : goal.returns

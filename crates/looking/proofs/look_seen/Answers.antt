@@ -1,6 +1,5 @@
 -- A look is judged by the entry and its state.
 use Rattle.looking.specs.Looks.{looked_by}
-use borrow.Author.Rules.{rules}
 use Rattle.looking.proofs.look_seen.Goals as goal
 
 pub returns : goal.returns
