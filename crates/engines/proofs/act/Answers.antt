@@ -1,10 +1,6 @@
 -- One way for each engine.
 use mathlib.Core.Path.{refl, sym, ◌∙◌}
 use Rattle.engines.proofs.Parts.{moved-held, moved_plain}
-<<<<<<< HEAD
-use borrow.Author.Rules.{rules}
-=======
->>>>>>> 47b557540b222002a9c66059045dc54eded07df9
 use Rattle.engines.proofs.act.Goals as goal
 
 pub act_held-requires : goal.act_held-requires

@@ -15,11 +15,7 @@ pub returns-in-Done : goal.returns-in-Done
 returns-in-Done c =
     let a = c.args in
     let r = c.verdict_in-r in
-<<<<<<< HEAD
-    let z : length a.code.now ≡ 135 = search (rules, c.verdict_in-arg-1.given) in
-=======
     let z : length a.code.now ≡ 135 = search rules in
->>>>>>> 47b557540b222002a9c66059045dc54eded07df9
     done-in a.image.now a.session.now a.i a.q a.given.now a.buffer.now r.result r.ensures.0 _ r.ensures.1 c.in-Done.is a.code.now _ z r.ensures.2 _ c.part.ensures _ _ c.act-held.result c.act-held.ensures _ c.put_next.ensures
 
 pub returns-in-Met : goal.returns-in-Met
