@@ -1,5 +1,4 @@
 -- Each field as it stands; the two tests on flags are what the directory says of them.
-use borrow.Author.Rules.{rules}
 use Rattle.answering.proofs.facts.Goals as goal
 
 pub returns : goal.returns

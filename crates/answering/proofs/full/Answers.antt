@@ -6,7 +6,6 @@ use Prim.Native.Nat.{ℕ}
 use lib.Dec.{eqb, leb}
 use Rattle.geometry.specs.Places.{capacity}
 use Rattle.requests.specs.declared.Facts.{Facts}
-use borrow.Author.Rules.{rules}
 use borrow.Author.Tests.{ne_eqb}
 use Rattle.answering.proofs.full.Goals as goal
 

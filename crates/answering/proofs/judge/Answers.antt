@@ -1,5 +1,4 @@
 -- Each case is its own list of tests.
-use borrow.Author.Rules.{rules}
 use Rattle.answering.proofs.judge.Goals as goal
 
 pub returns-in-Open : goal.returns-in-Open

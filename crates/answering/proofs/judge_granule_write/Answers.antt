@@ -1,6 +1,5 @@
 -- The calls answer for the tests one after another, in the order of the list.
 use Rattle.requests.specs.Judge.{judge, tests, first_of, or_else}
-use borrow.Author.Rules.{rules}
 use Rattle.answering.proofs.judge_granule_write.Goals as goal
 
 pub returns : goal.returns

@@ -1,6 +1,5 @@
 -- Each case is its own list of tests.
 use Rattle.requests.specs.Judge.{judge, tests, first_of, or_else}
-use borrow.Author.Rules.{rules}
 use Rattle.answering.proofs.judge_order.Goals as goal
 
 pub returns-in-WriteMark : goal.returns-in-WriteMark

@@ -1,7 +1,6 @@
 -- `blocking::is_there` meets its contract: two tests.
 use borrow.Author.Tests.{lt-ltb, le-ltb}
 use Rattle.blocking.specs.Blocking.{is_there}
-use borrow.Author.Rules.{rules}
 use Rattle.blocking.proofs.is_there.Goals as goal
 
 pub returns-then-k-e : goal.returns-then-k-e

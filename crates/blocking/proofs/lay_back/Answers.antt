@@ -4,7 +4,6 @@ use mathlib.Core.Bool.{true, false}
 use Rattle.geometry.specs.Bytes.{lay}
 use Rattle.blocking.proofs.Cases.{lay-changed, lay-unchanged}
 use Rattle.blocking.specs.Blocking.{lent}
-use borrow.Author.Rules.{rules}
 use Rattle.blocking.proofs.lay_back.Goals as goal
 
 pub returns-then-h : goal.returns-then-h

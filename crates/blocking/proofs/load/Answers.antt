@@ -1,9 +1,8 @@
 -- `blocking::load` meets its contract: a whole sector is laid over a whole buffer.
-use Rattle.geometry.specs.Bytes.{part, lay}
+use Rattle.geometry.specs.Bytes.{part}
 use Rattle.geometry.specs.Sizes.{sector}
 use Rattle.geometry.proofs.Bytes.{lay-all, length_part}
 use Rattle.steps.specs.Effects.{sector_at}
-use borrow.Author.Rules.{rules}
 use Rattle.blocking.proofs.load.Goals as goal
 
 pub returns : goal.returns

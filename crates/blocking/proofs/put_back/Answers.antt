@@ -2,7 +2,6 @@
 use mathlib.Core.Path.{◌∙◌}
 use Rattle.blocking.proofs.Cases.{put-there, put-nowhere}
 use Rattle.blocking.specs.Blocking.{lent}
-use borrow.Author.Rules.{rules}
 use Rattle.blocking.proofs.put_back.Goals as goal
 
 pub returns-then-buffer-has_buffer : goal.returns-then-buffer-has_buffer

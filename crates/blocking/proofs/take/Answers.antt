@@ -4,7 +4,6 @@ use mathlib.Core.Bool.{true, false}
 use Rattle.steps.specs.Effects.{loaded}
 use Rattle.blocking.proofs.Cases.{take-held, take-other}
 use Rattle.blocking.specs.Blocking.{lent}
-use borrow.Author.Rules.{rules}
 use Rattle.blocking.proofs.take.Goals as goal
 
 pub returns-then-h-k : goal.returns-then-h-k

@@ -40,4 +40,4 @@ returns-in-Position c =
 pub returns-in_default : goal.returns-in_default
 returns-in_default c =
     let a = c.args in
-    stays a.i a.e a.f a.given.now a.code.now a.k (lent a.image.now a.h a.buffer.now) a.q c.in_default.in_default-own.keys5
+    stays a.i a.e a.f a.given.now a.code.now a.k (lent a.image.now a.h a.buffer.now) a.q (search rules)

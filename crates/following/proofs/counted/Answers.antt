@@ -1,7 +1,6 @@
 -- The definition, field by field.
 use mathlib.Core.Path.{refl}
 use Rattle.steps.specs.Next.{counted}
-use borrow.Author.Rules.{rules}
 use Rattle.following.proofs.counted.Goals as goal
 
 pub returns : goal.returns

@@ -1,5 +1,4 @@
 -- By the order, as the definition goes.
-use borrow.Author.Rules.{rules}
 use Rattle.following.specs.Following.{order_from}
 use Rattle.following.proofs.done_order.Goals as goal
 

@@ -1,6 +1,5 @@
 -- By the edge, as the definition goes.
 use Rattle.steps.specs.Next.{file_met}
-use borrow.Author.Rules.{rules}
 use Rattle.following.proofs.met_file.Goals as goal
 
 pub returns-in-EndOfFile : goal.returns-in-EndOfFile

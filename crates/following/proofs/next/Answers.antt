@@ -1,5 +1,4 @@
 -- By the answer, as the definitions go.
-use borrow.Author.Rules.{rules}
 use Rattle.following.specs.Following.{entry_from, file_from}
 use Rattle.following.proofs.next.Goals as goal
 

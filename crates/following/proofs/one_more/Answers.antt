@@ -1,7 +1,6 @@
 -- The mask is 2 ^ 32 - 1, so what is left is the sum modulo 2 ^ 32, which fits 32 bits.
 use lib.Bits.{and_mask, mask_lt}
 use Prim.Native.Nat.{◌+◌}
-use borrow.Author.Rules.{rules}
 use Rattle.following.specs.Following.{one_more}
 use Rattle.following.proofs.one_more.Goals as goal
 

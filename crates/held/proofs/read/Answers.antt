@@ -3,7 +3,6 @@ use mathlib.Core.Path.{◌∙◌, ap}
 use Rattle.steps.specs.Effects.{hold, Bench}
 use Rattle.held.proofs.Cases.{read-blocked, read-both, read_one, read_none}
 use Rattle.blocking.specs.Blocking.{lent, scene, held_do}
-use borrow.Author.Rules.{rules}
 use Rattle.held.proofs.read.Goals as goal
 
 pub returns-then-e-eq-BLOCKED : goal.returns-then-e-eq-BLOCKED

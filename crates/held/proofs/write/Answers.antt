@@ -3,7 +3,6 @@ use mathlib.Core.Path.{◌∙◌, ap}
 use Rattle.steps.specs.Effects.{Bench}
 use Rattle.held.proofs.Cases as cases
 use Rattle.blocking.specs.Blocking.{lent}
-use borrow.Author.Rules.{rules}
 use Rattle.held.proofs.write.Goals as goal
 
 pub returns-then-e-eq-BLOCKED : goal.returns-then-e-eq-BLOCKED

@@ -2,7 +2,6 @@
 use mathlib.Core.Path.{◌∙◌}
 use Rattle.held.proofs.Cases.{blocked-at}
 use Rattle.blocking.specs.Blocking.{lent}
-use borrow.Author.Rules.{rules}
 use Rattle.held.proofs.write_blocked.Goals as goal
 
 pub returns : goal.returns

@@ -6,7 +6,6 @@ use Rattle.geometry.specs.Sizes.{sector}
 use Rattle.steps.specs.Effects.{change, Bench}
 use Rattle.held.proofs.Cases.{coded-here, coded-further, coded-both}
 use Rattle.blocking.specs.Blocking.{lent, scene, held_do}
-use borrow.Author.Rules.{rules}
 use Rattle.held.proofs.write_coded.Goals as goal
 
 pub returns-then-fits_here : goal.returns-then-fits_here

@@ -1,6 +1,5 @@
 -- `plain::write` meets its contract: one way for each kind.
 use Rattle.plain.proofs.Acts.{blocked-write, coded-write, stored-write}
-use borrow.Author.Rules.{rules}
 use Rattle.plain.proofs.write.Goals as goal
 
 pub returns-then-e-eq-BLOCKED : goal.returns-then-e-eq-BLOCKED

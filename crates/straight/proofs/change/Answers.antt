@@ -1,5 +1,4 @@
 -- `straight::change` meets its contract: padded bytes are laid.
-use borrow.Author.Rules.{rules}
 use Rattle.straight.proofs.change.Goals as goal
 
 pub returns : goal.returns

@@ -1,7 +1,6 @@
 -- `straight::encode_given` meets its contract: what may be a record is coded, and nothing else.
 use mathlib.Core.Path.{refl}
 use Rattle.straight.proofs.Coded.{given-encoded, given-none}
-use borrow.Author.Rules.{rules}
 use Rattle.straight.proofs.encode_given.Goals as goal
 
 pub returns-then-e-given : goal.returns-then-e-given

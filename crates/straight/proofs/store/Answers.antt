@@ -6,7 +6,6 @@ use Rattle.geometry.specs.Sizes.{sector}
 use Rattle.geometry.specs.Places.{place_of, byte_of}
 use Rattle.steps.specs.Effects.{store_effect, plain_do, sector_at}
 use Rattle.geometry.specs.declared.Place.{Place}
-use borrow.Author.Rules.{rules}
 use Rattle.straight.proofs.store.Goals as goal
 
 pub returns : goal.returns

@@ -13,7 +13,6 @@ use Rattle.packing.specs.Placing.{fits_here, filled, changes}
 use Rattle.sessions.specs.Session.{idle}
 use Rattle.steps.specs.Effects.{change, sector_at, plain_do, plain_all}
 use Rattle.straight.specs.Straight.{writing}
-use borrow.Author.Rules.{rules}
 use Rattle.straight.proofs.write_coded.Goals as goal
 
 module _ (image : List ℕ) (e : Entry) (p : Place) (code : List ℕ) where
