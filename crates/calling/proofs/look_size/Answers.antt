@@ -1,7 +1,6 @@
 -- The size of the part that is shown, and where it begins.
 use mathlib.Core.Path.{ap}
 use lib.ListN.{length}
-use borrow.Author.Rules.{rules}
 use Rattle.calling.proofs.look_size.Goals as goal
 
 pub returns : goal.returns

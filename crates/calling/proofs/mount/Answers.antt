@@ -1,6 +1,5 @@
 -- The table of an image that mounts, or one with no used entry; bytes of another number stay.
 use Rattle.calling.proofs.Mounted.{mount-done, mount-bad, mount-leaves, mount-none}
-use borrow.Author.Rules.{rules}
 use Rattle.calling.proofs.mount.Goals as goal
 
 pub returns-then-good : goal.returns-then-good

@@ -2,7 +2,6 @@
 use mathlib.Core.Path.{ap, ◌∙◌}
 use Rattle.sessions.specs.declared.Spot.{Spot}
 use Rattle.numbering.specs.Codes.{standing, record_at}
-use borrow.Author.Rules.{rules}
 use Rattle.calling.proofs.position.Goals as goal
 
 pub returns : goal.returns

@@ -1,5 +1,4 @@
 -- `showing::begin` meets its contract: the file is opened, and its number told.
-use borrow.Author.Rules.{rules}
 use Rattle.showing.proofs.begin.Goals as goal
 
 pub returns : goal.returns

@@ -6,7 +6,6 @@ use lib.ListN.{take, get_or}
 use Rattle.typing.specs.Typing.{name_of}
 use Rattle.telling.specs.Told.{found}
 use Rattle.showing.proofs.Named.{put-part, nine-found}
-use borrow.Author.Rules.{rules}
 use Rattle.showing.proofs.find_typed.Goals as goal
 
 pub returns : goal.returns

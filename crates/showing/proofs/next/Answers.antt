@@ -6,15 +6,13 @@ use Rattle.requests.specs.Codes.{codes, asked_for}
 use Rattle.requests.specs.declared.Request.TheVariants.{Read}
 use Rattle.asking.proofs.Asked.{told-by}
 use Rattle.showing.proofs.Read.{room-is, shows}
-use borrow.Author.Rules.{rules}
 use Rattle.showing.proofs.next.Goals as goal
 
 pub slice_bounds-request-end-2 : goal.slice_bounds-request-end-2
 slice_bounds-request-end-2 c = room-is c.args.length c.args.out.now _ c.room_for-n.ensures
 
--- LEFT
--- slice-aggregate-request-2 : tie.Need-slice-aggregate-request-2
--- slice-aggregate-request-2 c = sym (length-take-le _ c.before.before.before.before.before.before.before.before.before.args.out.now (room-is c.before.before.before.before.before.before.before.before.before.args.length c.before.before.before.before.before.before.before.before.before.args.out.now _ c.before.before.before.before.room-for.ensures))
+pub slice_bounds-request-end-3 : goal.slice_bounds-request-end-3
+slice_bounds-request-end-3 c = sym (length-take-le _ c.args.out.now (room-is c.args.length c.args.out.now _ c.room_for-n.ensures))
 
 pub returns : goal.returns
 unfolding asked_for codes

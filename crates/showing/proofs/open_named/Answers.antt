@@ -1,8 +1,6 @@
 -- `showing::open_named` meets its contract: each step stops it, or leads to the next.
 use mathlib.Core.Path.{sym, ◌∙◌}
-use borrow.Author.Tests.{not-true, not-false}
 use Rattle.showing.proofs.Opened.{left-stopped, left_as, long-stops, bad-stops, unknown-stops, known-opens}
-use borrow.Author.Rules.{rules}
 use Rattle.showing.proofs.open_named.Goals as goal
 
 pub returns-then-not-is_short : goal.returns-then-not-is_short

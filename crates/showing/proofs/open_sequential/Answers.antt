@@ -5,7 +5,6 @@ use Rattle.requests.specs.Codes.{codes, asked_for}
 use Rattle.requests.specs.declared.Request.TheVariants.{Open}
 use Rattle.asking.proofs.Asked.{told-by}
 use Rattle.showing.proofs.Opened.{left-stopped, random-stops, left_open, left-shut}
-use borrow.Author.Rules.{rules}
 use Rattle.showing.proofs.open_sequential.Goals as goal
 
 pub returns-then-field_in : goal.returns-then-field_in

@@ -2,7 +2,6 @@
 use Rattle.texts.specs.Texts.{spelled}
 use Rattle.texts.proofs.Writing.{then}
 use Rattle.showing.specs.Lines.{answer_line}
-use borrow.Author.Rules.{rules}
 use Rattle.showing.proofs.put_answer.Goals as goal
 
 pub returns : goal.returns

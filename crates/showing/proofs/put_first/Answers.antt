@@ -1,6 +1,5 @@
 -- `showing::put_first` meets its contract: nothing at 0, and the number's line else.
 use mathlib.Core.Path.{sym}
-use borrow.Author.Rules.{rules}
 use Rattle.texts.proofs.Writing.{wrote_none}
 use Rattle.showing.proofs.Lines.{as-text, first-none, first-answer}
 use Rattle.showing.proofs.put_first.Goals as goal

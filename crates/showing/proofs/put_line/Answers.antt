@@ -1,7 +1,5 @@
 -- `showing::put_line` meets its contract: what is kept is made ASCII where it stands, and the line's end put behind it.
-use borrow.Author.Rules.{rules}
 use Rattle.geometry.specs.Bytes.{part}
-use Rattle.coding.specs.Encode.{keeps}
 use Rattle.texts.proofs.Writing.{then}
 use Rattle.showing.proofs.Lines.{as-text, line-is}
 use Rattle.showing.proofs.put_line.Goals as goal

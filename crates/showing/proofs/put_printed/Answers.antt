@@ -1,6 +1,5 @@
 -- `showing::put_printed` meets its contract: the numbers are told apart as the definition does.
 use mathlib.Core.Path.{sym}
-use borrow.Author.Rules.{rules}
 use Rattle.texts.proofs.Writing.{wrote_none}
 use Rattle.showing.proofs.Lines.{as-text, printed-line, printed-end, printed-answer}
 use Rattle.showing.proofs.put_printed.Goals as goal
