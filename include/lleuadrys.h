@@ -1,6 +1,6 @@
 /* Lleuadrys for C and C++: the file layer of the board, both engines, as a static library for x86-64.
 
-   BUILDING  `rt staticlib lleuadrys` proves it and writes target/staticlib/liblleuadrys.a. With that beside it a program is
+   BUILDING  `tools/library` proves it and writes target/staticlib/liblleuadrys.a. With that beside it a program is
 
                  gcc -O2 log.c liblleuadrys.a
 
@@ -40,7 +40,7 @@
 
    A request that is refused (3 to 12), or an adding or deleting that is (8, 9, 11 to 17), changes nothing that was lent.
    Every call answers on every input: whatever stands in the image, the session and the buffers. The contracts are in
-   crates/lleuadrys/src/lib.rt.
+   crates/lleuadrys_c/src/lib.rt.
 
    REQUESTS, by code                       takes              gives
       1  opening

@@ -1,4 +1,4 @@
-/* Our side: the proved file layer, linked as liblleuadrys.a (`rt staticlib lleuadrys`); include/lleuadrys.h declares it. The
+/* Our side: the proved file layer, linked as liblleuadrys.a (`tools/library`); include/lleuadrys.h declares it. The
    number of the lent bytes says which engine serves. */
 #include "side.h"
 

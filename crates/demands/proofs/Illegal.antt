@@ -4,7 +4,7 @@ use mathlib.Core.Path.{◌≡◌, refl, ◌∙◌}
 use mathlib.Core.Bool.{Bool, true, false}
 use mathlib.Core.List.{List, [], ◌∷◌, ◌++◌}
 use Prim.Native.Nat.{ℕ}
-use lib.ListN.{length, replicate, set}
+use lib.ListN.{replicate, set}
 use Rattle.geometry.specs.Bytes.{part, padded, word_at, word}
 use Rattle.geometry.specs.Lists.{all, every, pairwise, how_many, same}
 use Rattle.geometry.specs.Places.{origin, sectors_for, per_sector, shares, capacity}

@@ -2,79 +2,77 @@
 // argument says and what is printed, no contract can say.
 #![tactic(auto)]
 
-ghost use Rattle.io.specs.Counts.{IsPrefixLen};
+ghost use Rattle.arguments.specs.Counts.{IsPrefixLen};
 
-use arguments::{complain, save};
-use libc::{STDERR_FILENO, STDOUT_FILENO};
+use arguments::{arg, complain, save};
+use std::env::Env;
 use telling::put_words;
 use typing::{Typed, kind_of, number_of, put_name};
 
 // ---- what is printed
 
 // Prints the words of an answer's number, a blank before them.
-fn print_words(number: u16) {
+fn print_words(rt: &impl Print, number: u16) {
     let mut words = [0u8; 64];
     let n = put_words(number, &mut words);
-    io::write_all(STDOUT_FILENO, b" ");
-    io::write_all(STDOUT_FILENO, &words[..n]);
+    let _ = rt.write_all(b" ");
+    let _ = rt.write_all(&words[..n]);
 }
 
 // Prints an answer: behind a 0 the entry, behind any other number its words.
-pub fn tell(number: u16, entry: usize) {
-    io::write_all(STDOUT_FILENO, b"ANSWER ");
-    io::print_decimal(STDOUT_FILENO, number as u64);
+pub fn tell(rt: &impl Print, number: u16, entry: usize) {
+    let _ = print!(rt; "ANSWER {number}");
     if number == 0 {
-        io::write_all(STDOUT_FILENO, b" ENTRY ");
-        io::print_decimal(STDOUT_FILENO, entry as u64);
+        let _ = print!(rt; " ENTRY {entry}");
     } else {
-        print_words(number);
+        print_words(rt, number);
     }
-    io::write_all(STDOUT_FILENO, b"\n");
+    let _ = rt.write_all(b"\n");
 }
 
 // Writes the image to the file that argument out names where the answer is 0, and prints the answer.
-pub fn finish(out: usize, image: &[u8], number: u16, entry: usize) {
+pub fn finish(rt: &HostRuntime, out: usize, image: &[u8], number: u16, entry: usize) {
     if number == 0 {
-        if !save(out, image) {
+        if !save(rt, out, image) {
             return;
         }
     }
-    tell(number, entry);
+    tell(rt, number, entry);
 }
 
 // Tells how the program is called.
-pub fn tell_usage() {
-    io::write_all(
-        STDERR_FILENO,
-        b"usage: editor add IMAGE NAME KIND LENGTH SECTORS OUT\n       editor delete IMAGE NAME OUT\n",
+pub fn tell_usage(rt: &impl Eprint) {
+    let _ = rt.eprintln(
+        "usage: editor add IMAGE NAME KIND LENGTH SECTORS OUT\n       editor delete IMAGE NAME OUT",
     );
 }
 
 // ---- what is typed
 
 // Puts the bytes of the name that argument i says; how many there are.
-pub fn put_typed(i: usize, out: &mut [u8]) -> usize
+pub fn put_typed(rt: &impl Env, i: usize, out: &mut [u8]) -> usize
     ensures { IsPrefixLen result out.new }
 {
-    let mut word = io::buffer();
-    let n = os::arg(i, &mut word);
+    let mut word = [0u8; 4096];
+    let n = arg(rt, i, &mut word);
     put_name(&word[..n], out)
 }
 
 // What argument i says, as it was read. If that is nothing, a text is told of it.
-fn or_told(typed: Typed, text: &[u8], i: usize) -> Typed {
+fn or_told(rt: &(impl Env + Print), typed: Typed, text: &[u8], i: usize) -> Typed {
     match typed {
         Typed::Number(_) => {}
-        Typed::Nothing => complain(text, i),
+        Typed::Nothing => complain(rt, text, i),
     }
     typed
 }
 
 // The kind that argument i says.
-pub fn kind_typed(i: usize) -> Typed {
-    let mut word = io::buffer();
-    let n = os::arg(i, &mut word);
+pub fn kind_typed(rt: &(impl Env + Print), i: usize) -> Typed {
+    let mut word = [0u8; 4096];
+    let n = arg(rt, i, &mut word);
     or_told(
+        rt,
         kind_of(&word[..n]),
         b"KIND is no number and none of unblocked, blocked, compressed, random: ",
         i,
@@ -82,18 +80,18 @@ pub fn kind_typed(i: usize) -> Typed {
 }
 
 // The number that argument i says. If it is none, a text is told of it.
-fn number_typed(i: usize, text: &[u8]) -> Typed {
-    let mut word = io::buffer();
-    let n = os::arg(i, &mut word);
-    or_told(number_of(&word[..n]), text, i)
+fn number_typed(rt: &(impl Env + Print), i: usize, text: &[u8]) -> Typed {
+    let mut word = [0u8; 4096];
+    let n = arg(rt, i, &mut word);
+    or_told(rt, number_of(&word[..n]), text, i)
 }
 
 // The record length that argument i says.
-pub fn length_typed(i: usize) -> Typed {
-    number_typed(i, b"LENGTH is no number from 0 to 4294967295: ")
+pub fn length_typed(rt: &(impl Env + Print), i: usize) -> Typed {
+    number_typed(rt, i, b"LENGTH is no number from 0 to 4294967295: ")
 }
 
 // The number of sectors that argument i says.
-pub fn sectors_typed(i: usize) -> Typed {
-    number_typed(i, b"SECTORS is no number from 0 to 4294967295: ")
+pub fn sectors_typed(rt: &(impl Env + Print), i: usize) -> Typed {
+    number_typed(rt, i, b"SECTORS is no number from 0 to 4294967295: ")
 }

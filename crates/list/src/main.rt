@@ -2,28 +2,28 @@
 // What cannot be opened or read is an image of no bytes, which is bad.
 #![tactic(auto)]
 
-use libc::{STDIN_FILENO, STDOUT_FILENO};
+use arguments::{arg_count, open_read, read_full};
+use std::io::Read;
 
 // Prints the listing of an image. A listing has at most 1,596 bytes (`short`, in listing's proofs).
-fn print_listing(image: &[u8]) {
+fn print_listing(rt: &impl Print, image: &[u8]) {
     let mut out = [0u8; 1600];
     let size = listing::write_listing(image, &mut out);
-    io::write_all(STDOUT_FILENO, &out[..size]);
+    let _ = rt.write_all(&out[..size]);
 }
 
-// Lists the image that fd gives. The buffer has room for more than the 180 sectors of an image that is listed.
-fn list(fd: i32) {
-    let mut image = io::large_buffer();
-    let n = io::read_full(fd, &mut image);
-    print_listing(&image[..n]);
+// Lists the image that is read. The buffer has room for more than the 180 sectors of an image that is listed.
+fn list(rt: &impl Print, from: &mut impl Read) {
+    let mut image = [0u8; 65536];
+    let n = read_full(from, &mut image);
+    print_listing(rt, &image[..n]);
 }
 
-fn main() {
-    if os::arg_count() < 2 {
-        list(STDIN_FILENO);
+fn main(rt: HostRuntime) {
+    if arg_count(&rt) < 2 {
+        list(&rt, &mut rt.stdin());
         return;
     }
-    let fd = arguments::open_read(1);
-    list(fd);
-    libc::close(fd);
+    let mut file = open_read(&rt, 1);
+    list(&rt, &mut file);
 }

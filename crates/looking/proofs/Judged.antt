@@ -2,7 +2,7 @@
 use mathlib.Core.Path.{◌≡◌, refl, ap, ◌∙◌}
 use mathlib.Core.Bool.{Bool, false}
 use mathlib.Core.List.{List, []}
-use Prim.Native.Nat.{ℕ, ◌-◌}
+use Prim.Native.Nat.{ℕ}
 use Rattle.directory.specs.Entries.{entry_at}
 use Rattle.requests.specs.Judge.{tests, or_else, first_of, judge}
 use Rattle.sessions.specs.Session.{bare, open_files, buffered_legal}

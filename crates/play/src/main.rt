@@ -2,8 +2,7 @@
 // these files hold and what is printed.
 #![tactic(auto)]
 
-use arguments::{complain, open_read, read_image, readable, save, says, writable};
-use libc::STDERR_FILENO;
+use arguments::{arg_count, complain, open_read, read_image, readable, save, says, writable};
 use storing::Form;
 
 // The numbers of its arguments.
@@ -21,87 +20,78 @@ const OUT: usize = 5;
 const MOST: u32 = 4294967295;
 
 // Whether every row of the script is in order. If not, that is told.
-fn in_order() -> bool {
-    let script = open_read(SCRIPT);
-    let bytes = open_read(BYTES);
-    let ok = row_io::test(script, bytes, MOST);
-    libc::close(script);
-    libc::close(bytes);
-    ok
+fn in_order(rt: &HostRuntime) -> bool {
+    let mut script = open_read(rt, SCRIPT);
+    let mut bytes = open_read(rt, BYTES);
+    row_io::test(rt, &mut script, &mut bytes, MOST)
 }
 
 // Mounts an image and plays the script on it. Whether it came to the script's end.
-fn play_script(image: &mut [u8], session: &mut [u8]) -> bool {
-    let script = open_read(SCRIPT);
-    let bytes = open_read(BYTES);
-    play_io::mount(image, session);
-    let ok = play_io::play(script, bytes, MOST, image, session);
-    libc::close(script);
-    libc::close(bytes);
-    ok
+fn play_script(rt: &HostRuntime, image: &mut [u8], session: &mut [u8]) -> bool {
+    let mut script = open_read(rt, SCRIPT);
+    let mut bytes = open_read(rt, BYTES);
+    play_io::mount(rt, image, session);
+    play_io::play(rt, &mut script, &mut bytes, MOST, image, session)
 }
 
 // Whether all that was named can be used. If not, the first that cannot is told.
-fn ready() -> bool {
-    readable(SCRIPT) && readable(BYTES) && in_order() && writable(OUT)
+fn ready(rt: &HostRuntime) -> bool {
+    readable(rt, SCRIPT) && readable(rt, BYTES) && in_order(rt) && writable(rt, OUT)
 }
 
 // Plays the script on an image, and writes the image.
-fn play_image(image: &mut [u8], session: &mut [u8]) {
-    if !ready() {
+fn play_image(rt: &HostRuntime, image: &mut [u8], session: &mut [u8]) {
+    if !ready(rt) {
         return;
     }
-    if !play_script(image, session) {
+    if !play_script(rt, image, session) {
         return;
     }
-    save(OUT, image);
+    save(rt, OUT, image);
 }
 
 // Reads the image, and plays the script on it.
-fn play(room: &mut [u8], session: &mut [u8]) {
-    let image = read_image(IMAGE, room);
+fn play(rt: &HostRuntime, room: &mut [u8], session: &mut [u8]) {
+    let image = read_image(rt, IMAGE, room);
     let n = image.size;
     if image.whole {
-        play_image(&mut room[..n], session);
+        play_image(rt, &mut room[..n], session);
     }
 }
 
 // Plays with the plain engine: lends a session without buffers.
-fn play_plain(room: &mut [u8]) {
+fn play_plain(rt: &HostRuntime, room: &mut [u8]) {
     let mut session = [0u8; Form::SESSION];
-    play(room, &mut session);
+    play(rt, room, &mut session);
 }
 
 // Plays with the buffered engine: lends a session with buffers.
-fn play_buffered(room: &mut [u8]) {
+fn play_buffered(rt: &HostRuntime, room: &mut [u8]) {
     let mut session = [0u8; Form::BUFFERED];
-    play(room, &mut session);
+    play(rt, room, &mut session);
 }
 
 // Plays with the engine that is named.
-fn play_by_name(room: &mut [u8]) {
-    if says(ENGINE, b"plain") {
-        play_plain(room);
-    } else if says(ENGINE, b"buffered") {
-        play_buffered(room);
+fn play_by_name(rt: &HostRuntime, room: &mut [u8]) {
+    if says(rt, ENGINE, b"plain") {
+        play_plain(rt, room);
+    } else if says(rt, ENGINE, b"buffered") {
+        play_buffered(rt, room);
     } else {
-        complain(b"no such engine: ", ENGINE);
+        complain(rt, b"no such engine: ", ENGINE);
     }
 }
 
 // Lends room for an image of 4,096 sectors.
-fn lend(room: &mut [u8; 1474560]) {
-    play_by_name(room);
+fn lend(rt: &HostRuntime, room: &mut [u8; 1474560]) {
+    play_by_name(rt, room);
 }
 
-fn main() {
-    if os::arg_count() != 6 {
-        io::write_all(
-            STDERR_FILENO,
-            b"usage: play plain|buffered IMAGE SCRIPT BYTES OUT\n",
-        );
+fn main(rt: HostRuntime) {
+    if arg_count(&rt) != 6 {
+        let _ = eprintln!(rt; "usage: play plain|buffered IMAGE SCRIPT BYTES OUT");
         return;
     }
     let mut room = [0u8; 1474560];
-    lend(&mut room);
+    lend(&rt, &mut room);
 }

@@ -124,7 +124,7 @@ module _ (c : Scene) where
       let y : w.file.holds ≡ true = and_left w.file.holds _ t in
       let r = and_right (w.file.holds && eqb w.file.held x.place.sector) _ h in
       ap (λ (v : Bench). (buffered_all c (map change xs) (working x.place.byte x.bytes v)).image) (held_same x.place.sector w t)
-      ∙ works-none xs (working x.place.byte x.bytes w) (rw y at r)
+      ∙ works-none xs (working x.place.byte x.bytes w) (subst (λ (b : Bool). every (λ k. b && eqb w.file.held k) (map (λ (x : Change). x.place.sector) xs) ≡ true) y r)
 
 -- ---- a request on a legal session
 

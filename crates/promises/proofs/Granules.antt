@@ -14,7 +14,6 @@ use Rattle.geometry.specs.Sizes.{sector, random}
 use Rattle.geometry.proofs.Bytes.{where-is, length-padded, length-lay, get_or-lay-out, part-lay-same}
 use Rattle.geometry.proofs.Places.{granules-share, granules-whole, place-whole, bytes-shared, bytes_whole, bytes-hold, granules-apart, granule-before, before-end, granule-inside, granule-outside}
 use Rattle.directory.specs.Entries.{entry_at}
-use Rattle.directory.proofs.Good.{lies}
 use Rattle.requests.specs.Judge.{judge}
 use Rattle.requests.proofs.Done.{WritesGranule, done-allows}
 use Rattle.sessions.specs.Session.{bare, unheld, open_files, extent, extent_with, legal, buffered_legal}

@@ -40,7 +40,7 @@ use Rattle.serving.proofs.Taped.{of-both}
 use Rattle.settling.proofs.Bench.{takes-held}
 use Rattle.settling.proofs.Next.{entry-shape, shape_at}
 use Rattle.tapes.specs.Model.{Asked}
-use Rattle.demands.specs.Engine.{Engine, plain_engine, buffered_engine, Standing, answered, step_of, run, are_bytes, sound}
+use Rattle.demands.specs.Engine.{Engine, plain_engine, buffered_engine, Standing, answered, step_of, are_bytes, sound}
 use Rattle.demands.specs.Demand2.{writing, closing}
 use Rattle.promises.specs.Writes.{plain_writes, back_writes, take_writes, buffered_writes, effects_of, plain_sum, buffered_sum, scene_at, bench_at, plain_count, buffered_count, in_run, all_done, records, Counted, BlockedAt, Writing, Saving}
 use Rattle.demands.proofs.Orderly.{same-scene}

@@ -4,7 +4,7 @@
 
 ghost use Rattle.std.specs.Prelude.{◌≤◌, length};
 
-use libc::STDOUT_FILENO;
+use arguments::{Opened, more, read_full};
 use moving::part;
 use scripts::{Fault, Found, Row};
 
@@ -22,15 +22,14 @@ pub enum Ahead {
 // ---- reading
 
 // Whether a file that gave too few bytes failed. At its end it gives none, which is no failure.
-fn fails(fd: i32) -> bool {
-    let mut one = [0u8; 1];
-    libc::read(fd, &mut one) < 0
+fn fails(file: &mut Opened) -> bool {
+    more(file).is_err()
 }
 
 // The row that stands next.
-fn next_row(script: i32) -> Ahead {
+fn next_row(script: &mut Opened) -> Ahead {
     let mut row = [0u8; ROW];
-    let n = io::read_full(script, &mut row);
+    let n = read_full(script, &mut row);
     if n < ROW {
         if fails(script) {
             return Ahead::Wrong(Fault::Unread);
@@ -46,11 +45,11 @@ fn next_row(script: i32) -> Ahead {
 }
 
 // Takes the bytes that a row uses up to the start of given.
-fn take_bytes(bytes: i32, row: Row, given: &mut [u8]) -> Ahead
+fn take_bytes(bytes: &mut Opened, row: Row, given: &mut [u8]) -> Ahead
     requires { 65536 ≤ length given.old }
 {
     let n = row.uses as usize;
-    if io::read_full(bytes, &mut given[..n]) == n {
+    if read_full(bytes, &mut given[..n]) == n {
         return Ahead::Row(row);
     }
     if fails(bytes) {
@@ -61,7 +60,7 @@ fn take_bytes(bytes: i32, row: Row, given: &mut [u8]) -> Ahead
 }
 
 // The row that stands next, with the bytes that it uses up at the start of given, where there is room for any row's.
-pub fn next(script: i32, bytes: i32, given: &mut [u8; 65536]) -> Ahead {
+pub fn next(script: &mut Opened, bytes: &mut Opened, given: &mut [u8; 65536]) -> Ahead {
     let n = next_row(script);
     match n {
         Ahead::Row(row) => take_bytes(bytes, row, given),
@@ -73,26 +72,32 @@ pub fn next(script: i32, bytes: i32, given: &mut [u8; 65536]) -> Ahead {
 // ---- printing
 
 // Prints the n bytes of a line. A line is shorter than the room for it.
-pub fn print_line(line: &[u8; 96], n: usize) {
-    io::write_all(STDOUT_FILENO, part(line, 0, n));
+pub fn print_line(rt: &impl Print, line: &[u8; 96], n: usize) {
+    let _ = rt.write_all(part(line, 0, n));
 }
 
 // Prints why row k is not in order.
-pub fn print_fault(k: u32, f: Fault) {
+pub fn print_fault(rt: &impl Print, k: u32, f: Fault) {
     let mut out = [0u8; 96];
     let n = saying::write_fault(&mut out, k, f);
-    print_line(&out, n);
+    print_line(rt, &out, n);
 }
 
 // ---- testing
 
 // Whether the first rows of a script, as many as most, are in order. If not, it prints which is the first that is not, and why.
-pub fn test(script: i32, bytes: i32, most: u32) -> bool {
-    let mut given = io::large_buffer();
-    test_rows(script, bytes, most, &mut given)
+pub fn test(rt: &impl Print, script: &mut Opened, bytes: &mut Opened, most: u32) -> bool {
+    let mut given = [0u8; 65536];
+    test_rows(rt, script, bytes, most, &mut given)
 }
 
-fn test_rows(script: i32, bytes: i32, most: u32, given: &mut [u8; 65536]) -> bool {
+fn test_rows(
+    rt: &impl Print,
+    script: &mut Opened,
+    bytes: &mut Opened,
+    most: u32,
+    given: &mut [u8; 65536],
+) -> bool {
     let mut k: u32 = 0;
     while k < most {
         let n = next(script, bytes, given);
@@ -100,7 +105,7 @@ fn test_rows(script: i32, bytes: i32, most: u32, given: &mut [u8; 65536]) -> boo
             Ahead::Row(_) => {}
             Ahead::End => return true,
             Ahead::Wrong(f) => {
-                print_fault(k, f);
+                print_fault(rt, k, f);
                 return false;
             }
         }

@@ -1,7 +1,7 @@
 -- From one file to a whole session. What holds of every file from a mounting on holds behind every request: the file that is asked stays what its
 -- tape or row is, by what is proved of it by itself; every other keeps its entry, its state and its extent, since extents share no sector.
 use mathlib.Core.Path.{◌≡◌, refl, sym, ap, ◌∙◌, subst}
-use mathlib.Core.Logic.{◌≢◌, ◌⊎◌, ⊎_elim}
+use mathlib.Core.Logic.{◌≢◌, ⊎_elim}
 use mathlib.Core.Bool.{true, false}
 use mathlib.Core.List.{List}
 use Prim.Native.Nat.{ℕ, ◌+◌, ◌*◌, ◌<◌}

@@ -19,7 +19,7 @@ use Rattle.directory.specs.Stamp.{restamped}
 use Rattle.requests.specs.Judge.{judge, tests, first_of, or_else, whether}
 use Rattle.requests.proofs.Done.{Live, Finds, done-allows, met-meets}
 use Rattle.requests.proofs.Live.{Alive, done-live, done-real, met-live}
-use Rattle.sessions.specs.Session.{file_of, open_files, extent, legal}
+use Rattle.sessions.specs.Session.{file_of, open_files, extent}
 use Rattle.steps.specs.Next.{Scene, facts_of, fixed_at, entry_done, counted}
 use Rattle.steps.specs.Effects.{effects, plain_all}
 use Rattle.steps.specs.Look.{shown, plain_look_answer, plain_look}
@@ -32,7 +32,7 @@ use Rattle.serving.proofs.Stays.{same_next}
 use Rattle.tapes.specs.Tape.{Tape, tape_facts}
 use Rattle.tapes.specs.Model.{Model, tape, nothing, Asked, model_at, model_facts, model_next, model_into, model_shown, model_answer, model_step, if_done}
 use Rattle.tapes.proofs.Opened.{refused-stays}
-use Rattle.serving.proofs.Solo.{shows, Serves, solo_answer}
+use Rattle.serving.proofs.Solo.{Serves, solo_answer}
 use Rattle.serving.proofs.Keeping.{Answered, done, met}
 use Rattle.serving.proofs.View.{shows_at, view, shows-free, view-at, open-view}
 use Rattle.serving.proofs.Lifting.{any-serves, Stands, scene_of, met-moves, done-moves, stands-next, view-next}

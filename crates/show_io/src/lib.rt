@@ -1,14 +1,13 @@
 // The pass listing printed, piece by piece. What is printed, no contract can say.
 #![tactic(auto)]
 
-use libc::STDOUT_FILENO;
 use moving::part;
 use showing::{Piece, begin, next};
 use storing::Form;
 
 // Prints the text of a piece.
-fn print_piece(p: Piece, line: &[u8]) {
-    io::write_all(STDOUT_FILENO, part(line, 0, p.size));
+fn print_piece(rt: &impl Print, p: Piece, line: &[u8]) {
+    let _ = rt.write_all(part(line, 0, p.size));
 }
 
 // The number that the last piece printed; 0 if it printed none, since printing ends with some.
@@ -19,6 +18,7 @@ fn told(p: Piece) -> u16 {
 // Prints what each read prints, from the first record on. The number that was printed; 0 if none was. A proved loop has to end, so it counts the reads up to
 // a number that no file needs.
 fn print_lines(
+    rt: &impl Print,
     image: &mut [u8],
     session: &mut [u8],
     entry: usize,
@@ -28,7 +28,7 @@ fn print_lines(
     let mut k: u32 = 0;
     while k < 65536 {
         let p = next(image, session, entry, length, line);
-        print_piece(p, line);
+        print_piece(rt, p, line);
         if p.number != 0 {
             return told(p);
         }
@@ -38,20 +38,26 @@ fn print_lines(
 }
 
 // Prints the listing of the file of that name, as it is typed, on a session and room for a line. The number that was printed; 0 if none was.
-fn print_listing(image: &mut [u8], session: &mut [u8], typed: &[u8], line: &mut [u8]) -> u16 {
+fn print_listing(
+    rt: &impl Print,
+    image: &mut [u8],
+    session: &mut [u8],
+    typed: &[u8],
+    line: &mut [u8],
+) -> u16 {
     let mut entry: usize = 0;
     let mut length: usize = 0;
     let p = begin(image, session, typed, &mut entry, &mut length, line);
-    print_piece(p, line);
+    print_piece(rt, p, line);
     if p.number == 0 {
-        return print_lines(image, session, entry, length, line);
+        return print_lines(rt, image, session, entry, length, line);
     }
     p.number
 }
 
 // Prints the listing of the file of that name, as it is typed. The number that was printed; 0 if none was.
-pub fn show(image: &mut [u8], typed: &[u8]) -> u16 {
+pub fn show(rt: &impl Print, image: &mut [u8], typed: &[u8]) -> u16 {
     let mut session = [0u8; Form::SESSION];
     let mut line = [0u8; Piece::LONGEST];
-    print_listing(image, &mut session, typed, &mut line)
+    print_listing(rt, image, &mut session, typed, &mut line)
 }

@@ -3,7 +3,6 @@ use mathlib.Core.Path.{sym, ◌∙◌}
 use native.Mathlib.Omega.{arith}
 use Rattle.tables.specs.Tables.{entry_in}
 use Rattle.gaps.proofs.Sweep.{behind-free, behind-apart, behind-met}
-use borrow.Author.Rules.{rules}
 use Rattle.gaps.proofs.behind.Goals as goal
 
 pub returns-then-end-p : goal.returns-then-end-p

@@ -1,10 +1,7 @@
 -- `gaps::gap_in` meets its contract: at no sector passed do so many free sectors stand, and a sweep goes on unless nothing is in the way.
-use Prim.Native.Nat.{ℕ, suc, ◌-◌, ◌≤◌, ◌<◌}
-use mathlib.Core.Path.{◌≡◌}
-use mathlib.Core.Bool.{false}
 use native.Mathlib.Omega.{arith}
 use Rattle.tables.specs.Tables.{entries_in}
-use Rattle.gaps.specs.Gaps.{is_taken, stands_free}
+use Rattle.gaps.specs.Gaps.{is_taken}
 use Rattle.gaps.proofs.Gaps.{stands-directory}
 use Rattle.gaps.proofs.Sweep.{swept-on, passed_on, rests, leaves}
 use Rattle.gaps.proofs.gap_in.Goals as goal

@@ -2,11 +2,8 @@
 use Prim.Native.Nat.{ℕ, suc, ◌-◌, ◌≤◌, ◌<◌}
 use mathlib.Core.Path.{◌≡◌}
 use mathlib.Core.Bool.{false}
-use native.Mathlib.Omega.{arith}
 use Rattle.tables.specs.Tables.{entries_in}
 use Rattle.gaps.specs.Gaps.{is_taken, stands_free}
-use Rattle.gaps.proofs.Gaps.{stands-directory}
-use Rattle.gaps.proofs.Sweep.{swept-on, passed_on, rests, leaves}
 use Rattle.gaps.proofs.gap_in.Given as goal
 
 abbrev pub invariant-loop-p : goal.invariant-loop-p

@@ -3,7 +3,6 @@ use Prim.Native.Nat.{ℕ}
 use mathlib.Core.Path.{ap}
 use lib.Dec.{eqb}
 use Rattle.tables.specs.Tables.{entry_in}
-use borrow.Author.Rules.{rules}
 use Rattle.gaps.proofs.is_free.Goals as goal
 
 pub returns : goal.returns

@@ -1,10 +1,6 @@
 -- `gaps::lowest_free` meets its contract: no entry passed is free.
 use Prim.Native.Nat.{◌-◌}
-use mathlib.Core.Path.{sym, ◌∙◌}
-use native.Mathlib.Omega.{arith}
-use borrow.Author.Tests.{not-true, not-false}
-use Rattle.gaps.proofs.Rows.{Used, used-none, used-room, used-on, used-not, used_all, lowest-none}
-use borrow.Author.Rules.{rules}
+use Rattle.gaps.proofs.Rows.{Used}
 use Rattle.gaps.proofs.lowest_free.Given as goal
 
 abbrev pub invariant-loop-i : goal.invariant-loop-i

@@ -9,7 +9,6 @@ use Rattle.tables.specs.Tables.{has_rows, entries_in}
 use Rattle.tables.proofs.Tables.{table_is, table_none}
 use Rattle.tables.proofs.Widths.{rows-wide, rows_fit}
 use Rattle.gaps.specs.Gaps.{is_taken, lowest_gap}
-use borrow.Author.Rules.{rules}
 use Rattle.gaps.proofs.lowest_gap.Goals as goal
 
 pub gap_in-requires : goal.gap_in-requires

@@ -1,16 +1,11 @@
 -- `gaps::none_used` meets its contract: each entry passed is free.
-use Prim.Native.Nat.{◌-◌}
-use mathlib.Core.Path.{◌≡◌, refl, sym, ap, ◌∙◌}
-use mathlib.Core.Bool.{true}
+use mathlib.Core.Path.{refl, sym, ap, ◌∙◌}
 use native.Mathlib.Omega.{arith}
-use borrow.Author.Tests.{not-true, not-false}
 use Rattle.geometry.specs.Lists.{every}
 use Rattle.directory.specs.Entries.{is_free}
-use Rattle.tables.specs.Tables.{has_rows}
-use Rattle.tables.proofs.Tables.{Kept, kept-none, kept_on, kept_off, kept_whole, table_is, table_none}
+use Rattle.tables.proofs.Tables.{kept-none, kept_on, kept_off, kept_whole, table_is, table_none}
 use Rattle.tables.proofs.Widths.{rows-wide, rows_fit}
 use Rattle.gaps.proofs.Rows.{row_room}
-use borrow.Author.Rules.{rules}
 use Rattle.gaps.proofs.none_used.Goals as goal
 
 pub returns-then-not-has_rows : goal.returns-then-not-has_rows

@@ -1,7 +1,6 @@
 -- `gaps::swept` meets its contract: what is left of the table decides.
-use Prim.Native.Nat.{◌-◌, ◌≤◌}
 use native.Mathlib.Omega.{arith}
-use Rattle.gaps.proofs.Rows.{row_room, Sweeping, sweeping-none, sweeping-on, sweeping-whole}
+use Rattle.gaps.proofs.Rows.{row_room, sweeping-none, sweeping-on, sweeping-whole}
 use Rattle.gaps.proofs.swept.Goals as goal
 
 pub loop-at-init : goal.loop-at-init

@@ -1,7 +1,6 @@
 -- `gaps::swept` meets its contract: what is left of the table decides.
 use Prim.Native.Nat.{◌-◌, ◌≤◌}
-use native.Mathlib.Omega.{arith}
-use Rattle.gaps.proofs.Rows.{row_room, Sweeping, sweeping-none, sweeping-on, sweeping-whole}
+use Rattle.gaps.proofs.Rows.{Sweeping}
 use Rattle.gaps.proofs.swept.Given as goal
 
 abbrev pub invariant-loop-at : goal.invariant-loop-at

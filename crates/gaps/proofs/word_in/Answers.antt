@@ -1,6 +1,5 @@
 -- `gaps::word_in` meets its contract: it is what a word is.
 use Rattle.geometry.specs.Bytes.{word_at}
-use borrow.Author.Rules.{rules}
 use Rattle.gaps.proofs.word_in.Goals as goal
 
 pub returns : goal.returns

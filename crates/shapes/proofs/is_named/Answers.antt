@@ -1,7 +1,6 @@
 -- `shapes::is_named` meets its contract: the number of bytes is asked for first.
 use borrow.Author.Tests.{eq-eqb, ne_eqb}
 use Rattle.shapes.specs.Made.{is_named}
-use borrow.Author.Rules.{rules}
 use Rattle.shapes.proofs.is_named.Goals as goal
 
 pub returns-then-name-ne8 : goal.returns-then-name-ne8

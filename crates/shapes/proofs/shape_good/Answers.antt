@@ -1,6 +1,5 @@
 -- `shapes::shape_good` meets its contract: the tests stand as in the definition.
 use Rattle.shapes.specs.Made.{shape_good, file_made}
-use borrow.Author.Rules.{rules}
 use Rattle.shapes.proofs.shape_good.Goals as goal
 
 pub returns : goal.returns
