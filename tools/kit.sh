@@ -105,10 +105,10 @@ in_crate() ( # NAME COMMAND [ARGUMENT..]
 build() { # NAME FILE LINE COMMAND [ARGUMENT..]
     name=$1 file=$2 line=$3
     shift 3
+    texts=$(sum_of_texts)
     is_made "$file" && return
     log=$top/target/prove.log
     mkdir -p "$top/target" || exit 2
-    texts=$(sum_of_texts)
     read -r crates minutes <<END
 $(size_of "$name")
 END
@@ -134,33 +134,36 @@ prove() { # NAME
 }
 
 # Writes the static library for C, of what is proved, and lays it where its callers look for it, under the name that they know.
-static_library() {
-    prove_library
-    library=$top/target/staticlib/liblleuadrys.a
-    mkdir -p "$top/target/staticlib" || exit 2
-    cmp -s "$made" "$library" || cp "$made" "$library" || exit 2
-}
-
 # The crate lleuadrys_c has the calls from C alone, and stands on lleuadrys, which other crates use: rt makes a crate either a
 # library of Rattle or one of C.
-prove_library() {
-    made=$top/crates/lleuadrys_c/out/liblleuadrys_c.a
-    build lleuadrys_c "$made" "" rt lib
+static_library() {
+    library=$top/target/staticlib/liblleuadrys.a
+    is_made "$library" && return
+    build lleuadrys_c "$top/crates/lleuadrys_c/out/liblleuadrys_c.a" "" rt lib
+    lay_library "$texts" || exit 2
 }
 
-# The same over the libraries that 'rt ci' has just proved and left in out/, where they are whole. It proves a static library and
-# writes none, and 'rt lib' would prove all of them again.
-library_over_ci() { # the sum of the texts
-    made=$top/crates/lleuadrys_c/out/liblleuadrys_c.a
+lay_library() { # the sum of the texts
+    library=$top/target/staticlib/liblleuadrys.a
+    mkdir -p "$top/target/staticlib" && cp "$top/crates/lleuadrys_c/out/liblleuadrys_c.a" "$library" && mark_of "$library" "$1" >"$library.made"
+}
+
+# The same over the libraries that 'rt ci' has just proved and left in out/. It proves a static library and writes none, and
+# 'rt lib' would prove all of them again. Those that rt has put back, as they were before that run, are older than the file.
+library_over_ci() { # the sum of the texts, a file that was made before
+    for crate in $(stands_on lleuadrys); do
+        [ -n "$(find "$top/crates/$crate/out/rlib/$crate.rlib" -maxdepth 0 -newer "$2" 2>/dev/null)" ] || return
+    done
     set -- "$1" --crate-name lleuadrys_c src/lib.rt --crate-type staticlib --links lleuadrys_c= --jobs 2 --extern "std=$kit/rlibs/std.rlib"
     direct=$(sed -n 's/#.*//; s/^lleuadrys_c .*://p' "$top/crates.txt")
     for crate in $direct; do set -- "$@" --extern "$crate=$top/crates/$crate/out/rlib/$crate.rlib"; done
     for crate in $(stands_on lleuadrys); do set -- "$@" -L "dependency=$top/crates/$crate/out/rlib"; done
     texts=$1
     shift
+    mkdir -p "$top/crates/lleuadrys_c/out" || return
     in_crate lleuadrys_c "$kit/bin/rattle" build "$@" -L "dependency=$kit/rlibs" --antt-project "$kit/rattle/logic/antt-project.json" \
-        --logic-built "$kit/logic_built" --toolchain "$tools" --backend llvm -o "$made" >"$room/library" 2>&1 || return
-    mark_of "$made" "$texts" >"$made.made"
+        --logic-built "$kit/logic_built" --toolchain "$tools" --backend llvm -o out/liblleuadrys_c.a >"$room/library" 2>&1 || return
+    lay_library "$texts"
 }
 
 # C for x86-64: compiled with the kit's clang, which comes without headers (bench/include has a few), ..

@@ -33,7 +33,11 @@ fn list_case(rt: &impl Print, file: &mut Opened, k: u64) -> bool {
         return false;
     }
     case_io::print_case(rt, k);
-    list_next(rt, file, case_io::number(word_at(&four, 0), word_at(&four, 2)));
+    list_next(
+        rt,
+        file,
+        case_io::number(word_at(&four, 0), word_at(&four, 2)),
+    );
     true
 }
 

@@ -5,8 +5,8 @@
 use arguments::{arg, arg_count, complain, create, write_whole};
 use geometry::Geometry;
 use std::env::Env;
-use std::io::ErrorKind;
 use std::io;
+use std::io::ErrorKind;
 use texts::{Numeral, number_in};
 
 // The numbers of its arguments.

@@ -51,7 +51,17 @@ fn play_both(rt: &impl Print, f: &mut Files, h: Header, whole: &[u8], image: &mu
     print_engine(rt, false);
     play_with(rt, f, at, h, 0, h.plain, whole, image, &mut plain);
     print_engine(rt, true);
-    play_with(rt, f, at, h, h.plain, h.buffered, whole, image, &mut buffered);
+    play_with(
+        rt,
+        f,
+        at,
+        h,
+        h.plain,
+        h.buffered,
+        whole,
+        image,
+        &mut buffered,
+    );
     skip_rows(&mut f.cases, h.rows);
     case_io::skip(&mut f.cases, h.high, h.low);
 }

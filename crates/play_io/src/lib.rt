@@ -63,7 +63,16 @@ pub fn play(
 ) -> bool {
     let mut given = [0u8; 65536];
     let mut buffer = [0u8; 65536];
-    play_rows(rt, script, bytes, most, image, session, &mut given, &mut buffer)
+    play_rows(
+        rt,
+        script,
+        bytes,
+        most,
+        image,
+        session,
+        &mut given,
+        &mut buffer,
+    )
 }
 
 // The same, with room for any row's bytes.

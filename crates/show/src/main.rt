@@ -35,7 +35,10 @@ fn tell_files(err: &impl Print, image: &[u8]) {
 fn tell_why(err: &impl Print, number: u16, image: &[u8]) {
     match number {
         0 => {}
-        7 => tell(err, b"that file is random: it has granules, and no records to show as lines"),
+        7 => tell(
+            err,
+            b"that file is random: it has granules, and no records to show as lines",
+        ),
         8 => {
             tell(err, b"no file has that name; these are there:");
             tell_files(err, image);
