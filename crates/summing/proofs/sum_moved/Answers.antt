@@ -1,4 +1,5 @@
 -- `summing::sum_moved` meets its contract: by the number, then by the code.
+use native.Mathlib.Omega.{arith}
 use Rattle.asking.specs.Requested.{left}
 use Rattle.scripts.specs.Sums.{sums_of}
 use Rattle.summing.proofs.Moved.{no_words, refused, read, written, looked, other}
@@ -33,4 +34,4 @@ pub returns-in_default : goal.returns-in_default
 returns-in_default c =
     let g = c.args in
     let a = left g.number g.image.now g.session.now g.buffer.now in
-    rw (other g.row g.given.now a c.if-number-ne0.false c.in_default.in_default-own.rest.0.0.1 c.in_default.in_default-own.rest.0.1 c.in_default.in_default-own.rest.1) no_words
+    rw (other g.row g.given.now a c.if-number-ne0.false (omega arith) (omega arith) (omega arith)) no_words
