@@ -143,19 +143,22 @@ module _ (image : List ℕ) (s : BufferedSession) (ok : Kept image s) (i : ℕ) 
   found d = buffered-edits image s ok.is_legal ok.is_typed i x name d
 
   -- an edit answered 0; any other changes nothing
-  answer-agrees : (a : Answer) → buffered_edit_answer image s i x name ≡ a
+  pub edit-agrees : EditAgrees (buffered_edit image s i x name) (plain_edit (settle image s) (bare s) i x name)
+  unfolding edit_by bare told_by image_edited table_edited
+  edit-agrees =
+      let cases : (a : Answer) → buffered_edit_answer image s i x name ≡ a
       → EditAgrees
       (record { answer = a; told = told_by a x n; image = image_edited a image n e; session = record { says = s.says; table = table_edited a s.table n e; files = s.files } })
-      (record { answer = a; told = told_by a x n; image = image_edited a (settle image s) n e; session = record { says = s.says; table = table_edited a s.table n e; files = (bare s).files } })
-  unfolding told_by image_edited table_edited bare
-  answer-agrees Done d =
-      record { answer = refl; told = refl; image = settle-laid image s ok n e (found d); session = refl; stays = laid_kept image s ok n e (found d) }
-  answer-agrees (Met y) d = record { answer = refl; told = refl; image = refl; session = refl; stays = ok }
-  answer-agrees (Refused y) d = record { answer = refl; told = refl; image = refl; session = refl; stays = ok }
-
-  pub edit-agrees : EditAgrees (buffered_edit image s i x name) (plain_edit (settle image s) (bare s) i x name)
-  unfolding edit_by bare
-  edit-agrees = rw (← same-edit, same-sectors) (answer-agrees (buffered_edit_answer image s i x name) refl)
+      (record { answer = a; told = told_by a x n; image = image_edited a (settle image s) n e; session = record { says = s.says; table = table_edited a s.table n e; files = (bare s).files } }) =
+      λ (a : Answer). elim a as (λ (a : Answer). buffered_edit_answer image s i x name ≡ a
+      → EditAgrees
+      (record { answer = a; told = told_by a x n; image = image_edited a image n e; session = record { says = s.says; table = table_edited a s.table n e; files = s.files } })
+      (record { answer = a; told = told_by a x n; image = image_edited a (settle image s) n e; session = record { says = s.says; table = table_edited a s.table n e; files = (bare s).files } })) [
+        | Done ↦ λ d. record { answer = refl; told = refl; image = settle-laid image s ok n e (found d); session = refl; stays = laid_kept image s ok n e (found d) }
+        | Met y ↦ λ d. record { answer = refl; told = refl; image = refl; session = refl; stays = ok }
+        | Refused y ↦ λ d. record { answer = refl; told = refl; image = refl; session = refl; stays = ok }
+      ] in
+      rw (← same-edit, same-sectors) (cases (buffered_edit_answer image s i x name) refl)
 
 -- no file is opened or closed, and each holds what it held
 pub edit-held : (image : List ℕ) (s : BufferedSession) (i : ℕ) (x : Edit) (name : List ℕ) (k : ℕ) → held_of (buffered_edit image s i x name).session k ≡ held_of s k

@@ -30,4 +30,4 @@ returns-in-RewindOffline c =
 pub returns-in_default : goal.returns-in_default
 returns-in_default c =
     let a = c.args in
-    c.put_back.ensures ∙ goes_back a.i a.e (lent a.image.now a.h a.buffer.now) a.o (search rules)
+    cc (goes_back a.i a.e (lent a.image.now a.h a.buffer.now) a.o (search rules))
