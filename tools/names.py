@@ -19,7 +19,7 @@ def defines(path, name):
     """Whether a file under crates/ defines a name: a definition, a theorem, a type or one of its parts, or a function of src/."""
     text, name = text_of(path) or "", re.escape(name)
     if path.endswith(".rt"):
-        return bool(re.search(rf"^ *(?:pub )?(?:(?:const|unsafe) (?=.*fn ))?(?:extern \"C\" )?(?:fn|struct|enum|const) {name}\b", text, re.M))
+        return bool(re.search(rf"^ *(?:pub )?(?:(?:const|unsafe) (?=.*fn ))?(?:extern \"C\" )?(?:fn|struct|enum|trait|const|static) {name}\b", text, re.M))
     marks, others = r"^ *(?:(?:unfoldable|abbrev|pub) )*", r"[^\s:(){}]+"
     return bool(re.search(rf"{marks}(?:(?:data|record) {name} |(?:{others} )*{name}(?: {others})*(?: \{{[^}}]*\}})? :(?= |$))", text, re.M))
 

@@ -2,12 +2,13 @@
 // no contract can say.
 #![tactic(auto)]
 
+ghost use Rattle.std.specs.Prelude.{◌≡◌, IfSome, take};
 ghost use Rattle.arguments.specs.Counts.{IsPrefixLen};
 
-use moving::same;
 use std::env::{Env, FillError};
 use std::fs::{File, OpenOptions};
 use std::io::{ErrorKind, Read, Seek, SeekFrom, Write};
+use std::marker::Model;
 use std::{fs, io, str};
 
 // ---- arguments
@@ -16,10 +17,53 @@ use std::{fs, io, str};
 pub fn arg(rt: &impl Env, i: usize, word: &mut [u8]) -> usize
     ensures { IsPrefixLen result word.new }
 {
-    match rt.arg(i, word) {
-        Ok(n) => n,
-        Err(_) => 0,
+    rt.arg(i, word).unwrap_or(0)
+}
+
+// A word: the first bytes of a room of its own.
+#[derive(Drop)]
+pub struct Word {
+    room: [u8; Word::MOST],
+    size: usize,
+}
+
+impl Model for Word {
+    ghost use Rattle.std.specs.Prelude.{◌≤◌, ℕ, List, take};
+
+    ghost Value = { List ℕ };
+
+    ghost view = { λ w. take w.size w.room };
+
+    ghost invariant = { λ w. w.size ≤ 4096 };
+}
+
+impl Word {
+    // How many bytes a word has at most.
+    pub const MOST: usize = 4096;
+
+    // The first n bytes of a room; all of them if there are no more.
+    pub fn first(room: [u8; Word::MOST], n: usize) -> Word
+        ensures { result ≡ take n room }
+    {
+        Word {
+            room,
+            size: n.min(Word::MOST),
+        }
     }
+
+    // Its bytes.
+    pub fn bytes(&self) -> &[u8]
+        ensures { result.now ≡ self.now }
+    {
+        &self.room[..self.size]
+    }
+}
+
+// Argument i; no bytes if it is missing or longer than a word.
+pub fn said(rt: &impl Env, i: usize) -> Word {
+    let mut room = [0u8; Word::MOST];
+    let n = arg(rt, i, &mut room);
+    Word::first(room, n)
 }
 
 // Whether there is an argument i.
@@ -29,12 +73,7 @@ fn is_there(rt: &impl Env, i: usize) -> bool {
 
 // How many arguments the program was started with, its own name among them.
 pub fn arg_count(rt: &impl Env) -> usize {
-    for i in 0..usize::MAX {
-        if !is_there(rt, i) {
-            return i;
-        }
-    }
-    usize::MAX
+    (0..usize::MAX).take_while(|i| is_there(rt, *i)).count()
 }
 
 // ---- reading
@@ -45,26 +84,24 @@ pub struct Opened {
     file: Option<File>,
 }
 
-// The failure of a file that could not be opened.
-fn not_open() -> io::Error {
-    io::Error::from(ErrorKind::NotFound)
+impl Opened {
+    // The file, if it could be opened.
+    fn file(&mut self) -> io::Result<&mut File> {
+        self.file
+            .as_mut()
+            .ok_or(io::Error::from(ErrorKind::NotFound))
+    }
 }
 
 impl Read for Opened {
     fn read(&mut self, buf: &mut [u8]) -> io::Result<usize> {
-        match &mut self.file {
-            Some(file) => file.read(buf),
-            None => Err(not_open()),
-        }
+        self.file()?.read(buf)
     }
 }
 
 impl Seek for Opened {
     fn seek(&mut self, to: SeekFrom) -> io::Result<u64> {
-        match &mut self.file {
-            Some(file) => file.seek(to),
-            None => Err(not_open()),
-        }
+        self.file()?.seek(to)
     }
 }
 
@@ -72,12 +109,10 @@ impl Seek for Opened {
 pub fn read_full(from: &mut impl Read, buf: &mut [u8]) -> usize
     ensures { IsPrefixLen result buf.new }
 {
+    // Stays: each turn goes on by as many bytes as a read gave, and no read is made of a full buffer; std's read_exact tells no count where it fails.
     let mut done = 0;
     while done < buf.len() {
-        let n = match from.read(&mut buf[done..]) {
-            Ok(n) => n,
-            Err(_) => 0,
-        };
+        let n = from.read(&mut buf[done..]).unwrap_or(0);
         if n == 0 {
             break;
         }
@@ -86,43 +121,45 @@ pub fn read_full(from: &mut impl Read, buf: &mut [u8]) -> usize
     done
 }
 
-// Opens a file that options say how. A path is UTF-8: no file can be opened by any other.
+// The path that bytes are. A path is UTF-8: no file can be opened by any other.
+fn path_of(bytes: &[u8]) -> io::Result<&str> {
+    str::from_utf8(bytes).map_err(|_| io::Error::from(ErrorKind::InvalidInput))
+}
+
+// Opens a file that options say how.
 fn open(rt: &HostRuntime, options: &OpenOptions, path: &[u8]) -> io::Result<File> {
-    match str::from_utf8(path) {
-        Ok(path) => options.open(rt, path),
-        Err(_) => Err(io::Error::from(ErrorKind::InvalidInput)),
-    }
+    options.open(rt, path_of(path)?)
 }
 
 // Opens the file that argument i names, to read it.
 pub fn open_read(rt: &HostRuntime, i: usize) -> Opened {
-    let mut path = [0u8; 4096];
-    let n = arg(rt, i, &mut path);
     Opened {
-        file: open(rt, OpenOptions::new().read(true), &path[..n]).ok(),
+        file: open(rt, OpenOptions::new().read(true), said(rt, i).bytes()).ok(),
     }
-}
-
-// Whether argument i is that word.
-pub fn says(rt: &impl Env, i: usize, word: &[u8]) -> bool {
-    let mut first = [0u8; 4096];
-    let n = arg(rt, i, &mut first);
-    same(&first[..n], word)
 }
 
 // Prints argument i.
 pub fn print(rt: &(impl Env + Print), i: usize) {
-    let mut word = [0u8; 4096];
-    let n = arg(rt, i, &mut word);
-    let _ = rt.write_all(&word[..n]);
+    let _ = rt.write_all(said(rt, i).bytes());
 }
 
 // Prints an error's line: a text, and argument i behind it.
 pub fn complain(rt: &(impl Env + Print), text: &[u8], i: usize) {
-    let _ = rt.write_all(b"ERROR ");
+    let _ = print!(rt; "ERROR ");
+    // Stays: `complain` takes any bytes as its text, and may not ask for a `str`.
     let _ = rt.write_all(text);
     print(rt, i);
-    let _ = rt.write_all(b"\n");
+    let _ = println!(rt);
+}
+
+// What was had of argument i. If that is nothing, a text is told of it.
+pub fn or_told<T>(rt: &(impl Env + Print), had: Option<T>, text: &[u8], i: usize) -> Option<T>
+    ensures { result ≡ had }
+{
+    if had.is_none() {
+        complain(rt, text, i);
+    }
+    had
 }
 
 // ---- what can be used
@@ -135,12 +172,8 @@ pub fn more(from: &mut impl Read) -> io::Result<usize> {
 
 // Whether the file that argument i names can be read. If not, that is told.
 pub fn readable(rt: &HostRuntime, i: usize) -> bool {
-    let got = more(&mut open_read(rt, i));
-    if got.is_err() {
-        complain(rt, b"cannot read ", i);
-        return false;
-    }
-    true
+    let first = more(&mut open_read(rt, i));
+    or_told(rt, first.ok(), b"cannot read ", i).is_some()
 }
 
 // Opens a new file to write it. It fails where there is one of that name.
@@ -150,107 +183,80 @@ pub fn create(rt: &HostRuntime, path: &[u8]) -> io::Result<File> {
 
 // Removes a file.
 pub fn remove(rt: &HostRuntime, path: &[u8]) -> io::Result<()> {
-    match str::from_utf8(path) {
-        Ok(path) => fs::remove_file(rt, path),
-        Err(_) => Err(io::Error::from(ErrorKind::InvalidInput)),
-    }
+    fs::remove_file(rt, path_of(path)?)
 }
 
-// The file that argument i names, opened to be written, of which not a byte changes.
-fn open_kept(rt: &HostRuntime, i: usize) -> io::Result<File> {
-    let mut path = [0u8; 4096];
-    let n = arg(rt, i, &mut path);
-    match open(rt, OpenOptions::new().append(true), &path[..n]) {
-        Ok(old) => Ok(old),
-        Err(_) => create(rt, &path[..n]),
-    }
+// A file opened to be written, of which not a byte changes.
+fn open_kept(rt: &HostRuntime, path: &[u8]) -> io::Result<File> {
+    open(rt, OpenOptions::new().append(true), path).or_else(|_| create(rt, path))
 }
 
 // Whether the file that argument i names can be written, of which not a byte changes. If not, that is told.
 pub fn writable(rt: &HostRuntime, i: usize) -> bool {
-    if open_kept(rt, i).is_err() {
-        complain(rt, b"cannot write ", i);
-        return false;
-    }
-    true
+    let opened = open_kept(rt, said(rt, i).bytes());
+    or_told(rt, opened.ok(), b"cannot write ", i).is_some()
 }
 
 // ---- images
 
-// How many bytes of an image were read, and whether that is all of it.
-#[derive(Drop)]
-pub struct Taken {
-    pub whole: bool,
-    pub size: usize,
-}
-
-// Reads the image that argument i names, in room for 4,096 sectors. If it cannot be read whole, that is told.
-pub fn read_image(rt: &HostRuntime, i: usize, room: &mut [u8]) -> Taken
-    ensures { IsPrefixLen result.size room.new }
+// Reads the image that argument i names, in room for 4,096 sectors. How many bytes it has; none if it cannot be read whole, and then that is told.
+pub fn read_image(rt: &HostRuntime, i: usize, room: &mut [u8]) -> Option<usize>
+    ensures { IfSome result (λ n. IsPrefixLen n room.new) }
 {
     let mut file = open_read(rt, i);
     let size = read_full(&mut file, room);
-    let whole = match more(&mut file) {
-        Ok(0) => true,
+    match more(&mut file) {
+        Ok(0) => return Some(size),
         Ok(_) => {
-            let _ = rt.write_all(b"ERROR image longer than 1474560 bytes\n");
-            false
+            let _ = println!(rt; "ERROR image longer than 1474560 bytes");
         }
-        Err(_) => {
-            complain(rt, b"cannot read ", i);
-            false
-        }
-    };
-    Taken { whole, size }
+        Err(_) => complain(rt, b"cannot read ", i),
+    }
+    None
 }
 
 // How many bytes an open file has; 0 where that cannot be told.
-fn length_of(file: &mut File) -> usize {
-    match file.seek(SeekFrom::End(0)) {
-        Ok(end) => end as usize,
-        Err(_) => 0,
-    }
+fn length_of(file: &mut File) -> u64 {
+    file.seek(SeekFrom::End(0)).unwrap_or(0)
 }
 
 // Opens a file to write so many bytes to it. One that has as many is not emptied before, since it may be the image itself: its bytes are written
 // over, which takes no more room than there is.
 fn open_write(rt: &HostRuntime, path: &[u8], size: usize) -> io::Result<File> {
-    if let Ok(mut file) = open(rt, OpenOptions::new().read(true).write(true), path) {
-        if length_of(&mut file) == size {
-            if let Ok(0) = file.seek(SeekFrom::Start(0)) {
-                return Ok(file);
-            }
-        }
+    if let Ok(mut file) = open(rt, OpenOptions::new().read(true).write(true), path)
+        && length_of(&mut file) == size as u64
+        && file.rewind().is_ok()
+    {
+        return Ok(file);
     }
-    let mut options = OpenOptions::new();
-    options.write(true).create(true).truncate(true);
-    open(rt, &options, path)
+    open(
+        rt,
+        OpenOptions::new().write(true).create(true).truncate(true),
+        path,
+    )
 }
 
-// Whether the system has taken all that was written to a file. One that is no file on a disk does not say.
-fn is_kept(file: &File) -> bool {
+// Sees that the system has taken all that was written to a file. One that is no file on a disk does not say.
+fn keep(file: &File) -> io::Result<()> {
     match file.sync_all() {
-        Ok(()) => true,
-        Err(e) => matches!(e.kind(), ErrorKind::InvalidInput | ErrorKind::Unsupported),
+        Err(e) if matches!(e.kind(), ErrorKind::InvalidInput | ErrorKind::Unsupported) => Ok(()),
+        kept => kept,
     }
 }
 
-// Writes bytes to a file, and closes it. Whether all were written.
-pub fn write_whole(mut file: File, bytes: &[u8]) -> bool {
-    let written = file.write_all(bytes).is_ok();
-    is_kept(&file) & written
+// Writes bytes to a file, and closes it. It fails where not all were written.
+pub fn write_whole(mut file: File, bytes: &[u8]) -> io::Result<()> {
+    let written = file.write_all(bytes);
+    keep(&file).and(written)
+}
+
+// Writes an image to a file.
+fn write_image(rt: &HostRuntime, path: &[u8], image: &[u8]) -> io::Result<()> {
+    write_whole(open_write(rt, path, image.len())?, image)
 }
 
 // Writes an image to the file that argument i names. Whether it was written whole. If not, that is told.
 pub fn save(rt: &HostRuntime, i: usize, image: &[u8]) -> bool {
-    let mut path = [0u8; 4096];
-    let n = arg(rt, i, &mut path);
-    let saved = match open_write(rt, &path[..n], image.len()) {
-        Ok(file) => write_whole(file, image),
-        Err(_) => false,
-    };
-    if !saved {
-        complain(rt, b"cannot write ", i);
-    }
-    saved
+    let written = write_image(rt, said(rt, i).bytes(), image);
+    or_told(rt, written.ok(), b"cannot write ", i).is_some()
 }

@@ -3,13 +3,15 @@
 
 ghost use Rattle.std.specs.Prelude.{◌≡◌};
 ghost use Rattle.requests.specs.Codes.{asked_for};
+ghost use Rattle.requests.specs.Numbers.{number_of};
 ghost use Rattle.asking.specs.Requested.{left, requested};
 
 use looking::look_answer;
 use numbering::unknown;
-use requests::{Asked, by_code, number};
+use requests::{Answer, by_code};
 
-// A request by its code on that entry; its number. One of an unknown code changes nothing.
+// A request by its code on that entry. One of an unknown code changes nothing.
+#[tactic(auto, unfolding(crate::specs::Requested::requested))]
 pub fn request(
     image: &mut [u8],
     session: &mut [u8],
@@ -18,12 +20,12 @@ pub fn request(
     granule: u32,
     given: &[u8],
     buffer: &mut [u8],
-) -> u16
-    ensures { left result image.new session.new buffer.new
+) -> Answer
+    ensures { left (number_of result) image.new session.new buffer.new
         ≡ requested image.old session.old entry (asked_for code granule) given.now buffer.old }
 {
     match by_code(code, granule) {
-        Asked::For(q) => number(engines::request(image, session, entry, q, given, buffer)),
-        Asked::Unknown => unknown(look_answer(image, session, entry, 0)),
+        Some(q) => engines::request(image, session, entry, q, given, buffer),
+        None => unknown(look_answer(image, session, entry, 0)),
     }
 }

@@ -2,21 +2,29 @@
 // A buffer of another size than a sector's stays as it is, and nothing is put back from it.
 #![tactic(auto)]
 
-ghost use Rattle.std.specs.Prelude.{◌≡◌, ◌+◌, ◌-◌, ◌≤◌, length};
-ghost use Rattle.geometry.specs.Bytes.{part, padded};
+ghost use Rattle.std.specs.Prelude.{◌≡◌, true, ◌+◌, ◌≤◌, ◌<◌, ◌^◌, length, refl};
+ghost use Rattle.std.proofs.Common.{◌∙◌};
+ghost use Rattle.geometry.specs.Bytes.{part};
 ghost use Rattle.geometry.specs.Sizes.{sector};
 ghost use Rattle.sessions.specs.Session.{has_buffer};
-ghost use Rattle.steps.specs.Effects.{sector_at, putting_back, taking};
-ghost use Rattle.steps.specs.Effects as Effects;
-ghost use Rattle.blocking.specs.Blocking.{lent, scene, is_there, held_do};
+ghost use Rattle.steps.specs.Effects.{sector_at, putting_back, loaded, taking};
+ghost use Rattle.blocking.specs.Blocking.{Kept, bench_of, is_there, held_way};
 
-use directory::Entry;
+use directory::{Entry, stamp};
 use geometry::Geometry;
 use moving::{lay, lay_padded, part};
 use placing::{room_behind, sector_at};
 use sessions::Holding;
+use straight::{Mover, store};
 
-// ---- the buffer
+// A file whose sectors are moved by way of its buffer, with what it holds.
+#[derive(Drop)]
+pub struct Held<'a> {
+    pub image: &'a mut [u8],
+    pub entry: Entry,
+    pub hold: Holding,
+    pub buffer: &'a mut [u8],
+}
 
 // Whether a file has a blocking buffer: a blocked or compressed one.
 fn has_buffer(e: Entry) -> bool
@@ -25,64 +33,10 @@ fn has_buffer(e: Entry) -> bool
     (e.kind == Geometry::BLOCKED) | (e.kind == Geometry::COMPRESSED)
 }
 
-// A changed buffer goes back to its sector; one that is not changed is not written.
-fn lay_back(image: &mut [u8], e: Entry, h: Holding, buffer: &[u8]) -> Holding
-    ensures { lent image.new result buffer.now ≡ putting_back e (lent image.old h buffer.now) }
-{
-    if h.holds & h.changed {
-        lay(image, sector_at(e, h.held), buffer);
-        Holding {
-            holds: true,
-            held: h.held,
-            changed: false,
-        }
-    } else {
-        h
-    }
-}
-
-// The buffer of a file that has one goes back.
-pub fn put_back(image: &mut [u8], e: Entry, h: Holding, buffer: &[u8]) -> Holding
-    ensures { lent image.new result buffer.now ≡ held_do (scene 0 e) Effects.put_back (lent image.old h buffer.now) }
-{
-    if (buffer.len() == Geometry::SECTOR) & has_buffer(e) {
-        lay_back(image, e, h, buffer)
-    } else {
-        h
-    }
-}
-
-// Sector k of the extent comes into the buffer, whatever that held.
-fn load(image: &[u8], e: Entry, k: u32, buffer: &mut [u8])
-    requires { (sector_at e k + sector ≤ length image.now) × (length buffer.old ≡ sector) }
-    ensures { buffer.new ≡ part image.now (sector_at e k) sector }
-{
-    lay(buffer, 0, part(image, sector_at(e, k), Geometry::SECTOR));
-}
-
-// The file takes sector k, unless it holds it already; what it held goes back first.
-fn take(image: &mut [u8], e: Entry, h: Holding, buffer: &mut [u8], k: u32) -> Holding
-    requires { (sector_at e k + sector ≤ length image.old) × (length buffer.old ≡ sector) }
-    ensures { lent image.new result buffer.new ≡ taking e k (lent image.old h buffer.old) }
-{
-    if h.holds & (h.held == k) {
-        h
-    } else {
-        lay_back(image, e, h, buffer);
-        load(image, e, k, buffer);
-        Holding {
-            holds: true,
-            held: k,
-            changed: false,
-        }
-    }
-}
-
-// ---- one effect
-
-// Whether sector k is one of the extent's, and lies in an image of n bytes.
+// Whether sector k is one of the extent's, whose numbers have 16 bits, and lies in an image of n bytes.
 fn is_there(e: Entry, k: usize, n: usize) -> bool
-    ensures { result ≡ is_there e k n }
+    ensures there { result ≡ is_there e k n }
+    ensures small { result ≡ true → k < 2 ^ 16 }
 {
     if k < (e.sectors as usize) {
         Geometry::SECTOR * ((e.first as usize) + k) + Geometry::SECTOR <= n
@@ -91,41 +45,108 @@ fn is_there(e: Entry, k: usize, n: usize) -> bool
     }
 }
 
-// The file takes sector k, to read it.
-pub fn hold(image: &mut [u8], e: Entry, h: Holding, buffer: &mut [u8], k: usize) -> Holding
-    ensures { lent image.new result buffer.new ≡ held_do (scene 0 e) (Effects.hold k) (lent image.old h buffer.old) }
-{
-    if (buffer.len() == Geometry::SECTOR) & is_there(e, k, image.len()) {
-        take(image, e, h, buffer, k as u32)
-    } else {
-        h
+// ---- the buffer
+
+impl<'a> Held<'a> {
+    // A changed buffer goes back to its sector; one that is not changed is not written.
+    fn lay_back(&mut self)
+        ensures { (bench_of self.new ≡ putting_back self.old.entry (bench_of self.old)) × Kept self.old self.new }
+    {
+        let h = self.hold;
+        if h.holds & h.changed {
+            let at = sector_at(self.entry, h.held);
+            let buffer: &mut [u8] = self.buffer;
+            lay(self.image, at, buffer);
+            self.hold = Holding {
+                changed: false,
+                ..h
+            };
+        }
+    }
+
+    // Sector k of the extent comes into the buffer, whatever that held.
+    fn load(&mut self, k: u32)
+        requires { (sector_at self.old.entry k + sector ≤ length self.old.image.now) × (length self.old.buffer.now ≡ sector) }
+        ensures { (bench_of self.new ≡ loaded self.old.entry k (bench_of self.old)) × Kept self.old self.new }
+    {
+        let at = sector_at(self.entry, k);
+        let image: &mut [u8] = self.image;
+        lay(self.buffer, 0, part(image, at, Geometry::SECTOR));
+        self.hold = Holding {
+            holds: true,
+            held: k,
+            changed: false,
+        };
+    }
+
+    // The file takes sector k, unless it holds it already; what it held goes back first.
+    fn take(&mut self, k: u32)
+        requires { (sector_at self.old.entry k + sector ≤ length self.old.image.now) × (length self.old.buffer.now ≡ sector) }
+        ensures { (bench_of self.new ≡ taking self.old.entry k (bench_of self.old)) × Kept self.old self.new }
+    {
+        let h = self.hold;
+        if h.holds & (h.held == k) {
+            return;
+        }
+        self.lay_back();
+        self.load(k);
     }
 }
 
-// The file takes sector k, to lay xs over it from one of its bytes on, with `behind` up to the sector's end.
-pub fn change(
-    image: &mut [u8],
-    e: Entry,
-    h: Holding,
-    buffer: &mut [u8],
-    k: usize,
-    byte: usize,
-    xs: &[u8],
-    behind: u8,
-) -> Holding
-    ensures { lent image.new result buffer.new ≡ held_do (scene 0 e)
-        (Effects.change (record { place = record { sector = k; byte = byte }; bytes = padded behind (sector - byte) xs.now }))
-        (lent image.old h buffer.old) }
-{
-    if (buffer.len() == Geometry::SECTOR) & is_there(e, k, image.len()) {
-        let taken = take(image, e, h, buffer, k as u32);
-        lay_padded(buffer, byte, xs, room_behind(byte), behind);
-        Holding {
-            holds: true,
-            held: taken.held,
-            changed: true,
+// ---- one effect
+
+impl<'a> Mover for Held<'a> {
+    ghost bench = { bench_of };
+
+    ghost entry = { λ m. m.entry };
+
+    ghost Same = { Kept };
+
+    ghost way = { held_way };
+
+    ghost same_entry = { λ a b p. p.0 };
+
+    ghost same_itself = { λ a. (refl, refl, refl) };
+
+    ghost same_on = { λ a b c p q. (q.0 ∙ p.0, q.1 ∙ p.1, q.2 ∙ p.2) };
+
+    fn entry(&self) -> Entry {
+        self.entry
+    }
+
+    // The file takes sector k, to read it.
+    fn hold(&mut self, k: usize) {
+        if (self.buffer.len() == Geometry::SECTOR) & is_there(self.entry, k, self.image.len()) {
+            self.take(k as u32);
         }
-    } else {
-        h
+    }
+
+    // The file takes sector k, to lay xs over it from one of its bytes on, with `behind` up to the sector's end.
+    fn change(&mut self, k: usize, byte: usize, xs: &[u8], behind: u8) {
+        if (self.buffer.len() == Geometry::SECTOR) & is_there(self.entry, k, self.image.len()) {
+            self.take(k as u32);
+            lay_padded(self.buffer, byte, xs, room_behind(byte), behind);
+            self.hold = Holding {
+                holds: true,
+                changed: true,
+                ..self.hold
+            };
+        }
+    }
+
+    // The buffer of a file that has one goes back.
+    fn put_back(&mut self) {
+        if (self.buffer.len() == Geometry::SECTOR) & has_buffer(self.entry) {
+            self.lay_back();
+        }
+    }
+
+    // Stays: as `Straight` has it, and `stamp` and `entry` too: a default method would need a method that lends the image, whose clause is longer than these lines.
+    fn store(&mut self, k: u32, given: &[u8]) {
+        store(self.image, self.entry, k, given);
+    }
+
+    fn stamp(&mut self, i: usize) {
+        stamp(self.image, i, self.entry.count, self.entry.flags);
     }
 }

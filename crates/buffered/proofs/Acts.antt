@@ -1,16 +1,13 @@
 -- What a request answered 0 does to the image and the file's buffer: a compressed record read lies in another sector than its place exactly if
 -- the place goes on; and some requests do nothing to either.
 use mathlib.Core.Path.{◌≡◌, refl, sym, ap, ◌∙◌}
-use mathlib.Core.Logic.{inl}
 use mathlib.Core.Bool.{Bool, true, false, not}
-use mathlib.Core.List.{List, [], ◌∷◌}
+use mathlib.Core.List.{List}
 use Prim.Native.Nat.{ℕ, ◌+◌, ◌*◌, ◌≤◌, ◌<◌}
 use native.Mathlib.Omega.{arith}
 use lib.Dec.{eqb}
 use lib.ListN.{length}
 use borrow.Author.Tests.{eq-eqb, ne_eqb}
-use denote.Enum.Declared.{tag_of}
-use types.Run.{OneOf, miss}
 use Rattle.geometry.specs.Sizes.{sector, entries, blocked, compressed}
 use Rattle.geometry.specs.declared.Place.{Place}
 use Rattle.geometry.proofs.Tests.{either}
@@ -21,12 +18,10 @@ use Rattle.steps.specs.Next.{Scene}
 use Rattle.steps.proofs.Buffer.{of_file, any-file}
 use Rattle.steps.proofs.Inside.{AllSuit}
 use Rattle.straight.specs.Straight.{Encoded}
-use Rattle.blocking.specs.Blocking.{bench, state_with, lent, scene}
-use Rattle.held.specs.Held.{held_all, read_with, write_with}
+use Rattle.straight.specs.Moving.{bench, scene}
+use Rattle.blocking.specs.Blocking.{state_with, lent}
+use Rattle.held.specs.Held.{held_all, read_with, write_with, effects_with}
 use Rattle.held.proofs.Agree.{held_same, held_all_lem}
-use Rattle.buffered.specs.Buffered.{effects_with}
-use Rattle.requests.specs.contracts.Request as request
-use Rattle.requests.specs.declared.Order.{Order}
 use Rattle.requests.specs.declared.Order.TheVariants.{WriteMark, RewindOnline, RewindOffline, RecordForward, RecordBack, FileForward, FileBack}
 use Rattle.requests.specs.declared.Request.{Request}
 use Rattle.requests.specs.declared.Request.TheVariants.{Open, Read, Write, GranuleRead, GranuleWrite, GranuleLook, Position}
@@ -90,32 +85,6 @@ module _ (c : Scene) (q : Request) (code : List ℕ) (k : ℕ) (image : List ℕ
       let w : Bench = lent image h buffer in
       ap (of_file c.file) (z
       ∙ ap (λ (xs : List Effect). held_all (scene c.number c.entry) xs w) (effects-with q c code k p.3 p.4)
-      ∙ held_same c c.number (effects q c) (inl refl) w
+      ∙ held_same c (effects q c) w
       ∙ held_all_lem c (effects q c) w p.0 p.1 l p.2)
       ∙ sym (any-file c.file c (effects q c) w)
-
--- an order's effects go by the entry alone
-pub orders : (i : ℕ) (e : Entry) (o : Order) → effects (Position o) (scene i e) ≡ effects (Position o) (scene 0 e)
-unfolding effects
-orders i e WriteMark = refl
-orders i e RewindOnline = refl
-orders i e RewindOffline = refl
-orders i e RecordForward = refl
-orders i e RecordBack = refl
-orders i e FileForward = refl
-orders i e FileBack = refl
-
--- the tags of the requests that neither the image nor the buffer shows
-abbrev still : List ℕ
-still = 0 ∷ 3 ∷ 5 ∷ []
-
-module _ (i : ℕ) (e : Entry) (f : OpenFile) (given code : List ℕ) (k : ℕ) (w : Bench) where
-  pub stays : (q : Request) → OneOf still (tag_of request.the_type q) → w ≡ held_all (scene i e) (effects_with q e f given code k) w
-  unfolding effects_with held_all
-  stays Open h = refl
-  stays Read h = absurd (miss still 1 tt h)
-  stays Write h = absurd (miss still 2 tt h)
-  stays (GranuleRead g) h = refl
-  stays (GranuleWrite g) h = absurd (miss still 4 tt h)
-  stays (GranuleLook g) h = refl
-  stays (Position o) h = absurd (miss still 6 tt h)

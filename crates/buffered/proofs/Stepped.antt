@@ -19,7 +19,7 @@ use Rattle.straight.specs.Straight.{code_given}
 use Rattle.straight.proofs.Judged.{judgement}
 use Rattle.steps.proofs.Granted.{room, suits}
 use Rattle.straight.proofs.Goes.{there, lies_in, encoded}
-use Rattle.blocking.specs.Blocking.{bench}
+use Rattle.straight.specs.Moving.{bench}
 use Rattle.buffered.proofs.Acts.{Goes}
 use Rattle.directory.specs.declared.Entry.{Entry}
 use Rattle.requests.specs.declared.Request.{Request}

@@ -2,14 +2,14 @@
 #![tactic(auto)]
 
 ghost use Rattle.std.specs.Prelude.{◌≡◌};
-ghost use Rattle.blocking.specs.Blocking.{lent, scene};
-ghost use Rattle.held.specs.Held.{held_all};
-ghost use Rattle.buffered.specs.Buffered.{effects_with};
+ghost use Rattle.straight.specs.Moving.{scene};
+ghost use Rattle.blocking.specs.Blocking.{lent};
+ghost use Rattle.held.specs.Held.{held_all, effects_with};
 
+use blocking::Held;
 use directory::Entry;
 use requests::Request;
 use sessions::{Holding, OpenFile};
-use straight::store;
 
 // A request on entry i, with what its file holds; k is the sector that a record read of a compressed file lies in.
 pub fn act(
@@ -27,17 +27,12 @@ pub fn act(
     ensures { lent image.new result buffer.new
         ≡ held_all (scene i e) (effects_with q e f given.now code.now k) (lent image.old h buffer.old) }
 {
-    match q {
-        Request::Read => {
-            let here = f.here;
-            held::read(image, e, h, buffer, f, !(here.sector == k), k as usize)
-        }
-        Request::Write => held::write(image, e, h, buffer, f, given, code),
-        Request::GranuleWrite(g) => {
-            store(image, e, g, given);
-            h
-        }
-        Request::Position(o) => held::order(image, i, e, h, buffer, o),
-        _ => h,
-    }
+    let mut file = Held {
+        image,
+        entry: e,
+        hold: h,
+        buffer,
+    };
+    held::act(&mut file, i, f, q, given, code, k);
+    file.hold
 }

@@ -3,6 +3,7 @@ use mathlib.Core.Path.{◌≡◌, refl, sym, ap, ◌∙◌}
 use mathlib.Core.Bool.{Bool, true, false}
 use mathlib.Core.List.{List, []}
 use Prim.Native.Nat.{ℕ}
+use Rattle.std.specs.Prelude.{Some}
 use lib.Dec.{eqb}
 use lib.ListN.{length, replicate}
 use borrow.Author.Tests.{eq-eqb}
@@ -24,7 +25,6 @@ use Rattle.calling.specs.Mounted.{mount_number, mount_bytes}
 use Rattle.asking.specs.Requested.{requested}
 use Rattle.looking.proofs.Shown.{look_is}
 use Rattle.callers.specs.Lent.{lent_engine, left_of, Called}
-use Rattle.requests.specs.declared.Asked.TheVariants.{For}
 use Rattle.requests.specs.declared.Edit.{Edit}
 use Rattle.requests.specs.declared.Edit.TheVariants.{Add, Delete}
 use Rattle.requests.specs.declared.Request.{Request}
@@ -43,7 +43,7 @@ module _ (image b : List ℕ) (i : ℕ) (q : Request) (given buffer : List ℕ) 
       by true = refl
       by false = refl
 
-  from-c : requested image b i (For q) given buffer ≡ left_of ((lent_engine (has_buffers b)).request image b i q given buffer)
+  from-c : requested image b i (Some q) given buffer ≡ left_of ((lent_engine (has_buffers b)).request image b i q given buffer)
   unfolding requested
   from-c = ap left_of in-rattle
 

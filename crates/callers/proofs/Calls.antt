@@ -3,12 +3,12 @@ use mathlib.Core.Path.{◌≡◌, refl, sym, ap, ap₂, ◌∙◌, fun_ext}
 use mathlib.Core.Bool.{Bool, true}
 use mathlib.Core.List.{List, [], ◌∷◌, map}
 use Prim.Native.Nat.{ℕ}
+use Rattle.std.specs.Prelude.{Option, Some}
 use lib.ListN.{length}
 use Rattle.geometry.specs.Lists.{numbers_from}
 use Rattle.geometry.specs.Sizes.{entries}
 use Rattle.mounting.specs.Mounting.{mounts, plain_mount}
 use Rattle.requests.specs.Codes.{codes, asked_for}
-use Rattle.requests.specs.declared.Asked.TheVariants.{For}
 use Rattle.requests.specs.declared.Order.TheVariants.{WriteMark, RewindOnline, RewindOffline, RecordForward, RecordBack, FileForward, FileBack}
 use Rattle.requests.specs.Numbers.{number_of}
 use Rattle.sessions.specs.Session.{bare, spot_of}
@@ -44,7 +44,7 @@ module _ (u : Bool) where
 
   spots-are : (b : List ℕ) → has_buffers b ≡ u → map (spot_of (bare (lent_session b))) (numbers_from 0 entries) ≡ spots_of E b
   unfolding spots_of
-  spots-are b t = ap (λ (f : ℕ → Spot). map f (numbers_from 0 entries)) (fun_ext (called.positions b) ∙ ap (λ (v : Bool). (lent_engine v).position b) t)
+  spots-are b t = ap (λ (f : ℕ → Option Spot). map f (numbers_from 0 entries)) (fun_ext (called.positions b) ∙ ap (λ (v : Bool). (lent_engine v).position b) t)
 
   module _ (w : Standing (List ℕ)) (a : Asked) (t : has_buffers w.session ≡ u) where
     call-is : call w a ≡ left_of (answered E w a)
@@ -161,7 +161,7 @@ pub coded : Coded
 unfolding asked_for codes
 coded = record { named = name }
   where
-    name : (q : Request) → (code : ℕ) × (g : ℕ) × (asked_for code g ≡ For q)
+    name : (q : Request) → (code : ℕ) × (g : ℕ) × (asked_for code g ≡ Some q)
     name Open = (1, 0, refl)
     name Read = (2, 0, refl)
     name Write = (3, 0, refl)

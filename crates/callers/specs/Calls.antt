@@ -1,7 +1,7 @@
 -- What C sees of a run of its calls, from a mounting on: each a request by its code, an adding or a deleting, on the image and the session's bytes that the one
 -- before it left.
 -- Definitions only.
-use Rattle.std.specs.Prelude.{◌≡◌, Bool, true, List, [], ◌∷◌, map, ℕ, length}
+use Rattle.std.specs.Prelude.{◌≡◌, Bool, true, List, [], ◌∷◌, map, ℕ, Some, length}
 use Rattle.geometry.specs.Bytes.{part}
 use Rattle.geometry.specs.Lists.{numbers_from}
 use Rattle.geometry.specs.Sizes.{entries}
@@ -19,14 +19,13 @@ use Rattle.looking.specs.Looking.{look_in, look_place}
 use Rattle.calling.specs.Mounted.{mount_number, mount_bytes}
 use Rattle.asking.specs.Requested.{Left, requested}
 use Rattle.demands.specs.Engine.{Standing, if_look, in_bytes}
-use Rattle.requests.specs.declared.Asked.TheVariants.{For}
 use Rattle.requests.specs.declared.Edit.{Edit}
 use Rattle.requests.specs.declared.Edit.TheVariants.{Add, Delete}
 use Rattle.requests.specs.declared.Request.{Request}
 
 -- what the request call answers and leaves
 abbrev pub call : Standing (List ℕ) → Asked → Left
-call w a = requested w.image w.session a.entry (For a.request) a.given a.buffer
+call w a = requested w.image w.session a.entry (Some a.request) a.given a.buffer
 
 -- the part of the image that the look call tells
 abbrev pub told_by : List ℕ → List ℕ → ℕ → ℕ → List ℕ
@@ -84,4 +83,4 @@ pub record Calling : Type 0 where
 
 -- and every request has a code, by which C names it
 pub record Coded : Type 0 where
-  pub named : (q : Request) → (code : ℕ) × (g : ℕ) × (asked_for code g ≡ For q)
+  pub named : (q : Request) → (code : ℕ) × (g : ℕ) × (asked_for code g ≡ Some q)

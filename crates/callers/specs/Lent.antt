@@ -1,6 +1,6 @@
 -- The engines as a caller calls them, with the session in lent bytes: each of the demands' engines over what the contracts of the calls cite. And that
 -- the calls are these engines. Definitions only.
-use Rattle.std.specs.Prelude.{◌≡◌, Bool, true, false, List, [], ℕ, length}
+use Rattle.std.specs.Prelude.{◌≡◌, Bool, true, false, List, [], ℕ, Some, length}
 use Rattle.geometry.specs.Bytes.{part}
 use Rattle.requests.specs.Numbers.{number_of}
 use Rattle.sessions.specs.Session.{bare, spot_of}
@@ -13,7 +13,6 @@ use Rattle.looking.specs.Looking.{look_in, look_place}
 use Rattle.calling.specs.Mounted.{mount_number, mount_bytes}
 use Rattle.asking.specs.Requested.{Left, left, requested}
 use Rattle.demands.specs.Engine.{Engine, plain_engine, buffered_engine}
-use Rattle.requests.specs.declared.Asked.TheVariants.{For}
 use Rattle.requests.specs.declared.Edit.{Edit}
 use Rattle.requests.specs.declared.Edit.TheVariants.{Add, Delete}
 use Rattle.requests.specs.declared.Request.{Request}
@@ -65,7 +64,7 @@ pub record Called : Type 0 where
   pub in_rattle : (image b : List ℕ) (i : ℕ) (q : Request) (given buffer : List ℕ)
       → Engines.requested image b i q given buffer ≡ (lent_engine (has_buffers b)).request image b i q given buffer
   pub requests : (image b : List ℕ) (i : ℕ) (q : Request) (given buffer : List ℕ)
-      → requested image b i (For q) given buffer ≡ left_of ((lent_engine (has_buffers b)).request image b i q given buffer)
+      → requested image b i (Some q) given buffer ≡ left_of ((lent_engine (has_buffers b)).request image b i q given buffer)
   -- and an edit
   pub edits : (image b : List ℕ) (i : ℕ) (x : Edit) (name : List ℕ) → edited_in image b i x name ≡ (lent_engine (has_buffers b)).edit image b i x name
   -- ADD looks at no entry's number that it is given, and DELETE at no name: C gives 0, and none

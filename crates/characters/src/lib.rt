@@ -5,10 +5,8 @@ ghost use Rattle.std.specs.Prelude.{◌≡◌, map, take};
 ghost use Rattle.texts.specs.Texts.{Wrote};
 ghost use Rattle.characters.specs.Characters.{ascii_of, ebcdic_of};
 
-use moving::least;
-
 // From EBCDIC to ASCII. A full stop stands at each code that no listed character has.
-const ASCII: [u8; 256] = *b"\
+static ASCII: [u8; 256] = *b"\
       ................\
       ................\
       ................\
@@ -27,7 +25,7 @@ const ASCII: [u8; 256] = *b"\
       0123456789......";
 
 // And back. A blank stands at each character that is not listed.
-const EBCDIC: [u8; 256] = *b"\
+static EBCDIC: [u8; 256] = *b"\
       \x40\x40\x40\x40\x40\x40\x40\x40\x40\x40\x40\x40\x40\x40\x40\x40\
       \x40\x40\x40\x40\x40\x40\x40\x40\x40\x40\x40\x40\x40\x40\x40\x40\
       \x40\x40\x7F\x7B\x5B\x6C\x50\x7D\x4D\x5D\x5C\x4E\x6B\x60\x4B\x61\
@@ -59,16 +57,20 @@ pub fn to_ebcdic(c: u8) -> u8
     EBCDIC[c as usize]
 }
 
+// Makes bytes of EBCDIC ASCII.
+fn make_ascii(bytes: &mut [u8])
+    ensures { bytes.new ≡ map ascii_of bytes.old }
+{
+    for c in bytes.iter_mut() {
+        *c = to_ascii(*c);
+    }
+}
+
 // Makes the first m bytes of out, which are of EBCDIC, ASCII, as far as there are so many. The place behind them.
 pub fn translate(out: &mut [u8], m: usize) -> usize
     ensures { Wrote out.old 0 (map ascii_of (take m out.old)) out.new result }
 {
-    let table = ASCII;
-    let n = least(m, out.len());
-    let mut k = 0;
-    while k < n {
-        out[k] = table[out[k] as usize];
-        k += 1;
-    }
-    k
+    let n = m.min(out.len());
+    make_ascii(&mut out[..n]);
+    n
 }

@@ -7,7 +7,7 @@ ghost use Rattle.coding.specs.Encode.{gap_at, run_length, runs_code};
 ghost use Rattle.coding.specs.Encode as Encode;
 
 use geometry::Geometry;
-use moving::{least, put};
+use moving::put;
 
 // How many blanks the blank run from the place j of x on has, two at the most: 0 if the character there goes into none. No blank is the last character
 // of x.
@@ -48,24 +48,20 @@ fn put_characters(x: &[u8], i: usize, out: &mut [u8], at: usize) -> usize
     ensures { (result ≡ run_length 127 false (get_or (0 ∷ x.now) i 0) (drop i x.now))
         × (out.new ≡ sets out.old at (take result (drop i x.now))) }
 {
-    let end = least(i + 127, x.len());
-    let mut j = i;
-    let mut to = at;
-    loop {
-        put(out, to, x[j]);
-        j += 1;
-        if j == end {
-            return j - i;
-        }
+    let end = (i + 127).min(x.len());
+    put(out, at, x[i]);
+    for j in i + 1..end {
         if begins_gap(x, j) {
             return j - i;
         }
-        to += 1;
+        put(out, at + (j - i), x[j]);
     }
+    end - i
 }
 
 // Puts the code of all of x, whose last character is no blank, into out, run by run, each as long as it can be, up to 127. Returns the code's length.
 // Of a blank run the first two characters are read by first_blanks and the others by the scan, each once.
+// Stays: i steps by the lengths of the runs, and the nested scan with its labelled break is a form of docs/FORMS.md.
 fn put_runs(x: &[u8], out: &mut [u8]) -> usize
     requires { Encode.keeps (length x.now) x.now ≡ length x.now }
     ensures { (result ≡ length (runs_code 0 0 x.now)) × (out.new ≡ sets out.old 0 (runs_code 0 0 x.now)) }
@@ -105,18 +101,12 @@ fn put_runs(x: &[u8], out: &mut [u8]) -> usize
 pub fn keeps(x: &[u8]) -> usize
     ensures { result ≡ Encode.keeps (length x.now) x.now }
 {
-    let n = x.len();
-    if n == 0 {
-        return 0;
-    }
-    let mut e = n - 1;
-    while x[e] == Geometry::BLANK {
-        if e == 0 {
-            return 0;
+    for e in (0..x.len()).rev() {
+        if x[e] != Geometry::BLANK {
+            return e + 1;
         }
-        e -= 1;
     }
-    e + 1
+    0
 }
 
 // Puts the code of the record x into out, as far as out has room. Returns the length of the whole code.

@@ -11,7 +11,8 @@ use lib.ListN.{length, take, drop, get_or, replicate, length-append, length-drop
 use lib.Seq.{take_at, drop_at, take-add, drop-drop, get_or-drop, length-take-le}
 use Rattle.geometry.specs.Sizes.{blank}
 use Rattle.geometry.specs.Bytes.{lay}
-use Rattle.decoding.specs.declared.Coded.{Coded}
+use Rattle.std.specs.Prelude.{Ok, Err}
+use Rattle.decoding.specs.declared.BadCode.{BadCode}
 use Rattle.decoding.specs.Decode.{Decoded, good, bad, before, decode_from, decode, answer, given, is_good, Awaited, filled}
 use Rattle.geometry.proofs.Bytes.{lay-fits, lay-all, length-lay}
 use Rattle.decoding.proofs.Reader.{at-end, at-stop, at-go_on, at-short, at-over, at-run, at-full, at-blanks, answer-good, answer-bad}
@@ -178,11 +179,11 @@ module _ (s : List ℕ) (at : ℕ) (out : List ℕ) (to : ℕ) where
 -- ---- measured first
 
 -- what is good in a sector's bytes is so in all
-whole : (R : ℕ) (s : List ℕ) (e : ℕ) → Coded.Good e ≡ answer (decode R s) → (x : List ℕ) × (decode_from R 0 s ≡ good x e) × (decode R s ≡ good x e)
+whole : (R : ℕ) (s : List ℕ) (e : ℕ) → Ok e ≡ answer (decode R s) → (x : List ℕ) × (decode_from R 0 s ≡ good x e) × (decode R s ≡ good x e)
 whole R s e is = let g = answer-good (decode R s) e (sym is) in (g.0, decode-all R s g.0 e g.1, g.1)
 
 -- a buffer that is filled with blanks awaits a good record
-pub awaited : (s old out : List ℕ) (e : ℕ) → Coded.Good e ≡ answer (decode (length old) s) → out ≡ lay old 0 (replicate (length old) blank) → Awaited (decode_from (length out) 0 s) out 0
+pub awaited : (s old out : List ℕ) (e : ℕ) → Ok e ≡ answer (decode (length old) s) → out ≡ lay old 0 (replicate (length old) blank) → Awaited (decode_from (length out) 0 s) out 0
 unfolding is_good
 awaited s old out e is laid =
     let g = whole (length old) s e is in
@@ -191,13 +192,13 @@ awaited s old out e is laid =
     record { sound = rw (long, g.1); fits = omega arith; empty = rw (sub-zero, long) blanks }
 
 -- which is then in it
-pub decoded-good : (s old out new : List ℕ) (e : ℕ) → Coded.Good e ≡ answer (decode (length old) s) → length out ≡ length old → new ≡ filled (decode_from (length out) 0 s) out 0
-    → (Coded.Good e ≡ answer (decode (length old) s)) × (new ≡ given (decode (length old) s) old)
+pub decoded-good : (s old out new : List ℕ) (e : ℕ) → Ok e ≡ answer (decode (length old) s) → length out ≡ length old → new ≡ filled (decode_from (length out) 0 s) out 0
+    → (Ok e ≡ answer (decode (length old) s)) × (new ≡ given (decode (length old) s) old)
 unfolding given filled
 decoded-good s old out new e is long left =
     let g = whole (length old) s e is in
     (is, left ∙ rw (long, g.1, g.2))
 
-pub decoded-bad : (f : Decoded) (k : ℕ) (old : List ℕ) → Coded.Bad k ≡ answer f → (Coded.Bad k ≡ answer f) × (old ≡ given f old)
+pub decoded-bad : (f : Decoded) (b : BadCode) (old : List ℕ) → Err b ≡ answer f → (Err b ≡ answer f) × (old ≡ given f old)
 unfolding given
-decoded-bad f k old is = (is, rw (answer-bad f k (sym is)))
+decoded-bad f b old is = (is, rw (answer-bad f b.at (sym is)))

@@ -13,13 +13,13 @@ use lib.Dec.{eqb, ltb}
 use borrow.Author.Tests.{lt-ltb, le-ltb, ne_eqb}
 use Rattle.geometry.specs.Sizes.{sector}
 use Rattle.geometry.specs.Bytes.{part}
-use Rattle.decoding.specs.declared.Coded.{Coded}
-use Rattle.decoding.specs.declared.Coded.TheVariants.{Good, Bad}
-use Rattle.decoding.specs.Decode.{Decoded, good, bad, before, decode_from, decode, answer, stopped}
+use Rattle.std.specs.Prelude.{Result, Ok}
+use Rattle.decoding.specs.declared.BadCode.{BadCode}
+use Rattle.decoding.specs.Decode.{Decoded, good, bad, before, decode_from, decode, bad_at, answer, stopped}
 use Rattle.decoding.proofs.Reader.{at-end, at-stop, at-go_on, at-short, at-over, at-run, at-full, at-blanks}
 
 -- what is answered from the place `at` on
-abbrev pub Answer : List ℕ → ℕ → ℕ → Coded
+abbrev pub Answer : List ℕ → ℕ → ℕ → Result ℕ BadCode
 Answer s room at = answer (decode_from room at (drop at s))
 
 answer-before : (xs : List ℕ) (f : Decoded) → answer (before xs f) ≡ answer f
@@ -27,21 +27,21 @@ unfolding before answer
 answer-before xs (good ys e) = refl
 answer-before xs (bad k) = refl
 
-answer-bad : (f : Decoded) (at : ℕ) → f ≡ bad at → answer f ≡ Bad at
+answer-bad : (f : Decoded) (at : ℕ) → f ≡ bad at → answer f ≡ bad_at at
 unfolding answer
 answer-bad f at is = rw is
 
 -- ---- where the decoder stops
 
-pub stopped-end : (s : List ℕ) (k : ℕ) → length s ≤ k → stopped s k ≡ Bad k
+pub stopped-end : (s : List ℕ) (k : ℕ) → length s ≤ k → stopped s k ≡ bad_at k
 unfolding stopped
 stopped-end s k h = rw (le-ltb k (length s) h, stopped)
 
-pub stopped-bad : (s : List ℕ) (k : ℕ) → k < length s → get_or s k 0 ≢ 0 → stopped s k ≡ Bad k
+pub stopped-bad : (s : List ℕ) (k : ℕ) → k < length s → get_or s k 0 ≢ 0 → stopped s k ≡ bad_at k
 unfolding stopped
 stopped-bad s k h n = rw (lt-ltb k (length s) h, ne_eqb (get_or s k 0) 0 n, stopped)
 
-pub stopped-good : (s : List ℕ) (k : ℕ) → k < length s → get_or s k 0 ≡ 0 → stopped s k ≡ Good (k + 1)
+pub stopped-good : (s : List ℕ) (k : ℕ) → k < length s → get_or s k 0 ≡ 0 → stopped s k ≡ Ok (k + 1)
 unfolding stopped
 stopped-good s k h z = rw (lt-ltb k (length s) h, z, stopped)
 
@@ -109,8 +109,8 @@ module _ (s : List ℕ) (room at : ℕ) (h : at < length s) where
 
 -- ---- in a sector's bytes, as far as there are any
 
-abbrev pub told : ℕ → Bool → Coded
-told k t = elim t [ true ↦ Good (k + 1) | false ↦ Bad k ]
+abbrev pub told : ℕ → Bool → Result ℕ BadCode
+told k t = elim t [ true ↦ Ok (k + 1) | false ↦ bad_at k ]
 
 -- where they stop at the byte b
 pub read_told : (R k b : ℕ) (l s : List ℕ) → l ≡ part s 0 sector → b ≡ get_or l k 0 → stopped l k ≡ answer (decode_from R 0 l)

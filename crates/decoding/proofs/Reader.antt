@@ -8,8 +8,9 @@ use native.Mathlib.Omega.{arith}
 use lib.ListN.{length, take, drop, get_or, replicate}
 use borrow.Author.Tests.{lt-ltb, le-ltb, le-leb, lt-leb, ne_eqb}
 use Rattle.geometry.specs.Sizes.{blank}
-use Rattle.decoding.specs.declared.Coded.{Coded}
-use Rattle.decoding.specs.Decode.{Decoded, answer, Control, stop, go_on, characters, blanks, control, good, bad, before, obey, decode_from, characters_from}
+use Rattle.std.specs.Prelude.{Ok}
+use Rattle.decoding.specs.declared.BadCode.{BadCode}
+use Rattle.decoding.specs.Decode.{Decoded, bad_at, answer, Control, stop, go_on, characters, blanks, control, good, bad, before, obey, decode_from, characters_from}
 
 -- ---- control bytes
 
@@ -110,12 +111,12 @@ module _ (room at : ℕ) where
 
 -- ---- what is answered
 
-pub answer-good : (f : Decoded) (e : ℕ) → answer f ≡ Coded.Good e → (x : List ℕ) × (f ≡ good x e)
+pub answer-good : (f : Decoded) (e : ℕ) → answer f ≡ Ok e → (x : List ℕ) × (f ≡ good x e)
 unfolding answer
 answer-good (good x d) e h = (x, ap (good x) (cc))
 answer-good (bad k) e h = let z : ◌≡◌ {A = ℕ} 0 1 = cc in absurd (omega arith)
 
-pub answer-bad : (f : Decoded) (k : ℕ) → answer f ≡ Coded.Bad k → f ≡ bad k
+pub answer-bad : (f : Decoded) (k : ℕ) → answer f ≡ bad_at k → f ≡ bad k
 unfolding answer
 answer-bad (good x e) k h = let z : ◌≡◌ {A = ℕ} 0 1 = cc in absurd (omega arith)
-answer-bad (bad j) k h = ap bad (cc)
+answer-bad (bad j) k h = let is : ◌≡◌ {A = BadCode} (record { at = j }) (record { at = k }) = cc in ap (λ (b : BadCode). bad b.at) is

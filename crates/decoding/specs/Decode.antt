@@ -1,8 +1,7 @@
 -- Document 01, "Compressed records": what one coded record says, read from the bytes up to its sector's end. Definitions only.
-use Rattle.std.specs.Prelude.{◌≡◌, Bool, true, false, ◌&&◌, List, [], ◌∷◌, ◌++◌, ℕ, zero, suc, ◌+◌, ◌-◌, ◌≤◌, length, take, drop, get_or, replicate, eqb, leb, ltb}
+use Rattle.std.specs.Prelude.{◌≡◌, Bool, true, false, ◌&&◌, List, [], ◌∷◌, ◌++◌, ℕ, zero, suc, ◌+◌, ◌-◌, ◌≤◌, length, take, drop, get_or, replicate, eqb, leb, ltb, Result, Ok, Err}
 use Rattle.geometry.specs.Sizes.{blank, sector}
-use Rattle.decoding.specs.declared.Coded.{Coded}
-use Rattle.decoding.specs.declared.Coded.TheVariants.{Good, Bad}
+use Rattle.decoding.specs.declared.BadCode.{BadCode}
 
 -- what a control byte asks for
 pub data Control : Type 0 where
@@ -57,10 +56,13 @@ unfoldable mutual
 unfoldable pub decode : ℕ → List ℕ → Decoded
 decode R s = decode_from R 0 (take sector s)
 
--- what the decoder answers
-unfoldable pub answer : Decoded → Coded
-answer (good xs e) = Good e
-answer (bad k) = Bad k
+-- what the decoder answers: the number of bytes of a good code, or where a code is bad
+abbrev pub bad_at : ℕ → Result ℕ BadCode
+bad_at k = Err (record { at = k })
+
+unfoldable pub answer : Decoded → Result ℕ BadCode
+answer (good xs e) = Ok e
+answer (bad k) = bad_at k
 
 -- a lent buffer of the record's length, old before: the record; a bad code leaves it as it was
 unfoldable pub given : Decoded → List ℕ → List ℕ
@@ -70,8 +72,8 @@ given (bad k) old = old
 -- ---- the two decoding functions, one for each sort of run
 
 -- what is answered where they stop at the control byte at offset k: at the 0 that ends the record, or at one that cannot be obeyed
-unfoldable pub stopped : List ℕ → ℕ → Coded
-stopped s k = elim (ltb k (length s) && eqb (get_or s k 0) 0) [ true ↦ Good (k + 1) | false ↦ Bad k ]
+unfoldable pub stopped : List ℕ → ℕ → Result ℕ BadCode
+stopped s k = elim (ltb k (length s) && eqb (get_or s k 0) 0) [ true ↦ Ok (k + 1) | false ↦ bad_at k ]
 
 -- ---- the characters of a good code
 

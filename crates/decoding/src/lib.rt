@@ -9,11 +9,10 @@ ghost use Rattle.decoding.specs.Decode as Decode;
 use geometry::Geometry;
 use moving::{byte_at, fill, lay, part};
 
-// What decoding one record gives: the number of bytes of its code, or the offset of the control byte that cannot be obeyed.
+// A code that is bad: the offset of the control byte that cannot be obeyed.
 #[derive(Clone, Copy)]
-pub enum Coded {
-    Good(usize),
-    Bad(usize),
+pub struct BadCode {
+    pub at: usize,
 }
 
 // Runs of characters in a sector's bytes, the control byte at offset at, with room for so many; a run of blanks is given over to.
@@ -59,20 +58,22 @@ fn blanks(sector: &&[u8], at: usize, n: usize, room: usize) -> usize
     characters(sector, at + 1, room - n)
 }
 
-// What decoding the record of that length that s begins with answers. No character is moved, and of s a sector's bytes are looked at and no more.
-pub fn measure(s: &[u8], length: usize) -> Coded
+// The number of bytes of the code, if it is good, of the record of that length that s begins with. No character is moved, and of s a sector's bytes are
+// looked at and no more.
+pub fn measure(s: &[u8], length: usize) -> Result<usize, BadCode>
     ensures { result ≡ answer (Decode.decode length s.now) }
 {
     let sector = part(s, 0, Geometry::SECTOR);
     let k = characters(&sector, 0, length);
     if (k < sector.len()) & (byte_at(sector, k) == 0) {
-        Coded::Good(k + 1)
+        Ok(k + 1)
     } else {
-        Coded::Bad(k)
+        Err(BadCode { at: k })
     }
 }
 
 // Moves the characters of the good code that s begins with to their places in out, which has blanks.
+// Stays: i and j step by the lengths that the code's runs have, which no iterator of std does.
 fn place(s: &[u8], out: &mut [u8])
     requires { Awaited (decode_from (length out.old) 0 s.now) out.old 0 }
     ensures { out.new ≡ filled (decode_from (length out.old) 0 s.now) out.old 0 }
@@ -93,18 +94,14 @@ fn place(s: &[u8], out: &mut [u8])
     }
 }
 
-// Decodes the record that s begins with into out, whose length is the record's. A bad code leaves out as it was.
-pub fn decode(s: &[u8], out: &mut [u8]) -> Coded
+// Decodes the record that s begins with into out, whose length is the record's; the number of bytes of its code. A bad code leaves out as it was.
+pub fn decode(s: &[u8], out: &mut [u8]) -> Result<usize, BadCode>
     ensures { (result ≡ answer (Decode.decode (length out.old) s.now))
         × (out.new ≡ given (Decode.decode (length out.old) s.now) out.old) }
 {
     let r = out.len();
-    match measure(s, r) {
-        Coded::Good(e) => {
-            fill(out, 0, r, Geometry::BLANK);
-            place(s, out);
-            Coded::Good(e)
-        }
-        Coded::Bad(k) => Coded::Bad(k),
-    }
+    let e = measure(s, r)?;
+    fill(out, 0, r, Geometry::BLANK);
+    place(s, out);
+    Ok(e)
 }

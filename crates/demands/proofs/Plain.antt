@@ -4,6 +4,7 @@ use mathlib.Core.Path.{◌≡◌, refl, sym, ap, ◌∙◌}
 use mathlib.Core.Bool.{true}
 use mathlib.Core.List.{List, [], ◌∷◌, map}
 use Prim.Native.Nat.{ℕ}
+use Rattle.std.specs.Prelude.{Option}
 use Rattle.geometry.specs.Lists.{numbers_from}
 use Rattle.geometry.specs.Sizes.{entries}
 use Rattle.requests.specs.Numbers.{number_of}
@@ -38,7 +39,7 @@ same-report r t a e b c d =
     ∙ ap (λ (x : List ℕ). record { number = t.number; told = x; buffer = r.buffer; shown = r.shown; spots = r.spots }) e
     ∙ ap (λ (x : List ℕ). record { number = t.number; told = t.told; buffer = x; shown = r.shown; spots = r.spots }) b
     ∙ ap (λ (x : List ℕ). record { number = t.number; told = t.told; buffer = t.buffer; shown = x; spots = r.spots }) c
-    ∙ ap (λ (x : List Spot). record { number = t.number; told = t.told; buffer = t.buffer; shown = t.shown; spots = x }) d
+    ∙ ap (λ (x : List (Option Spot)). record { number = t.number; told = t.told; buffer = t.buffer; shown = t.shown; spots = x }) d
 
 -- what is not moved is empty
 none_done : (a : Answer) → if_done a [] ≡ []

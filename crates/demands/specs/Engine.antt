@@ -1,5 +1,5 @@
 -- What an engine is, what a caller sees of it, and a run of requests and edits from a mounted image. The demands are stated over these. Definitions only.
-use Rattle.std.specs.Prelude.{Bool, ◌&&◌, List, [], ◌∷◌, map, ℕ}
+use Rattle.std.specs.Prelude.{Bool, ◌&&◌, List, [], ◌∷◌, map, ℕ, Option}
 use Rattle.geometry.specs.Bytes.{is_byte}
 use Rattle.geometry.specs.Lists.{every, numbers_from}
 use Rattle.geometry.specs.Sizes.{entries}
@@ -27,7 +27,7 @@ pub record Engine : Type 1 where
   pub mount : List ℕ → Mounted Session
   pub request : List ℕ → Session → ℕ → Request → List ℕ → List ℕ → After Session
   pub edit : List ℕ → Session → ℕ → Edit → List ℕ → Edited Session
-  pub position : Session → ℕ → Spot
+  pub position : Session → ℕ → Option Spot
   pub look : List ℕ → Session → ℕ → ℕ → List ℕ
 
 -- ours: one with no buffer, and "one with a blocking buffer for each open file"
@@ -51,7 +51,7 @@ pub record Standing (S : Type 0) : Type 0 where
   pub session : S
 
 -- where every file stands
-unfoldable pub spots_of : (E : Engine) → E.Session → List Spot
+unfoldable pub spots_of : (E : Engine) → E.Session → List (Option Spot)
 spots_of E s = map (E.position s) (numbers_from 0 entries)
 
 -- what a look shows, if the request is one

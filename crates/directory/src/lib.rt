@@ -9,7 +9,7 @@ ghost use Rattle.directory.specs.Search.{matches};
 ghost use Rattle.directory.specs.Stamp.{stamp_bytes, stamped};
 
 use geometry::Geometry;
-use moving::{lay, part, same, word_at};
+use moving::{lay, part, word_at};
 
 // A directory entry: bytes 0-7 name, then kind, R, first sector, number of sectors, count of records, flags.
 #[derive(Clone, Copy)]
@@ -21,13 +21,6 @@ pub struct Entry {
     pub sectors: u16,
     pub count: u32,
     pub flags: u16,
-}
-
-// What a search by name finds: an entry's number, or nothing (8).
-#[derive(Clone, Copy)]
-pub enum Found {
-    Number(usize),
-    Nothing,
 }
 
 // ---- an entry and its 20 bytes
@@ -157,8 +150,7 @@ pub fn is_named(e: Entry, name: &[u8]) -> bool
     ensures { result ≡ matches name.now e }
 {
     if (name.len() == 8) & (e.kind != Geometry::FREE) {
-        let own = e.name;
-        same(&own, name)
+        e.name.as_slice() == name
     } else {
         false
     }

@@ -2,42 +2,39 @@
 // argument says and what is printed, no contract can say.
 #![tactic(auto)]
 
-ghost use Rattle.arguments.specs.Counts.{IsPrefixLen};
-
-use arguments::{arg, complain, save};
+use arguments::{Word, or_told, said, save};
 use std::env::Env;
 use telling::put_words;
-use typing::{Typed, kind_of, number_of, put_name};
+use typing::{kind_of, number_of, put_name};
 
 // ---- what is printed
 
-// Prints the words of an answer's number, a blank before them.
-fn print_words(rt: &impl Print, number: u16) {
+// Prints the words of an answer's number.
+pub fn print_words(rt: &impl Print, number: u16) {
     let mut words = [0u8; 64];
     let n = put_words(number, &mut words);
-    let _ = rt.write_all(b" ");
     let _ = rt.write_all(&words[..n]);
 }
 
-// Prints an answer: behind a 0 the entry, behind any other number its words.
-pub fn tell(rt: &impl Print, number: u16, entry: usize) {
-    let _ = print!(rt; "ANSWER {number}");
-    if number == 0 {
-        let _ = print!(rt; " ENTRY {entry}");
-    } else {
-        print_words(rt, number);
-    }
-    let _ = rt.write_all(b"\n");
-}
-
-// Writes the image to the file that argument out names where the answer is 0, and prints the answer.
-pub fn finish(rt: &HostRuntime, out: usize, image: &[u8], number: u16, entry: usize) {
-    if number == 0 {
-        if !save(rt, out, image) {
-            return;
+// Prints an answer: the entry, or the number of a refusal and its words.
+pub fn tell(rt: &impl Print, answer: Result<usize, u16>) {
+    match answer {
+        Ok(entry) => {
+            let _ = println!(rt; "ANSWER 0 ENTRY {entry}");
+        }
+        Err(number) => {
+            let _ = print!(rt; "ANSWER {number} ");
+            print_words(rt, number);
+            let _ = println!(rt);
         }
     }
-    tell(rt, number, entry);
+}
+
+// Writes the image to the file that argument out names where the answer is no refusal, and prints the answer.
+pub fn finish(rt: &HostRuntime, out: usize, image: &[u8], answer: Result<usize, u16>) {
+    if answer.is_err() || save(rt, out, image) {
+        tell(rt, answer);
+    }
 }
 
 // Tells how the program is called.
@@ -49,49 +46,34 @@ pub fn tell_usage(rt: &impl Eprint) {
 
 // ---- what is typed
 
-// Puts the bytes of the name that argument i says; how many there are.
-pub fn put_typed(rt: &impl Env, i: usize, out: &mut [u8]) -> usize
-    ensures { IsPrefixLen result out.new }
-{
-    let mut word = [0u8; 4096];
-    let n = arg(rt, i, &mut word);
-    put_name(&word[..n], out)
+// The bytes of the name that argument i says.
+pub fn name_typed(rt: &impl Env, i: usize) -> Word {
+    let mut room = [0u8; Word::MOST];
+    let n = put_name(said(rt, i).bytes(), &mut room);
+    Word::first(room, n)
 }
 
-// What argument i says, as it was read. If that is nothing, a text is told of it.
-fn or_told(rt: &(impl Env + Print), typed: Typed, text: &[u8], i: usize) -> Typed {
-    match typed {
-        Typed::Number(_) => {}
-        Typed::Nothing => complain(rt, text, i),
-    }
-    typed
-}
-
-// The kind that argument i says.
-pub fn kind_typed(rt: &(impl Env + Print), i: usize) -> Typed {
-    let mut word = [0u8; 4096];
-    let n = arg(rt, i, &mut word);
+// The kind that argument i says. If it is none, that is told.
+pub fn kind_typed(rt: &(impl Env + Print), i: usize) -> Option<u16> {
     or_told(
         rt,
-        kind_of(&word[..n]),
+        kind_of(said(rt, i).bytes()),
         b"KIND is no number and none of unblocked, blocked, compressed, random: ",
         i,
     )
 }
 
 // The number that argument i says. If it is none, a text is told of it.
-fn number_typed(rt: &(impl Env + Print), i: usize, text: &[u8]) -> Typed {
-    let mut word = [0u8; 4096];
-    let n = arg(rt, i, &mut word);
-    or_told(rt, number_of(&word[..n]), text, i)
+fn number_typed(rt: &(impl Env + Print), i: usize, text: &[u8]) -> Option<u16> {
+    or_told(rt, number_of(said(rt, i).bytes()), text, i)
 }
 
-// The record length that argument i says.
-pub fn length_typed(rt: &(impl Env + Print), i: usize) -> Typed {
+// The record length that argument i says. If it is none, that is told.
+pub fn length_typed(rt: &(impl Env + Print), i: usize) -> Option<u16> {
     number_typed(rt, i, b"LENGTH is no number from 0 to 4294967295: ")
 }
 
-// The number of sectors that argument i says.
-pub fn sectors_typed(rt: &(impl Env + Print), i: usize) -> Typed {
+// The number of sectors that argument i says. If it is none, that is told.
+pub fn sectors_typed(rt: &(impl Env + Print), i: usize) -> Option<u16> {
     number_typed(rt, i, b"SECTORS is no number from 0 to 4294967295: ")
 }

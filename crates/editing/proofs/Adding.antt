@@ -34,7 +34,7 @@ use Rattle.editing.proofs.Fits.{made-fits}
 use Rattle.editing.proofs.Judged.{bad-image, bad-shape, name-in-use, no-entry, no_gap, adds}
 use Rattle.editing.proofs.Lent.{legal-told, facts_in, refused-in, done-in}
 use Rattle.directory.specs.declared.Entry.{Entry}
-use Rattle.directory.specs.declared.Found.TheVariants.{Number, Nothing}
+use Rattle.std.specs.Prelude.{Option, Some, None, is_some}
 use Rattle.requests.specs.declared.Answer.TheVariants.{Done, Refused}
 use Rattle.requests.specs.declared.Edit.TheVariants.{Add}
 use Rattle.requests.specs.declared.Refusal.{Refusal}
@@ -67,21 +67,16 @@ module _ {A : Type 0} (p : A → Bool) (xs : List A) (d : A) where
           ∙ sym (ap not (every-from (λ x. not (p x)) xs d λ (j : ℕ) (h : j < length xs). ap not (first_below p xs j d (omega arith))))
 
 module _ (t : List Entry) (name : List ℕ) where
-  pub name-found : (j : ℕ) → told (Number j) ≡ find t name → true ≡ is_taken_name t name
+  -- an entry is found exactly if the name is in use
+  pub name-told : (r : Option ℕ) → told r ≡ find t name → is_some r ≡ is_taken_name t name
   unfolding is_taken_name find
-  name-found j e = go (ltb (first_with (matches name) t) (length t)) e ∙ first_some (matches name) t free_entry
+  name-told r e = go r (ltb (first_with (matches name) t) (length t)) e ∙ first_some (matches name) t free_entry
     where
-      go : (c : Bool) → told (Number j) ≡ elim c [ true ↦ (0, first_with (matches name) t ∷ []) | false ↦ (8, []) ] → true ≡ c
-      go true q = refl
-      go false q = absurd (omega (arith, ap (λ (x : ℕ × List ℕ). x.0) q))
-
-  pub name_free : told Nothing ≡ find t name → false ≡ is_taken_name t name
-  unfolding is_taken_name find
-  name_free e = go (ltb (first_with (matches name) t) (length t)) e ∙ first_some (matches name) t free_entry
-    where
-      go : (c : Bool) → told Nothing ≡ elim c [ true ↦ (0, first_with (matches name) t ∷ []) | false ↦ (8, []) ] → false ≡ c
-      go true q = absurd (omega (arith, ap (λ (x : ℕ × List ℕ). x.0) q))
-      go false q = refl
+      go : (r : Option ℕ) (c : Bool) → told r ≡ elim c [ true ↦ (0, first_with (matches name) t ∷ []) | false ↦ (8, []) ] → is_some r ≡ c
+      go (Some j) true q = refl
+      go (Some j) false q = absurd (omega (arith, ap (λ (x : ℕ × List ℕ). x.0) q))
+      go None true q = absurd (omega (arith, ap (λ (x : ℕ × List ℕ). x.0) q))
+      go None false q = refl
 
 -- ---- ADD
 

@@ -16,7 +16,7 @@ ghost use Rattle.steps.specs.Edit.{is_taken_name};
 ghost use Rattle.storing.specs.Stored.{has_buffers, is_session, lent_session};
 ghost use Rattle.editing.specs.Editing.{edited_in, Handed};
 
-use directory::{Entry, Found, free_entry};
+use directory::{Entry, free_entry};
 use finding::find_in;
 use gaps::{lowest_free, lowest_gap};
 use geometry::Geometry;
@@ -40,11 +40,7 @@ fn says_refused(b: &[u8]) -> bool
 fn is_taken(b: &[u8], name: &[u8]) -> bool
     ensures { result ≡ is_taken_name (table_in two_words_wide entries b.now) name.now }
 {
-    let found = search_in(b, Width::TWO, Geometry::ENTRIES, name);
-    match found {
-        Found::Number(_) => true,
-        Found::Nothing => false,
-    }
+    search_in(b, Width::TWO, Geometry::ENTRIES, name).is_some()
 }
 
 // ---- what an edit stores

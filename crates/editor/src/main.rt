@@ -2,14 +2,14 @@
 // says what is printed.
 #![tactic(auto)]
 
+ghost use Rattle.std.specs.Prelude.{IfSome};
 ghost use Rattle.arguments.specs.Counts.{IsPrefixLen};
 
-use arguments::{Taken, arg_count, read_image, says};
-use edit_io::{finish, kind_typed, length_typed, put_typed, sectors_typed, tell, tell_usage};
+use arguments::{arg_count, read_image, said};
+use edit_io::{finish, kind_typed, length_typed, name_typed, sectors_typed, tell, tell_usage};
 use lleuadrys::{lleuadrys_add, lleuadrys_delete, lleuadrys_find, lleuadrys_mount};
 use std::env::Env;
 use storing::Form;
-use typing::Typed;
 
 // The numbers of its arguments.
 const REQUEST: usize = 1;
@@ -31,116 +31,101 @@ const OUT_DELETED: usize = 4;
 
 // ---- the requests
 
-// Reads the image and mounts it. If it cannot be used, that is told.
-fn mount(rt: &HostRuntime, room: &mut [u8], session: &mut [u8]) -> Taken
-    ensures { IsPrefixLen result.size room.new }
+// Reads the image and mounts it. How many bytes it has; none if it cannot be used, and then that is told.
+fn mount(rt: &HostRuntime, room: &mut [u8], session: &mut [u8]) -> Option<usize>
+    ensures { IfSome result (λ n. IsPrefixLen n room.new) }
 {
-    let image = read_image(rt, IMAGE, room);
-    if !image.whole {
-        return image;
-    }
-    let n = image.size;
-    let number = lleuadrys_mount(&room[..n], session);
-    if number != 0 {
-        tell(rt, number, 0);
-    }
-    Taken {
-        whole: number == 0,
-        size: n,
+    let n = read_image(rt, IMAGE, room)?;
+    match lleuadrys_mount(&room[..n], session) {
+        0 => Some(n),
+        number => {
+            tell(rt, Err(number));
+            None
+        }
     }
 }
 
-// Adds the file to a mounted image.
-fn add_to(
-    rt: &HostRuntime,
-    image: &mut [u8],
-    session: &mut [u8],
+// What a call answers: the entry where its number is 0, or that number.
+// Stays: the calls have the C interface, which puts the entry where it is told and answers a number.
+fn answered(number: u16, entry: usize) -> Result<usize, u16> {
+    match number {
+        0 => Ok(entry),
+        _ => Err(number),
+    }
+}
+
+// What is typed of a file that is to be added, besides its name.
+#[derive(Clone, Copy)]
+struct Shape {
     kind: u16,
     length: u16,
     sectors: u16,
-) {
-    let mut name = [0u8; 4096];
-    let n = put_typed(rt, NAME, &mut name);
+}
+
+// The shape that is typed. If one of its numbers is none, that is told.
+fn shape_typed(rt: &HostRuntime) -> Option<Shape> {
+    Some(Shape {
+        kind: kind_typed(rt, KIND)?,
+        length: length_typed(rt, LENGTH)?,
+        sectors: sectors_typed(rt, SECTORS)?,
+    })
+}
+
+// Adds the file to a mounted image.
+fn add_to(rt: &impl Env, image: &mut [u8], session: &mut [u8], shape: Shape) -> Result<usize, u16> {
     let mut entry: usize = 0;
     let number = lleuadrys_add(
         image,
         session,
-        &name[..n],
-        kind,
-        length,
-        sectors,
+        name_typed(rt, NAME).bytes(),
+        shape.kind,
+        shape.length,
+        shape.sectors,
         &mut entry,
     );
-    finish(rt, OUT_ADDED, image, number, entry);
+    answered(number, entry)
 }
 
-// Adds the file.
-fn add_file(
-    rt: &HostRuntime,
-    room: &mut [u8],
-    session: &mut [u8],
-    kind: u16,
-    length: u16,
-    sectors: u16,
-) {
-    let image = mount(rt, room, session);
-    let n = image.size;
-    if image.whole {
-        add_to(rt, &mut room[..n], session, kind, length, sectors);
-    }
+// Adds the file that is typed.
+fn add(rt: &HostRuntime, room: &mut [u8], session: &mut [u8]) -> Option<()> {
+    let shape = shape_typed(rt)?;
+    let n = mount(rt, room, session)?;
+    let answer = add_to(rt, &mut room[..n], session, shape);
+    finish(rt, OUT_ADDED, &room[..n], answer);
+    Some(())
 }
 
-// Adds the file that is typed, if these are numbers. If one is none, that is told.
-fn add(rt: &HostRuntime, room: &mut [u8], session: &mut [u8]) {
-    let Typed::Number(kind) = kind_typed(rt, KIND) else {
-        return;
-    };
-    let Typed::Number(length) = length_typed(rt, LENGTH) else {
-        return;
-    };
-    let Typed::Number(sectors) = sectors_typed(rt, SECTORS) else {
-        return;
-    };
-    add_file(rt, room, session, kind, length, sectors);
-}
-
-// The entry of the file that is typed; the number of the search.
-fn find_typed(rt: &impl Env, session: &[u8], entry: &mut usize) -> u16 {
-    let mut name = [0u8; 4096];
-    let n = put_typed(rt, NAME, &mut name);
-    lleuadrys_find(session, &name[..n], entry)
+// The entry of the file that is typed, or the number of the search.
+fn find_typed(rt: &impl Env, session: &[u8]) -> Result<usize, u16> {
+    let mut entry: usize = 0;
+    let number = lleuadrys_find(session, name_typed(rt, NAME).bytes(), &mut entry);
+    answered(number, entry)
 }
 
 // Deletes the file from a mounted image.
-fn delete_from(rt: &HostRuntime, image: &mut [u8], session: &mut [u8]) {
-    let mut entry: usize = 0;
-    let found = find_typed(rt, session, &mut entry);
-    if found != 0 {
-        tell(rt, found, 0);
-        return;
-    }
-    let number = lleuadrys_delete(image, session, entry);
-    finish(rt, OUT_DELETED, image, number, entry);
+fn delete_from(rt: &impl Env, image: &mut [u8], session: &mut [u8]) -> Result<usize, u16> {
+    let entry = find_typed(rt, session)?;
+    answered(lleuadrys_delete(image, session, entry), entry)
 }
 
 // Deletes the file that is typed.
-fn delete(rt: &HostRuntime, room: &mut [u8], session: &mut [u8]) {
-    let image = mount(rt, room, session);
-    let n = image.size;
-    if image.whole {
-        delete_from(rt, &mut room[..n], session);
-    }
+fn delete(rt: &HostRuntime, room: &mut [u8], session: &mut [u8]) -> Option<()> {
+    let n = mount(rt, room, session)?;
+    let answer = delete_from(rt, &mut room[..n], session);
+    finish(rt, OUT_DELETED, &room[..n], answer);
+    Some(())
 }
 
 // Does the request, with room for an image of 4,096 sectors.
 fn edit(rt: &HostRuntime, room: &mut [u8; 1474560], session: &mut [u8; Form::SESSION]) {
-    let count = arg_count(rt);
-    if (count == 8) & says(rt, REQUEST, b"add") {
-        add(rt, room, session);
-    } else if (count == 5) & says(rt, REQUEST, b"delete") {
-        delete(rt, room, session);
-    } else {
-        tell_usage(rt);
+    match (arg_count(rt), said(rt, REQUEST).bytes()) {
+        (8, b"add") => {
+            let _ = add(rt, room, session);
+        }
+        (5, b"delete") => {
+            let _ = delete(rt, room, session);
+        }
+        _ => tell_usage(rt),
     }
 }
 

@@ -14,10 +14,10 @@ use Rattle.steps.specs.Effects.{Bench}
 use Rattle.storing.specs.Stored.{held_width, files_at, has_buffers}
 use Rattle.storing.proofs.Laid.{held-long}
 use Rattle.finding.specs.Lent.{buffer_at}
-use Rattle.blocking.specs.Blocking.{lent, scene}
-use Rattle.held.specs.Held.{held_all}
+use Rattle.straight.specs.Moving.{scene}
+use Rattle.blocking.specs.Blocking.{lent}
+use Rattle.held.specs.Held.{held_all, effects_with}
 use Rattle.plain.specs.Plain.{acted_with}
-use Rattle.buffered.specs.Buffered.{effects_with}
 use Rattle.advancing.specs.Advancing.{readied}
 use Rattle.advancing.proofs.Laid.{length-readied}
 use Rattle.engines.specs.Parts.{Acted, Moved}

@@ -19,11 +19,11 @@ use Rattle.steps.specs.Verdict.{buffer_next}
 use Rattle.steps.proofs.Standing.{held-file}
 use Rattle.straight.specs.Straight.{code_given}
 use Rattle.straight.proofs.Judged.{judgement}
-use Rattle.blocking.specs.Blocking.{bench, state_with, lent, scene}
-use Rattle.held.specs.Held.{held_all}
+use Rattle.straight.specs.Moving.{bench, scene}
+use Rattle.blocking.specs.Blocking.{state_with, lent}
+use Rattle.held.specs.Held.{held_all, effects_with}
 use Rattle.plain.proofs.Acts as plainly
 use Rattle.plain.proofs.Stepped as plain
-use Rattle.buffered.specs.Buffered.{effects_with}
 use Rattle.buffered.proofs.Acts.{Goes, acts}
 use Rattle.buffered.proofs.Stepped as buffered
 use Rattle.storing.specs.Stored.{has_buffers, hold_of, is_session, session_in, stored, plain_in, plain_stored}

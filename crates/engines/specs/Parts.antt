@@ -4,11 +4,11 @@ use Rattle.geometry.specs.Bytes.{part, lay}
 use Rattle.geometry.specs.Sizes.{sector}
 use Rattle.steps.specs.Effects.{Bench}
 use Rattle.finding.specs.Lent.{buffer_at}
-use Rattle.blocking.specs.Blocking.{lent, scene}
-use Rattle.held.specs.Held.{held_all}
+use Rattle.straight.specs.Moving.{scene}
+use Rattle.blocking.specs.Blocking.{lent}
+use Rattle.held.specs.Held.{held_all, effects_with}
 use Rattle.advancing.specs.Advancing.{readied}
 use Rattle.plain.specs.Plain.{acted_with}
-use Rattle.buffered.specs.Buffered.{effects_with}
 use Rattle.sessions.specs.declared.Holding.{Holding}
 use Rattle.requests.specs.declared.Request.{Request}
 use Rattle.finding.specs.declared.Seen.{Seen}

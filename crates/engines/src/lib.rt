@@ -1,12 +1,12 @@
 // A request on a session in lent bytes, in both engines: the number of the bytes says which. One judgement serves both, and each moves bytes in its own way.
 #![tactic(auto)]
 
-ghost use Rattle.std.specs.Prelude.{◌≡◌, true, ◌<◌};
+ghost use Rattle.std.specs.Prelude.{◌≡◌, ◌<◌};
 ghost use Rattle.geometry.specs.Sizes.{most_open};
 ghost use Rattle.storing.specs.Stored.{has_buffers};
 ghost use Rattle.judging.specs.Lent.{after_in};
 ghost use Rattle.engines.specs.Engines.{requested};
-ghost use Rattle.engines.specs.Parts.{Acted, Moved};
+ghost use Rattle.engines.specs.Parts.{Moved};
 
 use advancing::{make_ready, put_next};
 use finding::Seen;
@@ -19,31 +19,8 @@ use storing::{Form, has_buffers};
 
 // ---- what a request answered 0 does
 
-// In a session with buffers, on the buffer of the file's state, which is made fresh first if it is not in use; k is the sector of the file's next place.
-fn act_held(
-    image: &mut [u8],
-    session: &mut [u8],
-    i: usize,
-    seen: Seen,
-    q: Request,
-    given: &[u8],
-    code: &[u8],
-    k: u32,
-) -> Holding
-    requires { (seen.slot < most_open) × (has_buffers session.old ≡ true) }
-    ensures { Acted seen i q given.now code.now k image.old session.old image.new session.new result }
-{
-    let e = seen.entry;
-    let f = seen.file;
-    let h = seen.hold;
-    let n = seen.slot;
-    make_ready(session, n, f.used);
-    let at = Form::FILES + Form::HELD * n + Form::BUFFER;
-    let end = at + Geometry::SECTOR;
-    buffered::act(image, i, e, f, q, given, code, k, h, &mut session[at..end])
-}
-
-// In either engine.
+// In a session with buffers, on the buffer of the file's state, which is made fresh first if it is not in use; in one with none, straight in the image. k is the
+// sector of the file's next place.
 fn act(
     image: &mut [u8],
     session: &mut [u8],
@@ -57,13 +34,19 @@ fn act(
     requires { seen.slot < most_open }
     ensures { Moved (has_buffers session.old) seen i q given.now code.now k image.old session.old image.new session.new result }
 {
-    if has_buffers(session) {
-        return act_held(image, session, i, seen, q, given, code, k);
-    }
     let e = seen.entry;
     let f = seen.file;
-    plain::act(image, i, e, f, q, given, code);
-    seen.hold
+    let h = seen.hold;
+    if has_buffers(session) {
+        let n = seen.slot;
+        make_ready(session, n, f.used);
+        let at = Form::FILES + Form::HELD * n + Form::BUFFER;
+        let end = at + Geometry::SECTOR;
+        buffered::act(image, i, e, f, q, given, code, k, h, &mut session[at..end])
+    } else {
+        plain::act(image, i, e, f, q, given, code);
+        h
+    }
 }
 
 // ---- a request

@@ -1,32 +1,14 @@
 -- What a request asks of a session in lent bytes. Definitions only.
-use Rattle.std.specs.Prelude.{Bool, true, false, ◌&&◌, List, [], ℕ, ◌+◌, ◌*◌, ◌≤◌, ltb, length, get_or}
+use Rattle.std.specs.Prelude.{Bool, true, false, ◌&&◌, List, [], ℕ, ◌+◌, ◌*◌, ltb, get_or}
 use Rattle.geometry.specs.Bytes.{part}
 use Rattle.geometry.specs.Sizes.{sector, most_open}
 use Rattle.directory.specs.Entries.{entry_at}
-use Rattle.tables.specs.Rows.{row_in}
 use Rattle.sessions.specs.Session.{idle, fresh, bare, file_of, slot_of, open_files, buffered_legal}
 use Rattle.sessions.specs.declared.BufferedFile.{BufferedFile}
 use Rattle.sessions.specs.declared.BufferedSession.{BufferedSession}
 use Rattle.sessions.specs.declared.OpenFile.{OpenFile}
-use Rattle.sessions.specs.declared.Session.{Session}
-use Rattle.storing.specs.Stored.{file_width, held_width, files_at, said_width, file_in, hold_of, saying_in, table_in, lent_session}
+use Rattle.storing.specs.Stored.{held_width, files_at, hold_of, lent_session}
 use Rattle.finding.specs.declared.Seen.{Seen}
-
--- four open-file states of w bytes each stand in the bytes, with or without a buffer, and behind them what the session says of itself
-abbrev pub Spaced : ℕ → List ℕ → Type 0
-Spaced w b = (file_width ≤ w) × (w ≤ held_width) × (files_at + w * most_open + said_width ≤ length b)
-
--- and each says by 0 or 1 whether it is in use
-abbrev pub Flagged : ℕ → List ℕ → Type 0
-Flagged w b = (get_or b 396 0 ≤ 1) × (get_or b (396 + w) 0 ≤ 1) × (get_or b (396 + 2 * w) 0 ≤ 1) × (get_or b (396 + 3 * w) 0 ≤ 1)
-
--- those states, without their buffers
-unfoldable pub files_in : ℕ → List ℕ → List OpenFile
-files_in w b = row_in file_in w most_open b files_at
-
--- and the session of them
-abbrev pub bare_in : ℕ → List ℕ → Session
-bare_in w b = record { says = saying_in b (files_at + w * most_open); table = table_in b; files = files_in w b }
 
 -- a state; the idle one where it is not in use
 unfoldable pub if_used : OpenFile → OpenFile

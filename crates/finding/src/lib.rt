@@ -1,17 +1,18 @@
 // A session in lent bytes, judged and searched where it lies: no session is made of it.
-// States stand w bytes apart, with or without a buffer behind each: the first 30 bytes are the same.
+// A contract sees such bytes as the session that they are, and those of a state as that state.
 #![tactic(auto)]
 
-ghost use Rattle.std.specs.Prelude.{◌≡◌, true, false, not, [], ◌∷◌, ◌+◌, ◌*◌, ◌≤◌, ◌<◌, length, get_or, take};
+ghost use Rattle.std.specs.Prelude.{◌≡◌, false, not, ◌+◌, ◌≤◌, ◌<◌, length, get_or, take, MatchOption};
 ghost use Rattle.geometry.specs.Bytes as Bytes;
-ghost use Rattle.geometry.specs.Lists.{every, first_with};
+ghost use Rattle.geometry.specs.Lists.{every};
 ghost use Rattle.directory.specs.Entries.{entry_at};
 ghost use Rattle.tables.specs.Numbers.{number_in};
-ghost use Rattle.sessions.specs.Session.{idle, bare, is_of, file_of, slot_of, open_files, spot_of, held_good, saying_good, legal};
+ghost use Rattle.sessions.specs.Session.{idle, fresh, bare, is_of, slot_of, open_files, spot_of, held_good, saying_good, legal};
 ghost use Rattle.sessions.specs.Grouped.{files_good};
-ghost use Rattle.storing.specs.Numbers.{is_set};
-ghost use Rattle.storing.specs.Stored.{held_width, files_at, width, place_in, file_in, held_in, hold_of, no_hold, table_in, states_in, unlawful, lent_session};
-ghost use Rattle.finding.specs.Lent.{Spaced, Flagged, files_in, bare_in, if_used, in_use, state_at, lent_in, seen_in};
+ghost use Rattle.storing.specs.Numbers.{is_set, flag_of};
+ghost use Rattle.storing.specs.Stored.{place_in, hold_of, no_hold, unlawful, lent_session};
+ghost use Rattle.finding.specs.Whole.{IsFirst};
+ghost use Rattle.finding.specs.Lent.{if_used, in_use, state_at, lent_in, seen_of, seen_in};
 
 use directory::{Entry, free_entry};
 use gaps::none_used;
@@ -19,6 +20,7 @@ use geometry::{Geometry, Place};
 use knowing::is_session;
 use moving::part;
 use sessions::{Holding, OpenFile, Spot, file_good, hold_good, idle, stand};
+use std::marker::Model;
 use storing::{Form, has_buffers, no_hold, state_width};
 use tables::{Width, entry_in, table_good};
 
@@ -28,6 +30,7 @@ use tables::{Width, entry_in, table_good};
 pub struct Seen {
     pub lawful: bool,
     pub opened: u32,
+    // Stays: the state's number, 4 where there is none, as `slot_of` and the clause `seen_in` of `find_in` have it, and `lay_state` for `put_state`.
     pub slot: usize,
     pub entry: Entry,
     pub file: OpenFile,
@@ -36,18 +39,12 @@ pub struct Seen {
 
 // ---- numbers, low byte first
 
-// The number in four bytes.
-fn long(a: u8, b: u8, c: u8, d: u8) -> u32
-    ensures { result ≡ number_in (a ∷ b ∷ c ∷ d ∷ []) }
-{
-    (a as u32) + 256 * (b as u32) + 65536 * (c as u32) + 16777216 * (d as u32)
-}
-
+// The number in the four bytes at a place.
 fn long_at(b: &[u8], at: usize) -> u32
     requires { at + 4 ≤ length b.now }
     ensures { result ≡ number_in (Bytes.part b.now at 4) }
 {
-    long(b[at], b[at + 1], b[at + 2], b[at + 3])
+    u32::from_le_bytes([b[at], b[at + 1], b[at + 2], b[at + 3]])
 }
 
 // The number in eight bytes.
@@ -55,7 +52,16 @@ fn wide_at(b: &[u8], at: usize) -> usize
     requires { at + 8 ≤ length b.now }
     ensures { result ≡ number_in (Bytes.part b.now at 8) }
 {
-    (long_at(b, at) as usize) + 4294967296 * (long_at(b, at + 4) as usize)
+    usize::from_le_bytes([
+        b[at],
+        b[at + 1],
+        b[at + 2],
+        b[at + 3],
+        b[at + 4],
+        b[at + 5],
+        b[at + 6],
+        b[at + 7],
+    ])
 }
 
 fn is_set(b: &[u8], at: usize) -> bool
@@ -64,8 +70,6 @@ fn is_set(b: &[u8], at: usize) -> bool
 {
     b[at] == 1
 }
-
-// ---- an open-file state
 
 fn place_at(b: &[u8], at: usize) -> Place
     requires { at + 8 ≤ length b.now }
@@ -77,256 +81,340 @@ fn place_at(b: &[u8], at: usize) -> Place
     }
 }
 
-fn file_at(b: &[u8], at: usize) -> OpenFile
-    requires { at + 30 ≤ length b.now }
-    ensures { result ≡ file_in b.now at }
-{
-    OpenFile {
-        used: is_set(b, at),
-        entry: wide_at(b, at + 1),
-        position: long_at(b, at + 9),
-        beyond: is_set(b, at + 13),
-        here: place_at(b, at + 14),
-        end: place_at(b, at + 22),
+// ---- an open-file state
+
+// The bytes of an open-file state, with its buffer or without. The first 30 are the same.
+#[derive(Drop)]
+struct State<'a> {
+    bytes: &'a [u8],
+    buffers: bool,
+}
+
+impl<'a> Model for State<'a> {
+    ghost use Rattle.std.specs.Prelude.{◌≡◌, ◌≤◌, true, length};
+    ghost use Rattle.sessions.specs.declared.BufferedFile.{BufferedFile};
+    ghost use Rattle.storing.specs.Stored.{width, state_in, state_flags};
+
+    ghost Value = { BufferedFile };
+
+    ghost view = { λ s. state_in s.buffers s.bytes.now 0 };
+
+    ghost invariant = { λ s. (width s.buffers ≤ length s.bytes.now) × (state_flags s.buffers s.bytes.now 0 ≡ true) };
+}
+
+impl State<'_> {
+    fn is_used(&self) -> bool
+        ensures { result ≡ self.now.file.used }
+    {
+        is_set(self.bytes, 0)
     }
-}
 
-// ---- the table, as tables judges it
+    // The same as a number, 0 or 1.
+    fn used(&self) -> u32
+        ensures { (result ≡ flag_of self.now.file.used) × (result ≤ 1) }
+    {
+        self.bytes[0] as u32
+    }
 
-// Entry i; a free one where there is none.
-fn entry_of(b: &[u8], i: usize) -> Entry
-    requires { files_at ≤ length b.now }
-    ensures { result ≡ entry_at (table_in b.now) i }
-{
-    entry_in(b, Width::TWO, Geometry::ENTRIES, i)
-}
+    fn entry(&self) -> usize
+        ensures { result ≡ self.now.file.entry }
+    {
+        wide_at(self.bytes, 1)
+    }
 
-// ---- the open-file states
+    // Whether it is entry i's.
+    fn is_of(&self, i: usize) -> bool
+        ensures { result ≡ is_of i self.now.file }
+    {
+        self.is_used() & (self.entry() == i)
+    }
 
-// Where state k begins.
-fn state_place(w: usize, k: usize) -> usize
-    requires { (k < 4) × (w ≤ 396) }
-    ensures { (result ≡ 396 + w * k) × (result + w ≤ 396 + 4 * w) }
-{
-    Form::FILES + w * k
-}
-
-// Whether the state at a place is entry i's.
-fn is_of_at(b: &[u8], at: usize, i: usize) -> bool
-    requires { at + 30 ≤ length b.now }
-    ensures { result ≡ is_of i (file_in b.now at) }
-{
-    is_set(b, at) & (wide_at(b, at + 1) == i)
-}
-
-// Whether no state before number k is entry i's.
-fn none_before(b: &[u8], w: usize, k: usize, i: usize) -> bool
-    requires { (k ≤ 4) × Spaced w b.now }
-    ensures { result ≡ every (λ f. not (is_of i f)) (take k (files_in w b.now)) }
-{
-    let mut j: usize = 0;
-    while j < k {
-        let at = state_place(w, j);
-        if is_of_at(b, at, i) {
-            return false;
+    fn file(&self) -> OpenFile
+        ensures { result ≡ self.now.file }
+    {
+        let b = self.bytes;
+        OpenFile {
+            used: is_set(b, 0),
+            entry: wide_at(b, 1),
+            position: long_at(b, 9),
+            beyond: is_set(b, 13),
+            here: place_at(b, 14),
+            end: place_at(b, 22),
         }
-        j += 1;
     }
-    true
+
+    // Its file; the idle one where it is not in use.
+    fn used_file(&self) -> OpenFile
+        ensures { result ≡ if_used self.now.file }
+    {
+        if self.is_used() { self.file() } else { idle() }
+    }
+
+    // What it holds; nothing without a buffer.
+    fn hold(&self) -> Holding
+        ensures { result ≡ hold_of self.now }
+    {
+        if self.buffers {
+            let b = self.bytes;
+            Holding {
+                holds: is_set(b, 30),
+                held: long_at(b, 31),
+                changed: is_set(b, 35),
+            }
+        } else {
+            no_hold()
+        }
+    }
+
+    // The same, and nothing where it is not in use.
+    fn used_hold(&self) -> Holding
+        ensures { result ≡ hold_of (in_use self.now) }
+    {
+        if self.is_used() {
+            self.hold()
+        } else {
+            no_hold()
+        }
+    }
 }
 
-// Whether the open files keep the rules of files.
-fn files_good(b: &[u8], w: usize) -> bool
-    requires { Spaced w b.now }
-    ensures { result ≡ files_good (table_in b.now) (files_in w b.now) }
-{
-    let mut k: usize = 0;
-    while k < Geometry::MOST_OPEN {
-        let at = state_place(w, k);
-        if is_set(b, at) {
-            let f = file_at(b, at);
-            let e = entry_of(b, f.entry);
-            if !file_good(e, f) {
+// ---- a session
+
+// Bytes that are a session, with buffers or with none.
+#[derive(Drop)]
+struct LentSession<'a> {
+    bytes: &'a [u8],
+    buffers: bool,
+}
+
+impl<'a> Model for LentSession<'a> {
+    ghost use Rattle.std.specs.Prelude.{◌≡◌, true};
+    ghost use Rattle.sessions.specs.declared.BufferedSession.{BufferedSession};
+    ghost use Rattle.storing.specs.Stored.{is_session};
+    ghost use Rattle.finding.specs.Whole.{whole_in};
+
+    ghost Value = { BufferedSession };
+
+    ghost view = { λ s. whole_in s.buffers s.bytes.now };
+
+    ghost invariant = { λ s. is_session s.buffers s.bytes.now ≡ true };
+}
+
+impl<'a> LentSession<'a> {
+    // The session that bytes are, if they are one.
+    fn of(bytes: &'a [u8]) -> Option<LentSession<'a>>
+        ensures { MatchOption result (unlawful ≡ lent_session bytes.now) (λ s. s ≡ lent_session bytes.now) }
+    {
+        let buffers = has_buffers(bytes);
+        if is_session(bytes, buffers) {
+            Some(LentSession { bytes, buffers })
+        } else {
+            None
+        }
+    }
+
+    // How many open-file states it has.
+    fn states(&self) -> usize
+        ensures { (result ≡ length self.now.files) × (result ≡ 4) }
+    {
+        let _ = &self.bytes;
+        Geometry::MOST_OPEN
+    }
+
+    // State k.
+    fn state(&self, k: usize) -> State<'a>
+        requires { k < length self.now.files }
+        ensures { result ≡ get_or self.now.files k (fresh idle) }
+    {
+        let w = state_width(self.buffers);
+        let at = Form::FILES + w * k;
+        State {
+            bytes: &self.bytes[at..at + w],
+            buffers: self.buffers,
+        }
+    }
+
+    // Entry i; a free one where there is none.
+    fn entry(&self, i: usize) -> Entry
+        ensures { result ≡ entry_at self.now.table i }
+    {
+        entry_in(self.bytes, Width::TWO, Geometry::ENTRIES, i)
+    }
+
+    // Whether it says that it is from a refused mounting.
+    fn is_refused(&self) -> bool
+        ensures { result ≡ self.now.says.refused }
+    {
+        is_set(
+            self.bytes,
+            Form::FILES + state_width(self.buffers) * Geometry::MOST_OPEN,
+        )
+    }
+
+    // ---- legal sessions
+
+    // Whether no state before number k is entry i's.
+    fn none_before(&self, k: usize, i: usize) -> bool
+        requires { k ≤ length self.now.files }
+        ensures { result ≡ every (λ f. not (is_of i f)) (take k (bare self.now).files) }
+    {
+        for j in 0..k {
+            if self.state(j).is_of(i) {
                 return false;
             }
-            if !none_before(b, w, k, f.entry) {
-                return false;
-            }
         }
-        k += 1;
-    }
-    true
-}
-
-// Whether each held sector lies in its file's extent.
-fn held_good(b: &[u8]) -> bool
-    requires { Spaced held_width b.now }
-    ensures { result ≡ every (held_good (table_in b.now)) (states_in true b.now) }
-{
-    let mut k: usize = 0;
-    while k < Geometry::MOST_OPEN {
-        let at = state_place(Form::HELD, k);
-        if is_set(b, at) & is_set(b, at + 30) {
-            let e = entry_of(b, wide_at(b, at + 1));
-            if !hold_good(e, long_at(b, at + 31)) {
-                return false;
-            }
-        }
-        k += 1;
-    }
-    true
-}
-
-// The same in a session with buffers or with none.
-fn holds_good(b: &[u8], buffers: bool) -> bool
-    requires { Spaced (width buffers) b.now }
-    ensures { result ≡ every (held_good (table_in b.now)) (states_in buffers b.now) }
-{
-    if buffers { held_good(b) } else { true }
-}
-
-// The truth value at a place as a number, 0 or 1.
-fn flag_at(b: &[u8], at: usize) -> u32
-    requires { (at + 1 ≤ length b.now) × (get_or b.now at 0 ≤ 1) }
-    ensures { (result ≡ get_or b.now at 0) × (result ≤ 1) }
-{
-    b[at] as u32
-}
-
-// How many files are open: each state of a session says so by 0 or 1.
-fn opened_in(b: &[u8], w: usize) -> u32
-    requires { Spaced w b.now × Flagged w b.now }
-    ensures { result ≡ open_files (files_in w b.now) }
-{
-    let at = Form::FILES;
-    flag_at(b, at) + flag_at(b, at + w) + flag_at(b, at + 2 * w) + flag_at(b, at + 3 * w)
-}
-
-// Whether a session that says that it is from a refused mounting has no used entry and no open file.
-fn saying_good(b: &[u8], w: usize) -> bool
-    requires { Spaced w b.now × Flagged w b.now }
-    ensures { result ≡ saying_good (bare_in w b.now) }
-{
-    if is_set(b, Form::FILES + w * Geometry::MOST_OPEN) {
-        none_used(b, Width::TWO, Geometry::ENTRIES) & (opened_in(b, w) == 0)
-    } else {
         true
     }
-}
 
-// ---- legal sessions
-
-// Whether a session is legal for an image, but for what its buffers hold.
-fn is_lawful(image: &[u8], b: &[u8], w: usize) -> bool
-    requires { Spaced w b.now × Flagged w b.now }
-    ensures { result ≡ legal image.now (bare_in w b.now) }
-{
-    if Geometry::lawful_length(image) {
-        let n = Geometry::sectors_of(image) as u32;
-        table_good(b, Width::TWO, Geometry::ENTRIES, n) & (files_good(b, w) & saying_good(b, w))
-    } else {
-        false
-    }
-}
-
-// ---- finding a file
-
-// The number of the first state that is entry i's; 4 where there is none.
-fn first_of(b: &[u8], w: usize, i: usize) -> usize
-    requires { Spaced w b.now }
-    ensures { result ≡ first_with (is_of i) (files_in w b.now) }
-{
-    let mut k: usize = 0;
-    while k < Geometry::MOST_OPEN {
-        let at = state_place(w, k);
-        if is_of_at(b, at, i) {
-            return k;
+    // Whether the open files keep the rules of files.
+    fn files_good(&self) -> bool
+        ensures { result ≡ files_good self.now.table (bare self.now).files }
+    {
+        for k in 0..self.states() {
+            let s = self.state(k);
+            if s.is_used() {
+                let f = s.file();
+                let e = self.entry(f.entry);
+                if !file_good(e, f) {
+                    return false;
+                }
+                if !self.none_before(k, f.entry) {
+                    return false;
+                }
+            }
         }
-        k += 1;
+        true
     }
-    Geometry::MOST_OPEN
-}
 
-// The number of the first state that is not in use; 4 where there is none.
-fn first_idle(b: &[u8], w: usize) -> usize
-    requires { Spaced w b.now }
-    ensures { result ≡ first_with (λ f. not f.used) (files_in w b.now) }
-{
-    let mut k: usize = 0;
-    while k < Geometry::MOST_OPEN {
-        let at = state_place(w, k);
-        if !is_set(b, at) {
-            return k;
+    // Whether each held sector lies in its file's extent.
+    fn holds_good(&self) -> bool
+        ensures { result ≡ every (held_good self.now.table) self.now.files }
+    {
+        for k in 0..self.states() {
+            let s = self.state(k);
+            let h = s.hold();
+            if s.is_used() & h.holds {
+                let e = self.entry(s.entry());
+                if !hold_good(e, h.held) {
+                    return false;
+                }
+            }
         }
-        k += 1;
+        true
     }
-    Geometry::MOST_OPEN
-}
 
-// What the state at a place holds; nothing where it is not in use.
-fn hold_at(b: &[u8], at: usize) -> Holding
-    requires { at + 396 ≤ length b.now }
-    ensures { result ≡ hold_of (in_use (held_in b.now at)) }
-{
-    if is_set(b, at) {
-        Holding {
-            holds: is_set(b, at + 30),
-            held: long_at(b, at + 31),
-            changed: is_set(b, at + 35),
+    // How many files are open.
+    fn opened(&self) -> u32
+        ensures { result ≡ open_files (bare self.now).files }
+    {
+        let mut n = 0;
+        for k in 0..self.states() {
+            n += self.state(k).used();
         }
-    } else {
-        no_hold()
+        n
+    }
+
+    // Whether it has no used entry and no open file, if it says that it is from a refused mounting.
+    fn saying_good(&self) -> bool
+        ensures { result ≡ saying_good (bare self.now) }
+    {
+        if self.is_refused() {
+            none_used(self.bytes, Width::TWO, Geometry::ENTRIES) & (self.opened() == 0)
+        } else {
+            true
+        }
+    }
+
+    // Whether it is legal for an image, but for what its buffers hold.
+    fn is_lawful(&self, image: &[u8]) -> bool
+        ensures { result ≡ legal image.now (bare self.now) }
+    {
+        if Geometry::lawful_length(image) {
+            let n = Geometry::sectors_of(image) as u32;
+            table_good(self.bytes, Width::TWO, Geometry::ENTRIES, n)
+                & (self.files_good() & self.saying_good())
+        } else {
+            false
+        }
+    }
+
+    // ---- finding a file
+
+    // The number of the first state that is entry i's.
+    fn own(&self, i: usize) -> Option<usize>
+        ensures { IsFirst (is_of i) (bare self.now).files result }
+    {
+        for k in 0..self.states() {
+            if self.state(k).is_of(i) {
+                return Some(k);
+            }
+        }
+        None
+    }
+
+    // The number of the first state that is not in use.
+    fn unused(&self) -> Option<usize>
+        ensures { IsFirst (λ f. not f.used) (bare self.now).files result }
+    {
+        for k in 0..self.states() {
+            if !self.state(k).is_used() {
+                return Some(k);
+            }
+        }
+        None
+    }
+
+    // Which state is entry i's: the one it has, else the first that is not in use; 4 where there is none.
+    fn slot(&self, i: usize) -> usize
+        ensures { result ≡ slot_of (bare self.now).files i }
+    {
+        match self.own(i) {
+            Some(k) => k,
+            None => self.unused().unwrap_or(self.states()),
+        }
+    }
+
+    // The file of state k; idle where that is not in use, or there is none.
+    fn file(&self, k: usize) -> OpenFile
+        ensures { result ≡ if_used (get_or self.now.files k (fresh idle)).file }
+    {
+        if k < self.states() {
+            self.state(k).used_file()
+        } else {
+            idle()
+        }
+    }
+
+    // What state k holds; nothing where there is none.
+    fn hold(&self, k: usize) -> Holding
+        ensures { result ≡ hold_of (state_at self.now.files k) }
+    {
+        if k < self.states() {
+            self.state(k).used_hold()
+        } else {
+            no_hold()
+        }
+    }
+
+    // What it has of entry i.
+    fn seen(&self, image: &[u8], i: usize) -> Seen
+        ensures { result ≡ seen_of image.now self.now i }
+    {
+        let lawful = self.is_lawful(image) & self.holds_good();
+        let k = self.slot(i);
+        let hold = self.hold(k);
+        Seen {
+            lawful,
+            opened: self.opened(),
+            slot: k,
+            entry: self.entry(i),
+            file: self.file(k),
+            hold,
+        }
     }
 }
 
-// What state k holds; nothing where there is none, or where none has a buffer.
-fn hold_in(b: &[u8], buffers: bool, k: usize) -> Holding
-    requires { Spaced (width buffers) b.now }
-    ensures { result ≡ hold_of (state_at (states_in buffers b.now) k) }
-{
-    if buffers & (k < Geometry::MOST_OPEN) {
-        hold_at(b, state_place(Form::HELD, k))
-    } else {
-        no_hold()
-    }
-}
-
-// Which state is entry i's: the one it has, else the first that is not in use.
-fn slot_in(b: &[u8], w: usize, i: usize) -> usize
-    requires { Spaced w b.now }
-    ensures { result ≡ slot_of (files_in w b.now) i }
-{
-    let own = first_of(b, w, i);
-    if own < Geometry::MOST_OPEN {
-        own
-    } else {
-        first_idle(b, w)
-    }
-}
-
-// The file in the state at a place; idle where it is not in use.
-fn used_at(b: &[u8], at: usize) -> OpenFile
-    requires { at + 30 ≤ length b.now }
-    ensures { result ≡ if_used (file_in b.now at) }
-{
-    if is_set(b, at) {
-        file_at(b, at)
-    } else {
-        idle()
-    }
-}
-
-// Entry i's file, whose state is number k; idle if it is not open.
-fn file_in(b: &[u8], w: usize, i: usize, k: usize) -> OpenFile
-    requires { Spaced w b.now × (k ≡ slot_of (files_in w b.now) i) }
-    ensures { result ≡ file_of (files_in w b.now) i }
-{
-    if k < Geometry::MOST_OPEN {
-        used_at(b, state_place(w, k))
-    } else {
-        idle()
-    }
-}
+// ---- bytes that are no session
 
 // Entry i of a session that is legal for no image.
 fn unlawful_at(i: usize) -> Entry
@@ -351,41 +439,26 @@ fn unlawful_at(i: usize) -> Entry
 fn unseen(i: usize) -> Seen
     ensures { result ≡ record { lawful = false; opened = 0; slot = 0; entry = entry_at unlawful.table i; file = idle; hold = no_hold } }
 {
-    let e = unlawful_at(i);
-    let f = idle();
-    let h = no_hold();
     Seen {
         lawful: false,
         opened: 0,
         slot: 0,
-        entry: e,
-        file: f,
-        hold: h,
+        entry: unlawful_at(i),
+        file: idle(),
+        hold: no_hold(),
     }
 }
+
+// ---- any bytes
 
 // What the session that bytes are has of entry i.
 pub fn find_in(image: &[u8], b: &[u8], i: usize) -> Seen
     ensures { result ≡ seen_in image.now b.now i }
 {
-    let buffers = has_buffers(b);
-    if !is_session(b, buffers) {
+    let Some(session) = LentSession::of(b) else {
         return unseen(i);
-    }
-    let w = state_width(buffers);
-    let lawful = is_lawful(image, b, w) & holds_good(b, buffers);
-    let k = slot_in(b, w, i);
-    let hold = hold_in(b, buffers, k);
-    let e = entry_of(b, i);
-    let f = file_in(b, w, i, k);
-    Seen {
-        lawful: lawful,
-        opened: opened_in(b, w),
-        slot: k,
-        entry: e,
-        file: f,
-        hold: hold,
-    }
+    };
+    session.seen(image, i)
 }
 
 // The 360 bytes of state k's buffer in lent bytes, if it holds a sector; else none.
@@ -395,7 +468,7 @@ pub fn lent_in(b: &[u8], k: usize, holds: bool) -> &[u8]
     if holds & (k < Geometry::MOST_OPEN) {
         part(
             b,
-            state_place(Form::HELD, k) + Form::BUFFER,
+            Form::FILES + Form::HELD * k + Form::BUFFER,
             Geometry::SECTOR,
         )
     } else {
@@ -403,17 +476,10 @@ pub fn lent_in(b: &[u8], k: usize, holds: bool) -> &[u8]
     }
 }
 
-// ---- where a file stands
-
 // Where entry i's file stands in the session that bytes are.
-pub fn spot_in(b: &[u8], i: usize) -> Spot
+pub fn spot_in(b: &[u8], i: usize) -> Option<Spot>
     ensures { result ≡ spot_of (bare (lent_session b.now)) i }
 {
-    let buffers = has_buffers(b);
-    if is_session(b, buffers) {
-        let w = state_width(buffers);
-        stand(file_in(b, w, i, slot_in(b, w, i)))
-    } else {
-        Spot::Closed
-    }
+    let session = LentSession::of(b)?;
+    stand(session.file(session.slot(i)))
 }

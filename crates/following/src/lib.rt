@@ -1,11 +1,11 @@
 // The next entry and the next state of a file, by the answer to a request: document 01's "The tape a file is". `judging` finds the answer, and the
 // place that the next state is made from.
-#![tactic(auto)]
+#![tactic(auto, unfolding(steps::specs::Next::counted, steps::specs::Next::file_met, crate::specs::Following::one_more, crate::specs::Following::counted_from, crate::specs::Following::order_from, crate::specs::Following::done_from, crate::specs::Following::entry_from, crate::specs::Following::file_from))]
 
-ghost use Rattle.std.specs.Prelude.{◌≡◌, ◌-◌, ◌≤◌};
+ghost use Rattle.std.specs.Prelude.{◌≡◌, cond};
 ghost use Rattle.geometry.specs.Places.{origin};
 ghost use Rattle.steps.specs.Next.{moved, counted, file_met};
-ghost use Rattle.following.specs.Following.{one_more, counted_from, order_from, done_from, verdict_from};
+ghost use Rattle.following.specs.Following.{counted_from, order_from, done_from, verdict_from};
 
 use directory::Entry;
 use geometry::Place;
@@ -20,62 +20,40 @@ pub fn start() -> Place
     Place { sector: 0, byte: 0 }
 }
 
-// One less, and 0 of 0.
-fn less_one(n: u32) -> u32
-    ensures { result ≡ n - 1 }
-{
-    if n == 0 { 0 } else { n - 1 }
-}
-
-// One more, and 0 of the greatest, which no legal session's position is.
-fn one_more(n: u32) -> u32
-    ensures { result ≡ one_more n }
-{
-    (((n as u64) + 1) & 0xffffffff) as u32
-}
-
 // The file at another position and place.
 fn moved(f: OpenFile, position: u32, beyond: bool, here: Place, end: Place) -> OpenFile
     ensures { result ≡ moved f position beyond here end }
 {
     OpenFile {
         used: true,
-        entry: f.entry,
-        position: position,
-        beyond: beyond,
-        here: here,
-        end: end,
+        position,
+        beyond,
+        here,
+        end,
+        ..f
     }
 }
 
 // The entry with another count and mark.
-fn counted(e: Entry, n: u32, marked: u16) -> Entry
-    requires { marked ≤ 1 }
-    ensures { result ≡ counted e n marked }
+fn counted(e: Entry, n: u32, marked: bool) -> Entry
+    ensures { result ≡ counted e n (cond marked 1 0) }
 {
-    let name = e.name;
     Entry {
-        name: name,
-        kind: e.kind,
-        length: e.length,
-        first: e.first,
-        sectors: e.sectors,
         count: n,
-        flags: 2 * (e.flags / 2) + marked,
+        flags: 2 * (e.flags / 2) + u16::from(marked),
+        ..e
     }
 }
 
-// The entry behind a request answered 0: a write leaves p + 1 records, unmarked; a write file mark p records, marked.
+// The entry behind a request answered 0: a write leaves p + 1 records, unmarked; a write file mark p records, marked. No legal session's position is the
+// greatest number.
 fn done_entry(q: Request, e: Entry, f: OpenFile) -> Entry
     ensures { result ≡ counted_from q e f }
 {
-    let past = one_more(f.position);
+    let past = f.position.wrapping_add(1);
     match q {
-        Request::Write => counted(e, past, 0),
-        Request::Position(o) => match o {
-            Order::WriteMark => counted(e, f.position, 1),
-            _ => e,
-        },
+        Request::Write => counted(e, past, false),
+        Request::Position(Order::WriteMark) => counted(e, f.position, true),
         _ => e,
     }
 }
@@ -84,11 +62,9 @@ fn done_entry(q: Request, e: Entry, f: OpenFile) -> Entry
 fn met_file(x: Edge, f: OpenFile) -> OpenFile
     ensures { result ≡ file_met x f }
 {
-    let here = f.here;
-    let end = f.end;
     match x {
-        Edge::EndOfFile => moved(f, f.position, !f.beyond, here, end),
-        Edge::BeginningOfTape => moved(f, 0, false, start(), end),
+        Edge::EndOfFile => moved(f, f.position, !f.beyond, f.here, f.end),
+        Edge::BeginningOfTape => moved(f, 0, false, start(), f.end),
     }
 }
 
@@ -96,17 +72,14 @@ fn met_file(x: Edge, f: OpenFile) -> OpenFile
 fn done_order(o: Order, e: Entry, f: OpenFile, p: Place) -> OpenFile
     ensures { result ≡ order_from o e f p }
 {
-    let past = one_more(f.position);
-    let here = f.here;
-    let end = f.end;
     match o {
-        Order::WriteMark => moved(f, f.position, true, here, here),
-        Order::RewindOnline => moved(f, 0, false, start(), end),
+        Order::WriteMark => moved(f, f.position, true, f.here, f.here),
+        Order::RewindOnline => moved(f, 0, false, start(), f.end),
         Order::RewindOffline => idle(),
-        Order::RecordForward => moved(f, past, false, p, end),
-        Order::RecordBack => moved(f, less_one(f.position), false, here, end),
-        Order::FileForward => moved(f, e.count, true, end, end),
-        Order::FileBack => moved(f, f.position, false, here, end),
+        Order::RecordForward => moved(f, f.position.wrapping_add(1), false, p, f.end),
+        Order::RecordBack => moved(f, f.position.saturating_sub(1), false, f.here, f.end),
+        Order::FileForward => moved(f, e.count, true, f.end, f.end),
+        Order::FileBack => moved(f, f.position, false, f.here, f.end),
     }
 }
 
@@ -114,8 +87,7 @@ fn done_order(o: Order, e: Entry, f: OpenFile, p: Place) -> OpenFile
 fn done_file(q: Request, i: usize, e: Entry, f: OpenFile, p: Place) -> OpenFile
     ensures { result ≡ done_from q i e f p }
 {
-    let past = one_more(f.position);
-    let end = f.end;
+    let past = f.position.wrapping_add(1);
     match q {
         Request::Open => OpenFile {
             used: true,
@@ -125,7 +97,7 @@ fn done_file(q: Request, i: usize, e: Entry, f: OpenFile, p: Place) -> OpenFile
             here: start(),
             end: p,
         },
-        Request::Read => moved(f, past, false, p, end),
+        Request::Read => moved(f, past, false, p, f.end),
         Request::Write => moved(f, past, false, p, p),
         Request::Position(o) => done_order(o, e, f, p),
         _ => f,
@@ -133,27 +105,21 @@ fn done_file(q: Request, i: usize, e: Entry, f: OpenFile, p: Place) -> OpenFile
 }
 
 // An answer, with the entry and the state behind it; p as above.
+// Stays: i, e, f and p apart. They come from three places, the session's table, its states and what was read; a struct of them would be made for this call alone.
 pub fn next(a: Answer, q: Request, i: usize, e: Entry, f: OpenFile, p: Place) -> Verdict
     ensures { result ≡ verdict_from a q i e f p }
 {
     match a {
-        Answer::Done => {
-            let entry = done_entry(q, e, f);
-            let file = done_file(q, i, e, f, p);
-            Verdict {
-                answer: a,
-                entry: entry,
-                file: file,
-            }
-        }
-        Answer::Met(x) => {
-            let file = met_file(x, f);
-            Verdict {
-                answer: a,
-                entry: e,
-                file: file,
-            }
-        }
+        Answer::Done => Verdict {
+            answer: a,
+            entry: done_entry(q, e, f),
+            file: done_file(q, i, e, f, p),
+        },
+        Answer::Met(x) => Verdict {
+            answer: a,
+            entry: e,
+            file: met_file(x, f),
+        },
         Answer::Refused(_) => Verdict {
             answer: a,
             entry: e,

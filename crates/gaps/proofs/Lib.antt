@@ -1,4 +1,3 @@
 pub mod Gaps
 pub mod Taken
 pub mod Sweep
-pub mod Rows

@@ -2,14 +2,17 @@
 use mathlib.Core.Path.{◌≡◌, sym, ap, ◌∙◌}
 use mathlib.Core.Bool.{Bool, true, false, ◌&&◌, not, and-false, or-true}
 use mathlib.Core.List.{List, [], ◌∷◌}
-use Prim.Native.Nat.{ℕ, ◌+◌, ◌≤◌, ◌<◌, min, max}
+use Prim.Native.Nat.{ℕ, suc, ◌+◌, ◌≤◌, ◌<◌, min, max}
+use native.Mathlib.Numerals.{add-one}
 use native.Mathlib.Omega.{arith}
 use native.Mathlib.Decide.{dec_lt}
 use lib.Dec.{ltb}
+use lib.ListN.{length, drop, drop_of_length-le}
+use lib.Seq.{drop-cons}
 use borrow.Author.Tests.{lt-ltb, le-ltb, ltb-true, not-true}
 use Rattle.geometry.proofs.Tests.{either, chosen, not_chosen, and_left, and_right}
 use Rattle.directory.specs.declared.Entry.{Entry}
-use Rattle.directory.specs.Entries.{is_free}
+use Rattle.directory.specs.Entries.{is_free, free_entry, entry_at}
 use Rattle.gaps.specs.Gaps.{used_by, is_taken, stands_free, lowest_gap}
 use Rattle.gaps.specs.Sweep.{behind, swept}
 use Rattle.gaps.proofs.Taken.{uses, used-used, used-within, taken_none, taken-cons}
@@ -94,6 +97,17 @@ module _ (n : ℕ) where
       let b : behind n p e ≡ p = omega (arith, behind-on n p e, swept-on (behind n p e) es) in
       let s : swept n p es ≡ p = ap (λ (q : ℕ). swept n q es) (sym b) ∙ h in
       taken-cons e es k ∙ rw (behind-still n p e b k l u, swept-still p es s k l u)
+
+-- the first i entries gone over, from sector p on to q
+module _ (t : List Entry) (n p q i : ℕ) (s : swept n p t ≡ swept n q (drop i t)) where
+  pub sweeping-on : i < length t → (r : ℕ) → r ≡ behind n q (entry_at t i) → swept n p t ≡ swept n r (drop (i + 1) t)
+  unfolding swept
+  sweeping-on h r e =
+      s ∙ ap (swept n q) (drop-cons t i free_entry h) ∙ ap (λ (x : ℕ). swept n x (drop (suc i) t)) (sym e) ∙ ap (λ (k : ℕ). swept n r (drop k t)) (sym (add-one i))
+
+  pub sweeping-whole : length t ≤ i → q ≡ swept n p t
+  unfolding swept
+  sweeping-whole h = sym (s ∙ rw (drop_of_length-le t h))
 
 -- ---- going on until nothing is in the way
 

@@ -7,6 +7,8 @@ use Prim.Native.Nat.{ℕ, zero, suc, ◌+◌, ◌≤◌, ◌<◌}
 use native.Mathlib.Numerals.{add-one}
 use native.Mathlib.Omega.{arith}
 use lib.Dec.{eqb}
+use lib.Pointwise.{pointwise}
+use Rattle.std.specs.List.{list_all}
 use lib.ListN.{length, take, drop, get_or, set, replicate}
 use lib.Seq.{drop-cons, drop-length}
 use borrow.Author.Tests.{eq-eqb, ne_eqb, eqb-true}
@@ -87,6 +89,12 @@ all_from (b ∷ bs) h = and_both b (all bs) (h 0 (omega arith)) (all_from bs λ 
 -- ---- every
 
 module _ {A : Type 0} where
+  -- what std's `all` of a chain finds
+  pub all_every : (p : A → Bool) (xs : List A) → list_all p xs ≡ every p xs
+  unfolding every
+  all_every p [] = refl
+  all_every p (x ∷ xs) = rw (all_every p xs) refl
+
   pub every-get_or : (p : A → Bool) (xs : List A) (i : ℕ) (d : A) → every p xs ≡ true → i < length xs → p (get_or xs i d) ≡ true
   unfolding every
   every-get_or p [] i d h l = absurd (omega arith)
@@ -313,6 +321,14 @@ module _ {A : Type 0} where
       (λ (h : p x ≡ false). rw (first-yes (λ y. not (p y)) x xs (ap not h)) (omega arith))
 
 -- ---- two lists of numbers
+
+-- they are what std's `==` finds equal
+pub equal_same : (a b : List ℕ) → pointwise eqb a b ≡ same a b
+unfolding same
+equal_same [] [] = refl
+equal_same [] (y ∷ b) = refl
+equal_same (x ∷ a) [] = refl
+equal_same (x ∷ a) (y ∷ b) = rw (equal_same a b) refl
 
 -- lists of two lengths are not the same
 pub same-lengths : (a b : List ℕ) → ¬ (length a ≡ length b) → same a b ≡ false

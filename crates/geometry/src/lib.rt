@@ -18,14 +18,14 @@ pub struct Place {
 fn quotient(p: u32, q: u32) -> u32
     ensures { result ≡ p / q }
 {
-    if q == 0 { 0 } else { p / q }
+    p.checked_div(q).unwrap_or(0)
 }
 
 // What is left of p behind that; p where q is 0.
 fn remainder(p: u32, q: u32) -> u32
     ensures { result ≡ p % q }
 {
-    if q == 0 { p } else { p % q }
+    p.checked_rem(q).unwrap_or(p)
 }
 
 // The sizes that everything is measured by, and what follows from a length.

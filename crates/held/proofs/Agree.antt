@@ -1,5 +1,5 @@
 -- What is done with a lent buffer of 360 bytes is `buffered_all` of the effects, if each of them suits the file: then its sector is there.
-use mathlib.Core.Logic.{◌⊎◌, inl, inr}
+use mathlib.Core.Logic.{inl, inr}
 use mathlib.Core.Path.{◌≡◌, refl, sym, ap, ◌∙◌}
 use mathlib.Core.Bool.{Bool, true, false, ◌&&◌}
 use mathlib.Core.List.{List, [], ◌∷◌}
@@ -18,40 +18,28 @@ use Rattle.steps.specs.Next.{Scene}
 use Rattle.steps.proofs.Buffer.{back-cases}
 use Rattle.steps.proofs.Frame.{Unstamped, choice, all-changes}
 use Rattle.steps.proofs.Inside.{Suits, AllSuit}
-use Rattle.sessions.specs.Session.{idle}
-use Rattle.straight.specs.Straight.{writing}
 use Rattle.directory.specs.declared.Entry.{Entry}
 use Rattle.sessions.specs.declared.OpenFile.{OpenFile}
-use Rattle.blocking.specs.Blocking.{bench, scene, is_there, can_do, held_do}
-use Rattle.blocking.proofs.Cases.{take-held, take-other}
+use Rattle.blocking.specs.Blocking.{is_there, can_do, held_do, held_way}
+use Rattle.blocking.proofs.Cases.{length-put, whole-put, take-held, take-other}
+use Rattle.straight.specs.Moving.{scene, Way, moved_by, all_moved_by}
+use Rattle.straight.proofs.Moved.{moved-same}
 use Rattle.held.specs.Held.{held_all, read_with, write_with}
 
 -- ---- image and buffer keep their lengths
 
 module _ (e : Entry) (w : Bench) where
-  length-put : length (putting_back e w).image ≡ length w.image
-  unfolding putting_back
-  length-put = either (w.file.holds && w.file.changed)
-      (λ (h : w.file.holds && w.file.changed ≡ true). rw (h, putting_back) (length-lay _ _ _))
-      (λ (h : w.file.holds && w.file.changed ≡ false). rw (h, putting_back))
-
-  whole-put : (putting_back e w).file.buffer ≡ w.file.buffer
-  unfolding putting_back
-  whole-put = either (w.file.holds && w.file.changed)
-      (λ (h : w.file.holds && w.file.changed ≡ true). rw (h, putting_back))
-      (λ (h : w.file.holds && w.file.changed ≡ false). rw (h, putting_back))
-
   length-take : (k : ℕ) → length (taking e k w).image ≡ length w.image
   unfolding loaded
   length-take k = either (w.file.holds && eqb w.file.held k)
       (λ h. ap (λ (v : Bench). length v.image) (sym (take-held e w k h)))
-      (λ h. ap (λ (v : Bench). length v.image) (sym (take-other e w k h)) ∙ length-put)
+      (λ h. ap (λ (v : Bench). length v.image) (sym (take-other e w k h)) ∙ length-put e w)
 
   whole_take : (k : ℕ) → sector_at e k + sector ≤ length w.image → length w.file.buffer ≡ sector → length (taking e k w).file.buffer ≡ sector
   unfolding loaded
   whole_take k s l = either (w.file.holds && eqb w.file.held k)
       (λ h. ap (λ (v : Bench). length v.file.buffer) (sym (take-held e w k h)) ∙ l)
-      (λ h. ap (λ (v : Bench). length v.file.buffer) (sym (take-other e w k h)) ∙ length_part (putting_back e w).image (sector_at e k) sector (rw length-put s))
+      (λ h. ap (λ (v : Bench). length v.file.buffer) (sym (take-other e w k h)) ∙ length_part (putting_back e w).image (sector_at e k) sector (rw (length-put e w) s))
 
 length-do : (c : Scene) (x : Effect) (w : Bench) → length (buffered_do c x w).image ≡ length w.image
 unfolding buffered_do working plain_do
@@ -97,36 +85,33 @@ held_all_lem c (x ∷ xs) w i s l h =
     ap (λ (t : Bool). held_all c xs (elim t [ true ↦ buffered_do c x w | false ↦ w ])) (can c x w i s l h.0)
     ∙ held_all_lem c xs (buffered_do c x w) i (rw n s) (whole-do c x w s h.0 l) h.1
 
--- ---- a scene's number and entry are all that an effect goes by, and its entry alone where nothing stamps
-
-pub held_same : (c : Scene) (i : ℕ) (xs : List Effect) → (i ≡ c.number) ⊎ Unstamped xs → (w : Bench) → held_all (scene i c.entry) xs w ≡ held_all c xs w
-unfolding held_all held_do can_do buffered_do plain_do
-held_same c i [] u w = refl
-held_same c i (hold k ∷ xs) u w = held_same c i xs u _
-held_same c i (change x ∷ xs) u w = held_same c i xs u _
-held_same c i (store y ∷ xs) u w = held_same c i xs u _
-held_same c i (stamp ys ∷ xs) (inl p) w =
-    ap (λ (n : ℕ). held_all (scene n c.entry) (stamp ys ∷ xs) w) p ∙ held_same c c.number xs (inl refl) _
-held_same c i (stamp ys ∷ xs) (inr u) w = absurd u
-held_same c i (put_back ∷ xs) u w = held_same c i xs u _
+-- ---- in an engine's own way
 
 module _ (e : Entry) (f : OpenFile) where
-  reads-unstamped : (goes : Bool) (start : ℕ) → Unstamped (read_with e f goes start)
+  pub reads-unstamped : (goes : Bool) (start : ℕ) → Unstamped (read_with e f goes start)
   unfolding read_with
   reads-unstamped goes start = choice Unstamped (is_kind blocked e) (record {}) (choice Unstamped (is_kind compressed e) (choice Unstamped (goes && ltb f.here.byte sector) (record {}) (record {})) (record {}))
 
-  writes-unstamped : (given code : List ℕ) → Unstamped (write_with e f given code)
+  pub writes-unstamped : (given code : List ℕ) → Unstamped (write_with e f given code)
   unfolding write_with blocked_effect store_effect
   writes-unstamped given code = choice Unstamped (is_kind blocked e) (record {}) (choice Unstamped (is_kind compressed e) (all-changes (changes f.here code)) (record {}))
 
-  module _ (i : ℕ) (w : Bench) where
-    pub reads : (goes : Bool) (start : ℕ) → held_all (scene 0 e) (read_with e f goes start) w ≡ held_all (scene i e) (read_with e f goes start) w
-    reads goes start = held_same (scene i e) 0 _ (inr (reads-unstamped goes start)) w
+  module _ (m : Way) (i : ℕ) (w : Bench) where
+    pub reads : (goes : Bool) (start : ℕ) → all_moved_by m (scene 0 e) (read_with e f goes start) w ≡ all_moved_by m (scene i e) (read_with e f goes start) w
+    reads goes start = moved-same m (scene i e) 0 _ (inr (reads-unstamped goes start)) w
 
-    pub writes : (given code : List ℕ) → held_all (scene 0 e) (write_with e f given code) w ≡ held_all (scene i e) (write_with e f given code) w
-    writes given code = held_same (scene i e) 0 _ (inr (writes-unstamped given code)) w
+    pub writes : (given code : List ℕ) → all_moved_by m (scene 0 e) (write_with e f given code) w ≡ all_moved_by m (scene i e) (write_with e f given code) w
+    writes given code = moved-same m (scene i e) 0 _ (inr (writes-unstamped given code)) w
 
-    pub stores : (given : List ℕ) (g : ℕ)
-        → bench (plain_do (writing e idle given) (store_effect (writing e idle given) g) w.image) w.file ≡ held_all (scene i e) (store_effect (writing e f given) g ∷ []) w
-    unfolding held_all held_do can_do buffered_do plain_do store_effect
-    stores given g = refl
+-- in the way of the buffer
+pub held-moved : (c : Scene) (xs : List Effect) (w : Bench) → all_moved_by held_way c xs w ≡ held_all c xs w
+unfolding all_moved_by moved_by held_all held_do can_do buffered_do
+held-moved c [] w = refl
+held-moved c (hold k ∷ xs) w = held-moved c xs _
+held-moved c (change x ∷ xs) w = held-moved c xs _
+held-moved c (store y ∷ xs) w = held-moved c xs _
+held-moved c (stamp ys ∷ xs) w = held-moved c xs _
+held-moved c (put_back ∷ xs) w = held-moved c xs _
+
+pub held_same : (c : Scene) (xs : List Effect) (w : Bench) → held_all (scene c.number c.entry) xs w ≡ held_all c xs w
+held_same c xs w = sym (held-moved (scene c.number c.entry) xs w) ∙ moved-same held_way c c.number xs (inl refl) w ∙ held-moved c xs w

@@ -1,128 +1,120 @@
-// What a request does by way of the blocking buffer, act by act: document 01's "The tape a file is".
+// What a request answered 0 does to bytes, act by act: document 01's "Where a record lies", "Compressed records" and "The tape a file is". How a sector is held,
+// changed and put back is an engine's own way (`Mover`); all else is the same for both.
 #![tactic(auto)]
 
 ghost use Rattle.std.specs.Prelude.{◌≡◌, map};
 ghost use Rattle.packing.specs.Placing.{changes};
 ghost use Rattle.requests.specs.declared.Request.TheVariants.{Position};
-ghost use Rattle.steps.specs.Effects.{effects};
+ghost use Rattle.steps.specs.Effects.{effects, blocked_effect};
 ghost use Rattle.steps.specs.Effects as Effects;
 ghost use Rattle.straight.specs.Straight.{writing};
-ghost use Rattle.blocking.specs.Blocking.{lent, scene, held_do};
-ghost use Rattle.held.specs.Held.{held_all, read_with, write_with};
+ghost use Rattle.straight.specs.Moving.{scene, moved_by, all_moved_by};
+ghost use Rattle.held.specs.Held.{read_with, write_with, effects_with};
 
-use blocking::{change, hold, put_back};
-use directory::{Entry, stamp};
 use geometry::{Geometry, Place};
 use packing::fits_here;
-use requests::Order;
-use sessions::{Holding, OpenFile};
-use straight::store;
+use requests::{Order, Request};
+use sessions::OpenFile;
+use straight::Mover;
 
 // A read: the sectors that it must read. `goes` says whether the place before a compressed record goes on, `start` where the record starts.
-pub fn read(
-    image: &mut [u8],
-    e: Entry,
-    h: Holding,
-    buffer: &mut [u8],
-    f: OpenFile,
-    goes: bool,
-    start: usize,
-) -> Holding
-    ensures { lent image.new result buffer.new ≡ held_all (scene 0 e) (read_with e f goes start) (lent image.old h buffer.old) }
+pub fn read<M: Mover>(m: &mut M, f: OpenFile, goes: bool, start: usize)
+    ensures { (M.bench m.new ≡ all_moved_by M.way (scene 0 (M.entry m.old)) (read_with (M.entry m.old) f goes start) (M.bench m.old)) × M.Same m.old m.new }
 {
-    if e.kind == Geometry::BLOCKED {
-        let k = Geometry::sector_of_record(Geometry::BLOCKED, e.length, f.position);
-        hold(image, e, h, buffer, k)
-    } else if e.kind == Geometry::COMPRESSED {
-        let here = f.here;
-        if goes & (here.byte < (Geometry::SECTOR as u32)) {
-            let before = hold(image, e, h, buffer, here.sector as usize);
-            hold(image, e, before, buffer, start)
-        } else {
-            hold(image, e, h, buffer, start)
+    let e = m.entry();
+    match e.kind {
+        Geometry::BLOCKED => {
+            let k = Geometry::sector_of_record(Geometry::BLOCKED, e.length, f.position);
+            m.hold(k);
         }
-    } else {
-        h
+        Geometry::COMPRESSED => {
+            let here = f.here;
+            if goes & (here.byte < (Geometry::SECTOR as u32)) {
+                m.hold(here.sector as usize);
+            }
+            m.hold(start);
+        }
+        _ => {}
     }
 }
 
 // The blocked record at the file's position, with zeros behind it up to its sector's end.
-fn write_blocked(
-    image: &mut [u8],
-    e: Entry,
-    h: Holding,
-    buffer: &mut [u8],
-    f: OpenFile,
-    given: &[u8],
-) -> Holding
-    ensures { lent image.new result buffer.new
-        ≡ held_do (scene 0 e) (Effects.blocked_effect (writing e f given.now)) (lent image.old h buffer.old) }
+pub fn write_blocked<M: Mover>(m: &mut M, f: OpenFile, given: &[u8])
+    ensures { (M.bench m.new ≡ moved_by M.way (scene 0 (M.entry m.old)) (blocked_effect (writing (M.entry m.old) f given.now)) (M.bench m.old))
+        × M.Same m.old m.new }
 {
+    let e = m.entry();
     let k = Geometry::sector_of_record(Geometry::BLOCKED, e.length, f.position);
     let byte = Geometry::byte_of_record(Geometry::BLOCKED, e.length, f.position);
-    change(image, e, h, buffer, k, byte, given, 0)
+    m.change(k, byte, given, 0);
 }
 
 // A coded record, at the place p or in the next sector, with 128 behind it; before it goes on, the rest of the old sector becomes 128.
-fn write_coded(
-    image: &mut [u8],
-    e: Entry,
-    h: Holding,
-    buffer: &mut [u8],
-    p: Place,
-    code: &[u8],
-) -> Holding
-    ensures { lent image.new result buffer.new
-        ≡ held_all (scene 0 e) (map Effects.change (changes p code.now)) (lent image.old h buffer.old) }
+pub fn write_coded<M: Mover>(m: &mut M, p: Place, code: &[u8])
+    ensures { (M.bench m.new ≡ all_moved_by M.way (scene 0 (M.entry m.old)) (map Effects.change (changes p code.now)) (M.bench m.old))
+        × M.Same m.old m.new }
 {
     let k = p.sector as usize;
     let byte = p.byte as usize;
     if fits_here(p, code.len()) {
-        change(image, e, h, buffer, k, byte, code, Geometry::GO_ON)
-    } else if Geometry::SECTOR <= byte {
-        change(image, e, h, buffer, k + 1, 0, code, Geometry::GO_ON)
+        m.change(k, byte, code, Geometry::GO_ON);
     } else {
-        let old = change(image, e, h, buffer, k, byte, &code[..0], Geometry::GO_ON);
-        change(image, e, old, buffer, k + 1, 0, code, Geometry::GO_ON)
+        if byte < Geometry::SECTOR {
+            m.change(k, byte, &code[..0], Geometry::GO_ON);
+        }
+        m.change(k + 1, 0, code, Geometry::GO_ON);
     }
 }
 
 // A write. The code is that of the bytes given, if the file is compressed.
-pub fn write(
-    image: &mut [u8],
-    e: Entry,
-    h: Holding,
-    buffer: &mut [u8],
-    f: OpenFile,
-    given: &[u8],
-    code: &[u8],
-) -> Holding
-    ensures { lent image.new result buffer.new
-        ≡ held_all (scene 0 e) (write_with e f given.now code.now) (lent image.old h buffer.old) }
+pub fn write<M: Mover>(m: &mut M, f: OpenFile, given: &[u8], code: &[u8])
+    ensures { (M.bench m.new ≡ all_moved_by M.way (scene 0 (M.entry m.old)) (write_with (M.entry m.old) f given.now code.now) (M.bench m.old))
+        × M.Same m.old m.new }
 {
-    if e.kind == Geometry::BLOCKED {
-        write_blocked(image, e, h, buffer, f, given)
-    } else if e.kind == Geometry::COMPRESSED {
-        let here = f.here;
-        write_coded(image, e, h, buffer, here, code)
-    } else {
-        store(image, e, f.position, given);
-        h
+    let e = m.entry();
+    match e.kind {
+        Geometry::BLOCKED => write_blocked(m, f, given),
+        Geometry::COMPRESSED => write_coded(m, f.here, code),
+        _ => m.store(f.position, given),
     }
 }
 
 // An order: the buffer goes back before any but the record skips; a close then writes count and flags.
-pub fn order(image: &mut [u8], i: usize, e: Entry, h: Holding, buffer: &[u8], o: Order) -> Holding
-    ensures { lent image.new result buffer.now ≡ held_all (scene i e) (effects (Position o) (scene i e)) (lent image.old h buffer.now) }
+pub fn order<M: Mover>(m: &mut M, i: usize, o: Order)
+    ensures { (M.bench m.new ≡ all_moved_by M.way (scene i (M.entry m.old)) (effects (Position o) (scene i (M.entry m.old))) (M.bench m.old))
+        × M.Same m.old m.new }
 {
     match o {
-        Order::RecordForward => h,
-        Order::RecordBack => h,
+        Order::RecordForward | Order::RecordBack => {}
         Order::RewindOffline => {
-            let back = put_back(image, e, h, buffer);
-            stamp(image, i, e.count, e.flags);
-            back
+            m.put_back();
+            m.stamp(i);
         }
-        _ => put_back(image, e, h, buffer),
+        _ => m.put_back(),
+    }
+}
+
+// A request on entry i; k is the sector that a record read of a compressed file lies in.
+pub fn act<M: Mover>(
+    m: &mut M,
+    i: usize,
+    f: OpenFile,
+    q: Request,
+    given: &[u8],
+    code: &[u8],
+    k: u32,
+)
+    ensures { (M.bench m.new ≡ all_moved_by M.way (scene i (M.entry m.old)) (effects_with q (M.entry m.old) f given.now code.now k) (M.bench m.old))
+        × M.Same m.old m.new }
+{
+    match q {
+        Request::Read => {
+            let here = f.here;
+            read(m, f, !(here.sector == k), k as usize)
+        }
+        Request::Write => write(m, f, given, code),
+        Request::GranuleWrite(g) => m.store(g, given),
+        Request::Position(o) => order(m, i, o),
+        _ => {}
     }
 }

@@ -30,7 +30,7 @@ use Rattle.requests.specs.declared.Facts.{Facts}
 use Rattle.requests.specs.declared.Request.{Request}
 use Rattle.requests.specs.declared.Request.TheVariants.{Open, Read, Write, GranuleRead, GranuleWrite, GranuleLook, Position}
 use Rattle.requests.specs.declared.Order.TheVariants.{WriteMark, RewindOnline, RewindOffline, RecordForward, RecordBack, FileForward, FileBack}
-use Rattle.packing.specs.declared.Led.TheVariants.{To}
+use Rattle.std.specs.Prelude.{Ok}
 
 module _ (e : Entry) (f : OpenFile) (bytes over : List ℕ) (held : ℕ) where
   abbrev seen : List ℕ
@@ -73,7 +73,7 @@ module _ (e : Entry) (f : OpenFile) (bytes over : List ℕ) (held : ℕ) where
     unfolding record_here fixed_at record_in
     fixed-is k = rw (k, record_here, seen-fixed u k)
 
-    pub fixed-led : is_kind compressed e ≡ false → here_led e f seen ≡ To f.here
+    pub fixed-led : is_kind compressed e ≡ false → here_led e f seen ≡ Ok f.here
     unfolding led_to
     fixed-led k = here-there e f seen (lt-ltb _ _ h) ∙ ap led_to (fixed-is k)
 

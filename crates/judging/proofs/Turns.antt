@@ -5,6 +5,7 @@ use mathlib.Core.Bool.{Bool, true, false, not, false≢true}
 use mathlib.Core.List.{List, []}
 use Prim.Native.Nat.{ℕ, ◌+◌, ◌<◌, ◌^◌}
 use lib.Dec.{ltb}
+use Rattle.std.specs.Prelude.{Result, Ok, Err}
 use lib.ListN.{length}
 use borrow.Author.Tests.{lt-ltb, ltb-true, eq-eqb, ne_eqb}
 use Rattle.geometry.specs.Bytes.{lay}
@@ -30,8 +31,7 @@ use Rattle.following.proofs.Following.{one_more_lem, entry-from}
 use Rattle.judging.specs.Turns.{sight, end_led, here_led, laid_first, here_into, turn_led, turn_into, is_astray, place_in, written_at, carried_to, carried_into}
 use Rattle.geometry.specs.declared.Place.{Place}
 use Rattle.directory.specs.declared.Entry.{Entry}
-use Rattle.packing.specs.declared.Led.{Led}
-use Rattle.packing.specs.declared.Led.TheVariants.{To, Lost}
+use Rattle.packing.specs.declared.BadPlace.{BadPlace}
 use Rattle.requests.specs.declared.Facts.{Facts}
 use Rattle.requests.specs.declared.Order.TheVariants.{WriteMark, RewindOnline, RewindOffline, RecordForward, RecordBack, FileForward, FileBack}
 use Rattle.requests.specs.declared.Request.{Request}
@@ -39,7 +39,8 @@ use Rattle.requests.specs.declared.Request.TheVariants.{Open, Read, Write, Granu
 use Rattle.requests.specs.declared.Answer.{Answer}
 use Rattle.requests.specs.declared.Answer.TheVariants.{Done, Met, Refused}
 use Rattle.sessions.specs.declared.OpenFile.{OpenFile}
-use Rattle.requests.proofs.Numbers.{done-is}
+use Rattle.requests.specs.declared.Refusal.TheVariants.{BadImage}
+use Rattle.requests.proofs.Numbers.{same_number}
 
 -- ---- the count records: lost exactly where one is bad; else to the end place
 
@@ -47,7 +48,7 @@ pub end-packed : (e : Entry) (bytes : List ℕ) → is_kind compressed e ≡ tru
 unfolding end_led
 end-packed e bytes k = rw (k, end_led)
 
-pub end-fixed : (e : Entry) (bytes : List ℕ) → is_kind compressed e ≡ false → end_led e bytes ≡ To origin
+pub end-fixed : (e : Entry) (bytes : List ℕ) → is_kind compressed e ≡ false → end_led e bytes ≡ Ok origin
 unfolding end_led
 end-fixed e bytes k = rw (k, end_led)
 
@@ -57,9 +58,9 @@ end-astray c = either (is_kind compressed c.entry)
     (λ (k : is_kind compressed c.entry ≡ true). rw (end-packed c.entry c.bytes k, k) (go (walked_to origin (counted_walk c.entry c.bytes)) refl))
     (λ (k : is_kind compressed c.entry ≡ false). rw (end-fixed c.entry c.bytes k, k))
   where
-    go : (l : Led) → walked_to origin (counted_walk c.entry c.bytes) ≡ l → is_astray l ≡ not (decodes (counted_walk c.entry c.bytes))
-    go (To q) h = ap not (sym (to-decodes origin (counted_walk c.entry c.bytes) q h).0)
-    go (Lost q) h = ap not (sym (lost-breaks origin (counted_walk c.entry c.bytes) q h))
+    go : (l : Result Place BadPlace) → walked_to origin (counted_walk c.entry c.bytes) ≡ l → is_astray l ≡ not (decodes (counted_walk c.entry c.bytes))
+    go (Ok q) h = ap not (sym (to-decodes origin (counted_walk c.entry c.bytes) q h).0)
+    go (Err b) h = ap not (sym (lost-breaks origin (counted_walk c.entry c.bytes) b.place h))
 
 end-place : (c : Scene) → bad_in the_counted c ≡ false → place_in (end_led c.entry c.bytes) ≡ end_place c
 unfolding bad_in place_in end_place behind counted_walk
@@ -70,11 +71,11 @@ end-place c b = either (is_kind compressed c.entry)
     w : Walk
     w = walk c.entry.length c.entry.sectors c.bytes c.entry.count origin
 
-    go : (l : Led) → walked_to origin w ≡ l → not (decodes w) ≡ false → place_in l ≡ behind_from origin (records_of w) c.entry.count
-    go (To q) h n =
+    go : (l : Result Place BadPlace) → walked_to origin w ≡ l → not (decodes w) ≡ false → place_in l ≡ behind_from origin (records_of w) c.entry.count
+    go (Ok q) h n =
         let t = to-decodes origin w q h in
         t.1 ∙ ap (behind_from origin (records_of w)) (walk-length c.entry.length c.entry.sectors c.bytes c.entry.count origin (records_of w) (decodes-walked w t.0))
-    go (Lost q) h n = absurd (false≢true (sym n ∙ ap not (lost-breaks origin w q h)))
+    go (Err b) h n = absurd (false≢true (sym n ∙ ap not (lost-breaks origin w b.place h)))
 
 -- ---- the record at the position: lost where there is one and it is bad; else the place behind it
 
@@ -82,7 +83,7 @@ pub here-there : (e : Entry) (f : OpenFile) (bytes : List ℕ) → ltb f.positio
 unfolding here_led
 here-there e f bytes k = rw (k, here_led)
 
-pub here_end : (e : Entry) (f : OpenFile) (bytes : List ℕ) → ltb f.position e.count ≡ false → here_led e f bytes ≡ To f.here
+pub here_end : (e : Entry) (f : OpenFile) (bytes : List ℕ) → ltb f.position e.count ≡ false → here_led e f bytes ≡ Ok f.here
 unfolding here_led
 here_end e f bytes k = rw (k, here_led)
 
@@ -309,46 +310,44 @@ module _ (files buffer code : ℕ) (c : Scene) (small : c.file.position + 1 < 2 
       let s : a ≡ ans q = h ∙ ap (λ (x : Bool). judge q (facts x)) (turn-astray q t) in
       rules q old a _ _ s (λ d. turn-done q t (done-allows q (facts (bad_in (decoding q) c)) (sym s ∙ d))) (turn-into q t old)
 
-  -- ---- as the program goes: the facts known, what the request is first taken for and its number
+  -- ---- as the program goes: the facts known, and what the request is first taken for
 
-  module _ (q : Request) (known : Facts) (a : Answer) (n : ℕ) (k : known ≡ facts true) (j : a ≡ judge q known) (m : n ≡ number_of a) where
-    abbrev led : Led
+  module _ (q : Request) (known : Facts) (a : Answer) (k : known ≡ facts true) (j : a ≡ judge q known) where
+    abbrev led : Result Place BadPlace
     led = turn_led q c.entry c.file c.bytes
 
     a_first : a ≡ first q
     a_first = j ∙ ap (judge q) k
 
-    -- 11
-    pub is-bad : n ≡ 11 → is_bad (first q) ≡ true
-    is-bad h = eq-eqb (number_of (first q)) 11 (ap number_of (sym a_first) ∙ sym m ∙ h)
+    pub is-bad : a ≡ Refused BadImage → is_bad (first q) ≡ true
+    is-bad h = eq-eqb (number_of (first q)) 11 (ap number_of (sym a_first ∙ h))
 
-    module _ (h : n ≡ 11) (old new : List ℕ) (l : Led) (e : (l ≡ led) × (new ≡ turn_into q c.entry c.file c.bytes old)) where
-      led-rules : (t : Led) (b : Answer) → l ≡ t → b ≡ judge q (facts (is_astray t)) → Rules q old b (place_in t) new
+    module _ (h : a ≡ Refused BadImage) (old new : List ℕ) (l : Result Place BadPlace) (e : (l ≡ led) × (new ≡ turn_into q c.entry c.file c.bytes old)) where
+      led-rules : (t : Result Place BadPlace) (b : Answer) → l ≡ t → b ≡ judge q (facts (is_astray t)) → Rules q old b (place_in t) new
       led-rules t b el eb = rw (sym e.1) at ans-rules
         where
           ans-rules : Rules q old b (place_in t) (turn_into q c.entry c.file c.bytes old)
           ans-rules =
               let s : t ≡ led = sym el ∙ e.0 in
-              subst (λ (x : Led). Rules q old b (place_in x) (turn_into q c.entry c.file c.bytes old)) (sym s) (turn-rules q (is-bad h) old b (eb ∙ ap (λ (x : Led). judge q (facts (is_astray x))) s))
+              subst (λ (x : Result Place BadPlace). Rules q old b (place_in x) (turn_into q c.entry c.file c.bytes old)) (sym s) (turn-rules q (is-bad h) old b (eb ∙ ap (λ (x : Result Place BadPlace). judge q (facts (is_astray x))) s))
 
       -- a good code: the tests behind it answer
-      pub good-rules : (p : Place) → l ≡ To p → (b : Answer) → b ≡ behind_code q known → Rules q old b p new
+      pub good-rules : (p : Place) → l ≡ Ok p → (b : Answer) → b ≡ behind_code q known → Rules q old b p new
       unfolding is_astray place_in
-      good-rules p el b eb = led-rules (To p) b el (eb ∙ ap (behind_code q) k ∙ sym (InTurn.behind q (facts true) (is-bad h)))
+      good-rules p el b eb = led-rules (Ok p) b el (eb ∙ ap (behind_code q) k ∙ sym (InTurn.behind q (facts true) (is-bad h)))
 
       -- a bad one
-      pub lost-rules : (p : Place) → l ≡ Lost p → Rules q old a p new
+      pub lost-rules : (b : BadPlace) → l ≡ Err b → Rules q old a b.place new
       unfolding is_astray place_in
-      lost-rules p el = led-rules (Lost p) a el a_first
+      lost-rules b el = led-rules (Err b) a el a_first
 
-    -- 0
-    pub is-done : n ≡ 0 → first q ≡ Done
-    is-done h = done-is (first q) (ap number_of (sym a_first) ∙ sym m ∙ h)
+    pub is-done : a ≡ Done → first q ≡ Done
+    is-done h = sym a_first ∙ h
 
-    pub done-rules : n ≡ 0 → (old new : List ℕ) (p : Place) → (p ≡ carried_to code q c.entry c.file) × (new ≡ carried_into q c.entry c.file c.bytes old)
+    pub done-rules : a ≡ Done → (old new : List ℕ) (p : Place) → (p ≡ carried_to code q c.entry c.file) × (new ≡ carried_into q c.entry c.file c.bytes old)
         → Rules q old a p new
     done-rules h old new p e = rw (a_first, e.0, e.1) (carried-rules q (is-done h) old)
 
     -- any other
-    pub other-rules : (n ≡ 11 → ⊥) → (n ≡ 0 → ⊥) → (old : List ℕ) (p : Place) → Rules q old a p old
-    other-rules h z old p = rw a_first (refused-rules q (ne_eqb (number_of (first q)) 11 (λ e. h (m ∙ ap number_of a_first ∙ e))) (λ d. z (m ∙ ap number_of (a_first ∙ d))) old p)
+    pub other-rules : (a ≡ Refused BadImage → ⊥) → (a ≡ Done → ⊥) → (old : List ℕ) (p : Place) → Rules q old a p old
+    other-rules h z old p = rw a_first (refused-rules q (ne_eqb (number_of (first q)) 11 (λ e. h (a_first ∙ same_number (first q) (Refused BadImage) e))) (λ d. z (a_first ∙ d)) old p)

@@ -1,3 +1,4 @@
 pub mod Turns
 pub mod Lent
 pub mod Judged
+pub mod Sight

@@ -1,6 +1,6 @@
 -- How a request is judged with decoding only in its turn: what it is judged by at first, and where its decoding leads. proofs/Turns.antt shows that this,
 -- and the next entry and state that `following` makes by that place, come to `verdict_of`. Definitions only.
-use Rattle.std.specs.Prelude.{Bool, true, false, ◌≡◌, List, [], ℕ, ◌+◌, ◌*◌, ◌≤◌, ◌<◌, ◌^◌, length, ltb}
+use Rattle.std.specs.Prelude.{Bool, true, false, ◌≡◌, List, [], ℕ, ◌+◌, ◌*◌, ◌≤◌, ◌<◌, ◌^◌, length, ltb, Result, Ok, Err}
 use Rattle.geometry.specs.Bytes.{part, lay}
 use Rattle.geometry.specs.Places.{capacity, place_of, byte_of, origin}
 use Rattle.geometry.specs.Sizes.{sector, blocked, compressed, random, most_sectors}
@@ -12,8 +12,7 @@ use Rattle.steps.specs.Next.{Scene, record_here, fixed_at}
 use Rattle.steps.proofs.Lawful.{Lawful}
 use Rattle.geometry.specs.declared.Place.{Place}
 use Rattle.directory.specs.declared.Entry.{Entry}
-use Rattle.packing.specs.declared.Led.{Led}
-use Rattle.packing.specs.declared.Led.TheVariants.{To, Lost}
+use Rattle.packing.specs.declared.BadPlace.{BadPlace}
 use Rattle.steps.specs.Verdict.{buffer_next, answer_of, verdict_of}
 use Rattle.following.specs.Following.{verdict_from}
 use Rattle.requests.specs.declared.Answer.{Answer}
@@ -58,12 +57,12 @@ abbrev pub Stands : List ℕ → Bool → Entry → OpenFile → Type 0
 Stands image legal e f = legal ≡ true → is_free e ≡ false → (Lawful e f) × (sector * (e.first + e.sectors) ≤ length image)
 
 -- the place behind the records counted
-unfoldable pub end_led : Entry → List ℕ → Led
-end_led e bytes = elim (is_kind compressed e) [ true ↦ walked_to origin (counted_walk e bytes) | false ↦ To origin ]
+unfoldable pub end_led : Entry → List ℕ → Result Place BadPlace
+end_led e bytes = elim (is_kind compressed e) [ true ↦ walked_to origin (counted_walk e bytes) | false ↦ Ok origin ]
 
 -- the place behind the record at the position, if there is one
-unfoldable pub here_led : Entry → OpenFile → List ℕ → Led
-here_led e f bytes = elim (ltb f.position e.count) [ true ↦ led_to (record_here (sight e f bytes)) | false ↦ To f.here ]
+unfoldable pub here_led : Entry → OpenFile → List ℕ → Result Place BadPlace
+here_led e f bytes = elim (ltb f.position e.count) [ true ↦ led_to (record_here (sight e f bytes)) | false ↦ Ok f.here ]
 
 -- a record laid over the first bytes of a buffer; a bad code leaves it as it was
 unfoldable pub laid_first : Got → List ℕ → List ℕ
@@ -74,13 +73,13 @@ unfoldable pub here_into : Entry → OpenFile → List ℕ → List ℕ → List
 here_into e f bytes old = elim (ltb f.position e.count) [ true ↦ laid_first (record_here (sight e f bytes)) old | false ↦ old ]
 
 -- what a request decodes, where its turn has come
-unfoldable pub turn_led : Request → Entry → OpenFile → List ℕ → Led
+unfoldable pub turn_led : Request → Entry → OpenFile → List ℕ → Result Place BadPlace
 turn_led Open e f bytes = end_led e bytes
 turn_led Read e f bytes = here_led e f bytes
-turn_led Write e f bytes = To origin
-turn_led (GranuleRead g) e f bytes = To origin
-turn_led (GranuleWrite g) e f bytes = To origin
-turn_led (GranuleLook g) e f bytes = To origin
+turn_led Write e f bytes = Ok origin
+turn_led (GranuleRead g) e f bytes = Ok origin
+turn_led (GranuleWrite g) e f bytes = Ok origin
+turn_led (GranuleLook g) e f bytes = Ok origin
 turn_led (Position o) e f bytes = here_led e f bytes
 
 -- and what is then in the buffer
@@ -103,13 +102,13 @@ TurnOf (GranuleWrite g) e f n m = Unit {0}
 TurnOf (GranuleLook g) e f n m = Unit {0}
 TurnOf (Position o) e f n m = f.used ≡ true
 
-unfoldable pub is_astray : Led → Bool
-is_astray (To p) = false
-is_astray (Lost p) = true
+unfoldable pub is_astray : Result Place BadPlace → Bool
+is_astray (Ok p) = false
+is_astray (Err b) = true
 
-unfoldable pub place_in : Led → Place
-place_in (To p) = p
-place_in (Lost p) = p
+unfoldable pub place_in : Result Place BadPlace → Place
+place_in (Ok p) = p
+place_in (Err b) = b.place
 
 -- the place behind a record written, whose code has so many bytes
 unfoldable pub written_at : ℕ → Entry → OpenFile → Place

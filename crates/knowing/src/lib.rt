@@ -41,7 +41,7 @@ fn state_flags(b: &[u8], buffers: bool, at: usize) -> bool
 // Whether each truth value of what a session says of itself is 0 or 1.
 fn saying_flags(b: &[u8], at: usize) -> bool
     requires { at + said_width ≤ length b.now }
-    ensures { result ≡ saying_flags b.now at }
+    ensures { (result ≡ saying_flags b.now at) × (every is_byte b.now ≡ true) }
 {
     is_flag(b, at)
 }
@@ -51,14 +51,13 @@ pub fn is_session(b: &[u8], buffers: bool) -> bool
     ensures { result ≡ is_session buffers b.now }
 {
     let w = state_width(buffers);
-    let at = Form::FILES;
-    let says = at + Geometry::MOST_OPEN * w;
-    if b.len() == says + Form::SAYING {
-        (state_flags(b, buffers, at)
-            & (state_flags(b, buffers, at + w)
-                & (state_flags(b, buffers, at + 2 * w) & state_flags(b, buffers, at + 3 * w))))
-            & saying_flags(b, says)
-    } else {
-        false
+    let says = Form::FILES + Geometry::MOST_OPEN * w;
+    if b.len() != says + Form::SAYING {
+        return false;
     }
+    let mut good = true;
+    for k in 0..Geometry::MOST_OPEN {
+        good &= state_flags(b, buffers, Form::FILES + w * k);
+    }
+    good & saying_flags(b, says)
 }

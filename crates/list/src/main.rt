@@ -3,14 +3,8 @@
 #![tactic(auto)]
 
 use arguments::{arg_count, open_read, read_full};
+use list_io::print_listing;
 use std::io::Read;
-
-// Prints the listing of an image. A listing has at most 1,596 bytes (`short`, in listing's proofs).
-fn print_listing(rt: &impl Print, image: &[u8]) {
-    let mut out = [0u8; 1600];
-    let size = listing::write_listing(image, &mut out);
-    let _ = rt.write_all(&out[..size]);
-}
 
 // Lists the image that is read. The buffer has room for more than the 180 sectors of an image that is listed.
 fn list(rt: &impl Print, from: &mut impl Read) {

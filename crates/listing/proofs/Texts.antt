@@ -1,13 +1,19 @@
 -- The listing's texts piece by piece: a name's next letter, the next entry's line. Each is its definition's own equation.
-use mathlib.Core.Path.{◌≡◌, refl}
+use mathlib.Core.Path.{◌≡◌, refl, sym, ap, ◌∙◌}
 use mathlib.Core.Logic.{◌≢◌}
 use mathlib.Core.Bool.{Bool, true, false}
-use mathlib.Core.List.{List, [], ◌∷◌, ◌++◌, append-nil}
+use mathlib.Core.List.{List, [], ◌∷◌, ◌++◌, map, append-nil}
 use Prim.Native.Nat.{ℕ, ◌<◌, ◌≤◌, ◌+◌}
 use native.Mathlib.Numerals.{add-one}
-use lib.ListN.{length, drop, get_or, drop_of_length-le}
-use lib.Seq.{drop-cons}
-use borrow.Author.Tests.{eq-eqb, ne_eqb}
+use native.Mathlib.Omega.{arith}
+use native.Mathlib.Numerals.{one-add}
+use Rattle.std.specs.Prelude.{Option, Some, None, unwrap_or, cond}
+use Rattle.std.specs.List.{position, position_or_len}
+use Rattle.geometry.proofs.Tests.{either}
+use lib.Dec.{eqb, ltb}
+use lib.ListN.{length, take, drop, get_or, drop_of_length-le}
+use lib.Seq.{drop-cons, take_all}
+use borrow.Author.Tests.{eq-eqb, ne_eqb, ltb-false}
 use Rattle.geometry.specs.Sizes.{blank, free}
 use Rattle.characters.specs.Characters.{ascii_of}
 use Rattle.directory.specs.declared.Entry.{Entry}
@@ -16,17 +22,26 @@ use Rattle.listing.specs.Listing.{header, bad_image, name_text, line, lines_from
 
 -- ---- names
 
-pub name-stops : (x : List ℕ) (k : ℕ) → k < length x → get_or x k 0 ≡ blank → name_text (drop k x) ≡ []
+-- up to the first blank
+to-blank : (x : List ℕ) → name_text x ≡ map ascii_of (take (position_or_len (λ c. eqb c blank) x) x)
 unfolding name_text
-name-stops x k h e = rw (drop-cons x k 0 h, name_text, eq-eqb (get_or x k 0) blank e)
+to-blank [] = refl
+to-blank (c ∷ x) =
+    either (eqb c blank)
+    (λ t. rw (t, name_text) refl)
+    (λ f. rw (f, name_text, one-add, to-blank x) refl)
 
-pub name-more : (x : List ℕ) (k : ℕ) → k < length x → get_or x k 0 ≢ blank → name_text (drop k x) ≡ (ascii_of (get_or x k 0) ∷ []) ++ name_text (drop (k + 1) x)
-unfolding name_text
-name-more x k h n = rw (drop-cons x k 0 h, name_text, ne_eqb (get_or x k 0) blank n, add-one)
+pub name-is : (o : Option ℕ) (n : ℕ) (x : List ℕ) → o ≡ position (λ c. eqb c blank) x → n ≡ unwrap_or o (length x) → map ascii_of (take n x) ≡ name_text x
+name-is o n x = go o (ltb m (length x)) refl
+  where
+    m : ℕ
+    m = position_or_len (λ c. eqb c blank) x
 
-pub name-ends : (x : List ℕ) (k : ℕ) → length x ≤ k → name_text (drop k x) ≡ []
-unfolding name_text
-name-ends x k h = rw (drop_of_length-le x {i = k} h)
+    go : (o : Option ℕ) (b : Bool) → b ≡ ltb m (length x) → o ≡ cond b (Some m) None → n ≡ unwrap_or o (length x) → map ascii_of (take n x) ≡ name_text x
+    go None true q e h = absurd cc
+    go None false q e h = ap (map ascii_of) (take_all n x (omega arith) ∙ sym (take_all m x (ltb-false m (length x) (sym q)))) ∙ sym (to-blank x)
+    go (Some k) true q e h = let f : n ≡ m = cc in ap (λ i. map ascii_of (take i x)) f ∙ sym (to-blank x)
+    go (Some k) false q e h = absurd cc
 
 -- ---- lines
 

@@ -1,7 +1,8 @@
 // The directory listing: document 01's "Listing".
 #![tactic(auto)]
 
-ghost use Rattle.std.specs.Prelude.{◌≡◌, [], ◌∷◌, ◌++◌, ◌<◌, min, length};
+ghost use Rattle.std.specs.Prelude.{◌≡◌, [], ◌∷◌, ◌++◌, ◌<◌, ◌==◌, min, length};
+ghost use Rattle.std.specs.List.{position};
 ghost use Rattle.std.proofs.lemmas.List.Edits.{sets};
 ghost use Rattle.directory.specs.Entries.{table_of};
 ghost use Rattle.texts.specs.Texts.{decimal, spaced, Wrote};
@@ -12,23 +13,21 @@ use directory::Entry;
 use geometry::Geometry;
 use texts::{put_all, put_byte, put_number};
 
+// Where the first blank stands, if there is one.
+fn blank_in(x: &[u8]) -> Option<usize>
+    ensures { result ≡ position (λ c. c == Geometry.BLANK) x.now }
+{
+    x.iter().position(|c| *c == Geometry::BLANK)
+}
+
 // Puts a name in ASCII without its trailing blanks.
 fn put_letters(out: &mut [u8], at: usize, x: [u8; 8]) -> usize
     ensures { Wrote out.old at (name_text x) out.new result }
 {
     let mut letters = x;
     translate(&mut letters, 8);
-    let mut a = at;
-    let mut k: usize = 0;
-    while k < 8 {
-        let c = x[k];
-        if c == Geometry::BLANK {
-            return a;
-        }
-        a = put_byte(out, a, letters[k]);
-        k += 1;
-    }
-    a
+    let end = blank_in(&x).unwrap_or(8);
+    put_all(out, at, &letters[..end])
 }
 
 // Puts a name, and a blank behind it.
@@ -78,11 +77,9 @@ fn put_lines(out: &mut [u8], at: usize, image: &[u8]) -> usize
     ensures { Wrote out.old at (lines_from 0 (table_of image.now)) out.new result }
 {
     let mut a = at;
-    let mut i: usize = 0;
-    while i < Geometry::ENTRIES {
+    for i in 0..Geometry::ENTRIES {
         let e = directory::entry_at(image, i);
         a = put_entry(out, a, i, e);
-        i += 1;
     }
     a
 }

@@ -26,8 +26,9 @@ ghost use Rattle.lleuadrys.specs.Calls.{Edits, version};
 use calling::{look_size, mount, position};
 use characters::{to_ascii, to_ebcdic};
 use editing::edit;
-use requests::{Edit, number};
-use showing::{begin, next};
+use numbering::tell;
+use requests::{Answer, Edit};
+use showing::{Opened, begin, next};
 use storing::Form;
 use telling::{field_in, find_named, put_words};
 
@@ -55,7 +56,10 @@ pub extern "C" fn lleuadrys_mount(image: &[u8], session: &mut [u8]) -> u16
     ensures { (result ≡ mount_number image.now session.old)
         × (session.new ≡ mount_bytes image.now session.old) }
 {
-    mount(image, session)
+    match mount(image, session) {
+        Ok(()) => 0,
+        Err(x) => u16::from(Answer::Refused(x)),
+    }
 }
 
 // A request by its code on that entry; its number.
@@ -72,7 +76,7 @@ pub extern "C" fn lleuadrys_request(
     ensures { left result image.new session.new buffer.new
         ≡ requested image.old session.old entry (asked_for code granule) given.now buffer.old }
 {
-    asking::request(image, session, entry, code, granule, given, buffer)
+    u16::from(asking::request(image, session, entry, code, granule, given, buffer))
 }
 
 // Looks at a granule in place: the number of its bytes, 0 where the look is refused; where they begin goes into at.
@@ -96,7 +100,7 @@ pub extern "C" fn lleuadrys_position(session: &[u8], entry: usize, at: &mut u32)
     ensures { (result ≡ standing (spot_of (bare (lent_session session.now)) entry))
         × (at.new ≡ record_at (spot_of (bare (lent_session session.now)) entry) at.old) }
 {
-    position(session, entry, at)
+    tell(position(session, entry), at)
 }
 
 // The entry of that name in the session's table: 0, and its number goes into at; 8 where none has it, 12 where the bytes are no session.
@@ -105,7 +109,13 @@ pub extern "C" fn lleuadrys_find(session: &[u8], name: &[u8], at: &mut usize) ->
     ensures { (result ≡ (found session.now name.now).0)
         × (at.new ≡ get_or (found session.now name.now).1 0 at.old) }
 {
-    find_named(session, name, at)
+    match find_named(session, name) {
+        Ok(i) => {
+            *at = i;
+            0
+        }
+        Err(x) => u16::from(Answer::Refused(x)),
+    }
 }
 
 // A field of an entry: 1 kind, 2 record length, 3 first sector, 4 sectors, 5 count, 6 flags; 0 for any other, and where there is no such entry in use.
@@ -137,7 +147,7 @@ pub extern "C" fn lleuadrys_add(
         length: length,
         sectors: sectors,
     };
-    number(edit(image, session, 0, x, name, at))
+    u16::from(edit(image, session, 0, x, name, at))
 }
 
 // Deletes the file of an entry; its number.
@@ -146,7 +156,7 @@ pub extern "C" fn lleuadrys_delete(image: &mut [u8], session: &mut [u8], entry: 
     ensures { Edits (edited_in image.old session.old entry Delete []) result image.new session.new }
 {
     let mut at: usize = 0;
-    number(edit(image, session, entry, Edit::Delete, b"", &mut at))
+    u16::from(edit(image, session, entry, Edit::Delete, b"", &mut at))
 }
 
 // ---- the pass listing
@@ -167,9 +177,16 @@ pub extern "C" fn lleuadrys_show(
         entry.old entry.new length.old length.new
         × Wrote out.old 0 (printed_first result) out.new size.new }
 {
-    let p = begin(image, session, name, entry, length, out);
-    *size = p.size;
-    p.number
+    let head = begin(image, session, name, out);
+    *size = head.size;
+    match head.opened {
+        Ok(file) => {
+            *entry = file.entry;
+            *length = file.length;
+            0
+        }
+        Err(a) => u16::from(a),
+    }
 }
 
 // Reads the next record and makes it a line; its number. Where that is 0, there may be more; where not, the text that is put is the last. The number of its
@@ -187,9 +204,9 @@ pub extern "C" fn lleuadrys_line(
         (room_after image.old session.old entry length out.old)
         result size.new image.new session.new out.new }
 {
-    let p = next(image, session, entry, length, out);
+    let p = next(image, session, Opened { entry, length }, out);
     *size = p.size;
-    p.number
+    u16::from(p.answer)
 }
 
 // ---- the calls that need no session

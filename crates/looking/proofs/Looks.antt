@@ -12,8 +12,6 @@ use Rattle.geometry.proofs.Tests.{either}
 use Rattle.directory.specs.Entries.{entry_at}
 use Rattle.directory.specs.declared.Entry.{Entry}
 use Rattle.requests.specs.Judge.{tests, or_else, first_of, judge}
-use Rattle.requests.specs.Numbers.{number_of}
-use Rattle.requests.proofs.Numbers.{done-is}
 use Rattle.requests.specs.declared.Answer.{Answer}
 use Rattle.requests.specs.declared.Answer.TheVariants.{Done, Met, Refused}
 use Rattle.requests.specs.declared.Request.TheVariants.{GranuleLook}
@@ -74,7 +72,7 @@ module _ (image b : List ℕ) (i g : ℕ) where
   shown_by = ap (λ (a : Answer). shown a (entry_at (lent_session b).table i) g image) (sym (answered (buffered_look_answer image (lent_session b) i g) refl)) ∙ shown-is
 
   -- what is shown, and where, by the answer
-  module _ (a : Answer) (ea : a ≡ buffered_look_answer image (lent_session b) i g) (e : Entry) (ee : e ≡ entry_at (lent_session b).table i) (n : ℕ) (en : n ≡ number_of a) where
+  module _ (a : Answer) (ea : a ≡ buffered_look_answer image (lent_session b) i g) (e : Entry) (ee : e ≡ entry_at (lent_session b).table i) where
     by_answer_lem : shown a e g image ≡ look_in image b i g
     by_answer_lem = ap (λ (x : Entry). shown a x g image) ee ∙ ap (λ (x : Answer). shown x (entry_at (lent_session b).table i) g image) ea ∙ shown-is
 
@@ -82,10 +80,7 @@ module _ (image b : List ℕ) (i g : ℕ) where
     unfolding look_place
     by_place old = ap (λ (x : Answer). place_by x e g old) (answered a ea) ∙ ap (λ (x : Entry). place_by (look_answer_in image b i g) x g old) ee
 
-    module _ (z : n ≡ 0) (at : ℕ) (q : at ≡ sector * e.first + byte_of (place_of random e.length g)) where
-      done : a ≡ Done
-      done = done-is a (sym en ∙ z)
-
+    module _ (done : a ≡ Done) (at : ℕ) (q : at ≡ sector * e.first + byte_of (place_of random e.length g)) where
       pub look-shown : (r : List ℕ) → r ≡ part image at e.length → r ≡ look_in image b i g
       unfolding shown
       look-shown r p = p ∙ ap (λ (k : ℕ). part image k e.length) q ∙ ap (λ (x : Answer). shown x e g image) (sym done) ∙ by_answer_lem
@@ -94,15 +89,12 @@ module _ (image b : List ℕ) (i g : ℕ) where
       unfolding place_by
       look-placed old = q ∙ ap (λ (x : Answer). place_by x e g old) (sym done) ∙ by_place old
 
-    module _ (z : n ≢ 0) where
-      refused : number_of a ≢ 0
-      refused h = z (en ∙ h)
-
+    module _ (refused : a ≢ Done) where
       pub look-empty : (r : List ℕ) → r ≡ part image 0 0 → r ≡ look_in image b i g
       unfolding part shown
       look-empty r p = p ∙ none a refused ∙ by_answer_lem
         where
-          none : (x : Answer) → number_of x ≢ 0 → [] ≡ shown x e g image
+          none : (x : Answer) → x ≢ Done → [] ≡ shown x e g image
           none Done h = absurd (h refl)
           none (Met y) h = refl
           none (Refused y) h = refl
@@ -111,7 +103,7 @@ module _ (image b : List ℕ) (i g : ℕ) where
       unfolding place_by
       look-stays old = none a refused ∙ by_place old
         where
-          none : (x : Answer) → number_of x ≢ 0 → old ≡ place_by x e g old
+          none : (x : Answer) → x ≢ Done → old ≡ place_by x e g old
           none Done h = absurd (h refl)
           none (Met y) h = refl
           none (Refused y) h = refl

@@ -1,5 +1,5 @@
 // A granule shown in place in the image: document 01's "Where a record lies", for both engines, on a session in lent bytes.
-#![tactic(auto)]
+#![tactic(auto, unfolding(crate::specs::Looks::looked_by))]
 
 ghost use Rattle.std.specs.Prelude.{◌≡◌};
 ghost use Rattle.directory.specs.Entries.{entry_at};
@@ -14,7 +14,7 @@ use finding::{Seen, find_in};
 use geometry::Geometry;
 use moving::part;
 use placing::record_at;
-use requests::{Answer, number};
+use requests::Answer;
 
 // The answer to a look, and the entry looked at.
 #[derive(Clone, Copy)]
@@ -28,8 +28,7 @@ fn look_seen(seen: Seen, g: u32) -> Looked
     ensures { result ≡ looked_by seen g }
 {
     let e = seen.entry;
-    let f = seen.file;
-    let known = facts(false, seen.lawful, seen.opened, e, f, 0, 0, 0);
+    let known = facts(false, seen.lawful, seen.opened, e, seen.file, 0, 0, 0);
     Looked {
         answer: judge_granule_look(known, g),
         entry: e,
@@ -51,14 +50,14 @@ pub fn look<'a>(image: &'a [u8], session: &[u8], i: usize, g: u32, at: &mut usiz
     ensures places { at.new ≡ look_place image.now session.now i g at.old }
 {
     let seen = look_in(image, session, i, g);
-    let a = seen.answer;
     let e = seen.entry;
-    if number(a) == 0 {
-        let place = record_at(e, Geometry::RANDOM, g);
-        *at = place;
-        part(image, place, e.length as usize)
-    } else {
-        part(image, 0, 0)
+    match seen.answer {
+        Answer::Done => {
+            let place = record_at(e, Geometry::RANDOM, g);
+            *at = place;
+            part(image, place, e.length as usize)
+        }
+        _ => part(image, 0, 0),
     }
 }
 
@@ -66,6 +65,5 @@ pub fn look<'a>(image: &'a [u8], session: &[u8], i: usize, g: u32, at: &mut usiz
 pub fn look_answer(image: &[u8], session: &[u8], i: usize, g: u32) -> Answer
     ensures { result ≡ look_answer_in image.now session.now i g }
 {
-    let seen = look_in(image, session, i, g);
-    seen.answer
+    look_in(image, session, i, g).answer
 }

@@ -4,18 +4,16 @@
 ghost use Rattle.std.specs.Prelude.{◌≡◌};
 ghost use Rattle.directory.specs.Search.{told, find};
 
-use directory::{Entry, Found, is_named};
+use directory::{Entry, is_named};
 
 // The number of the lowest entry of a list that has that name.
-pub fn lookup(entries: &[Entry], name: &[u8]) -> Found
+pub fn lookup(entries: &[Entry], name: &[u8]) -> Option<usize>
     ensures { told result ≡ find entries.now name.now }
 {
-    let mut i = 0;
-    while i < entries.len() {
-        if is_named(entries[i], name) {
-            return Found::Number(i);
+    for (i, e) in entries.iter().enumerate() {
+        if is_named(*e, name) {
+            return Some(i);
         }
-        i += 1;
     }
-    Found::Nothing
+    None
 }

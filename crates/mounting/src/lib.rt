@@ -9,7 +9,6 @@ ghost use Rattle.mounting.specs.Mounting.{count_decodes, mounts};
 
 use directory::Entry;
 use geometry::Geometry;
-use packing::Led;
 use tables::{Width, entry_in, table_good};
 
 // Whether a compressed file's first count records decode one after another inside the extent; any other entry has none to decode.
@@ -22,10 +21,7 @@ fn count_decodes(image: &[u8], e: Entry) -> bool
     let at = Geometry::SECTOR * (e.first as usize);
     let n = Geometry::SECTOR * (e.sectors as usize);
     let bytes = moving::part(image, at, n);
-    match walking::walk(bytes, e.sectors, e.length, e.count) {
-        Led::To(_) => true,
-        Led::Lost(_) => false,
-    }
+    walking::walk(bytes, e.sectors, e.length, e.count).is_ok()
 }
 
 // Entry i of the directory.
@@ -41,29 +37,16 @@ fn all_decode(image: &[u8]) -> bool
     requires { sector ≤ length image.now }
     ensures { result ≡ every (count_decodes image.now) (table_of image.now) }
 {
-    let mut i: usize = 0;
-    while i < Geometry::ENTRIES {
-        let e = entry_of(image, i);
-        if !count_decodes(image, e) {
-            return false;
-        }
-        i += 1;
-    }
-    true
+    (0..Geometry::ENTRIES).all(|i| count_decodes(image, entry_of(image, i)))
 }
 
 // Whether an image has a lawful length and a good directory.
 pub fn mounts(image: &[u8]) -> bool
     ensures { result ≡ mounts image.now }
 {
-    if Geometry::lawful_length(image) {
-        let n = Geometry::sectors_of(image) as u32;
-        if table_good(image, Width::ONE, Geometry::ENTRIES, n) {
-            all_decode(image)
-        } else {
-            false
-        }
-    } else {
-        false
+    if !Geometry::lawful_length(image) {
+        return false;
     }
+    let n = Geometry::sectors_of(image) as u32;
+    table_good(image, Width::ONE, Geometry::ENTRIES, n) && all_decode(image)
 }

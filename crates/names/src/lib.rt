@@ -1,7 +1,8 @@
 // A name: document 01's "Sizes and the directory".
 #![tactic(auto)]
 
-ghost use Rattle.std.specs.Prelude.{◌≡◌, ◌||◌};
+ghost use Rattle.std.specs.Prelude.{◌≡◌, ◌||◌, ◌==◌, not, length, unwrap_or};
+ghost use Rattle.std.specs.List.{position, list_all};
 ghost use Rattle.names.specs.Names.{capital, digit, is_name};
 
 use geometry::Geometry;
@@ -27,30 +28,27 @@ fn is_capital_or_digit(c: u8) -> bool
     (0x03FF03FC03FE03FEu64 >> (c % 64)) % 2 == 1
 }
 
+// The place of the first byte that is no capital or digit, if there is one.
+fn word_end(x: &[u8]) -> Option<usize>
+    ensures { result ≡ position (λ c. not (capital c || digit c)) x.now }
+{
+    x.iter().position(|c| !is_capital_or_digit(*c))
+}
+
+// Whether x is blanks alone.
+fn is_blank(x: &[u8]) -> bool
+    ensures { result ≡ list_all (λ c. c == Geometry.BLANK) x.now }
+{
+    x.iter().all(|c| *c == Geometry::BLANK)
+}
+
 // Whether x is a capital letter followed by capitals or digits, then only blanks: behind the first blank no more capitals or digits.
 pub fn is_name(x: &[u8]) -> bool
     ensures { result ≡ is_name x.now }
 {
-    if x.len() == 0 {
+    let Some((first, rest)) = x.split_first() else {
         return false;
-    }
-    let mut ended = false;
-    let mut k: usize = 1;
-    while k < x.len() {
-        let c = x[k];
-        if ended {
-            if c != Geometry::BLANK {
-                return false;
-            }
-        } else {
-            if !is_capital_or_digit(c) {
-                if c != Geometry::BLANK {
-                    return false;
-                }
-                ended = true;
-            }
-        }
-        k += 1;
-    }
-    is_capital(x[0])
+    };
+    let end = word_end(rest).unwrap_or(rest.len());
+    is_capital(*first) && is_blank(&rest[end..])
 }

@@ -2,12 +2,12 @@
 // proofs, of what is written.
 #![tactic(auto)]
 
-use arguments::{arg, arg_count, complain, create, write_whole};
+use arguments::{arg_count, complain, create, remove, said, write_whole};
 use geometry::Geometry;
 use std::env::Env;
 use std::io;
 use std::io::ErrorKind;
-use texts::{Numeral, number_in};
+use texts::number_in;
 
 // The numbers of its arguments.
 const OUT: usize = 1;
@@ -16,59 +16,66 @@ const SECTORS: usize = 2;
 
 // How many sectors are asked for; 0, which no image has, if that is no number.
 fn sectors(rt: &impl Env) -> u32 {
-    let mut word = [0u8; 4096];
-    let n = arg(rt, SECTORS, &mut word);
-    match number_in(&word[..n]) {
-        Numeral::Number(k) => k,
-        Numeral::Nothing => 0,
-    }
+    number_in(said(rt, SECTORS).bytes()).unwrap_or(0)
 }
 
 // Tells what was made.
 fn tell(rt: &(impl Env + Print), size: usize) {
     let sectors = size / Geometry::SECTOR;
-    let _ = rt.write_all(b"NEW ");
+    let _ = print!(rt; "NEW ");
     arguments::print(rt, OUT);
     let _ = println!(rt; " {sectors} SECTORS");
 }
 
-// Tells why there is no new file. The error is that of the making.
-fn tell_none(rt: &(impl Env + Print), error: io::Error) {
-    if error.kind() == ErrorKind::AlreadyExists {
-        complain(rt, b"there already, and not overwritten: ", OUT);
-    } else {
-        complain(rt, b"cannot make ", OUT);
-    }
+// Why there is no new file.
+#[derive(Clone, Copy)]
+enum Failed {
+    There, // one of that name is there
+    Unmade,
+    Removed, // not all of it could be written
+    Cut, // the same, and it could not be removed again
 }
 
-// Removes a file that could not be written whole. It was new, so nothing else is lost.
-fn take_back(rt: &HostRuntime, path: &[u8]) {
-    if arguments::remove(rt, path).is_ok() {
-        complain(rt, b"cannot write all of it, so it is removed again: ", OUT);
-    } else {
-        complain(rt, b"cannot write all of it, and it is not whole: ", OUT);
-    }
-}
-
-// Writes an image to a new file.
-fn save(rt: &HostRuntime, image: &[u8], path: &[u8]) {
-    match create(rt, path) {
-        Err(error) => tell_none(rt, error),
-        Ok(file) => {
-            if write_whole(file, image) {
-                tell(rt, image.len());
-            } else {
-                take_back(rt, path);
-            }
+impl Failed {
+    // What is told of it.
+    fn text(self) -> &'static [u8] {
+        match self {
+            Failed::There => b"there already, and not overwritten: ",
+            Failed::Unmade => b"cannot make ",
+            Failed::Removed => b"cannot write all of it, so it is removed again: ",
+            Failed::Cut => b"cannot write all of it, and it is not whole: ",
         }
     }
 }
 
+// Why a file could not be made.
+fn unmade(error: io::Error) -> Failed {
+    match error.kind() {
+        ErrorKind::AlreadyExists => Failed::There,
+        _ => Failed::Unmade,
+    }
+}
+
+// Removes a file that could not be written whole. It was new, so nothing else is lost.
+fn take_back(rt: &HostRuntime, path: &[u8]) -> Failed {
+    match remove(rt, path) {
+        Ok(()) => Failed::Removed,
+        Err(_) => Failed::Cut,
+    }
+}
+
+// Writes an image to a new file.
+fn save(rt: &HostRuntime, image: &[u8], path: &[u8]) -> Result<(), Failed> {
+    let file = create(rt, path).map_err(unmade)?;
+    write_whole(file, image).map_err(|_| take_back(rt, path))
+}
+
 // Writes an image to a new file, which OUT names.
 fn save_out(rt: &HostRuntime, image: &[u8]) {
-    let mut path = [0u8; 4096];
-    let n = arg(rt, OUT, &mut path);
-    save(rt, image, &path[..n]);
+    match save(rt, image, said(rt, OUT).bytes()) {
+        Ok(()) => tell(rt, image.len()),
+        Err(failed) => complain(rt, failed.text(), OUT),
+    }
 }
 
 // Makes the image in lent bytes, if there may be one of so many, and writes it.
@@ -81,18 +88,9 @@ fn make(rt: &HostRuntime, image: &mut [u8]) {
 }
 
 // Makes the image in the first bytes of a room for 4,096 sectors; in no bytes at all if more are asked for.
-fn make_in(rt: &HostRuntime, room: &mut [u8]) {
-    let size = Geometry::SECTOR * (sectors(rt) as usize);
-    if size <= room.len() {
-        make(rt, &mut room[..size]);
-    } else {
-        make(rt, &mut room[..0]);
-    }
-}
-
-// Lends the room.
-fn lend(rt: &HostRuntime, room: &mut [u8; 1474560]) {
-    make_in(rt, room);
+fn make_in(rt: &HostRuntime, room: &mut [u8; 1474560]) {
+    let size = Geometry::SECTOR * sectors(rt) as usize;
+    make(rt, room.get_mut(..size).unwrap_or(&mut []));
 }
 
 fn main(rt: HostRuntime) {
@@ -101,5 +99,5 @@ fn main(rt: HostRuntime) {
         return;
     }
     let mut room = [0u8; 1474560];
-    lend(&rt, &mut room);
+    make_in(&rt, &mut room);
 }

@@ -5,28 +5,34 @@ ghost use Rattle.std.specs.Prelude.{◌≡◌, min, length};
 ghost use Rattle.std.proofs.lemmas.List.Edits.{sets};
 ghost use Rattle.decoding.specs.Decode as Decode;
 ghost use Rattle.coding.specs.Encode as Encode;
+ghost use Rattle.requests.specs.Numbers.{number_of};
 ghost use Rattle.numbering.specs.Codes.{unknown_number, standing, record_at, code_size};
 
-use decoding::Coded;
 use moving::least;
-use requests::{Answer, number};
+use requests::{Answer, Refusal};
 use sessions::Spot;
 
-// The number of a code that names no request, where a look gives that answer.
-pub fn unknown(look: Answer) -> u16
-    ensures { result ≡ unknown_number look }
+// The answer to a code that names no request, where a look gives that answer.
+#[tactic(auto, unfolding(crate::specs::Codes::unknown_number))]
+pub fn unknown(look: Answer) -> Answer
+    ensures { number_of result ≡ unknown_number look }
 {
-    let n = number(look);
-    if 8 <= n { n } else { 7 }
+    if 8 <= u16::from(look) {
+        look
+    } else {
+        Answer::Refused(Refusal::WrongSequence)
+    }
 }
 
 // Where a file stands: 0 not open, 1 open, 2 open and beyond the mark; its record goes into at.
-pub fn tell(spot: Spot, at: &mut u32) -> u16
+// Stays: a number and a place lent for the record, since C reads them (lleuadrys_position).
+#[tactic(auto, unfolding(crate::specs::Codes::standing, crate::specs::Codes::record_at))]
+pub fn tell(spot: Option<Spot>, at: &mut u32) -> u16
     ensures { (result ≡ standing spot) × (at.new ≡ record_at spot at.old) }
 {
     match spot {
-        Spot::Closed => 0,
-        Spot::At { record, beyond } => {
+        None => 0,
+        Some(Spot { record, beyond }) => {
             *at = record;
             if beyond { 2 } else { 1 }
         }
@@ -34,14 +40,12 @@ pub fn tell(spot: Spot, at: &mut u32) -> u16
 }
 
 // Decodes the record that a code begins with; the number of the code's bytes, 0 where it is bad.
+// Stays: 0 for a bad code, since C reads one number (lleuadrys_decode).
 pub fn decode(code: &[u8], text: &mut [u8]) -> usize
     ensures { (result ≡ code_size (Decode.decode (length text.old) code.now))
         × (text.new ≡ Decode.given (Decode.decode (length text.old) code.now) text.old) }
 {
-    match decoding::decode(code, text) {
-        Coded::Good(n) => n,
-        Coded::Bad(_) => 0,
-    }
+    decoding::decode(code, text).unwrap_or(0)
 }
 
 // Codes a record, as far as there is room; the number of bytes put there.

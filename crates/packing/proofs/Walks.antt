@@ -7,11 +7,12 @@ use Prim.Native.Nat.{ℕ, zero, suc, ◌+◌, ◌≤◌, ◌<◌}
 use native.Mathlib.Omega.{arith}
 use native.Mathlib.Nat.{not-suc-le-zero}
 use lib.ListN.{length, take, get_or}
+use Rattle.std.specs.Prelude.{Ok}
+use Rattle.std.specs.Result.{is_ok}
 use Rattle.geometry.specs.Sizes.{sector}
 use Rattle.geometry.specs.Places.{byte_of, origin}
 use Rattle.geometry.specs.declared.Place.{Place}
-use Rattle.packing.specs.declared.Led.TheVariants.{To, Lost}
-use Rattle.packing.specs.Reading.{Recorded, Got, got, lost, read_behind, Walk, walked, broken, and_then, walk_on, walk, decodes, records_of, behind_from, led_to, walked_to}
+use Rattle.packing.specs.Reading.{Recorded, Got, got, lost, read_behind, Walk, walked, broken, and_then, walk_on, walk, decodes, records_of, behind_from, lost_at, led_to, walked_to}
 use Rattle.packing.proofs.One.{Within, Upto, upto-less, Told, told, read-upto}
 
 pub no_walk : (p : Place) (rs : List Recorded) → broken p ≡ walked rs → ⊥
@@ -171,14 +172,14 @@ walk-upto R sectors a b (suc n) p rs i h o =
 
 -- ---- where a walk leads to
 
-pub walked_to_lem : (p : Place) (rs : List Recorded) → walked_to p (walked rs) ≡ To (behind_from p rs (length rs))
+pub walked_to_lem : (p : Place) (rs : List Recorded) → walked_to p (walked rs) ≡ Ok (behind_from p rs (length rs))
 unfolding walked_to behind_from
 walked_to_lem p [] = refl
 walked_to_lem p (r ∷ rs) = walked_to_lem r.behind rs
 
 module _ (R sectors : ℕ) (bytes : List ℕ) (n : ℕ) (p q : Place) where
   -- over a record, to where the records behind it lead
-  pub leads-on : led_to (read_behind R sectors bytes p) ≡ To q → walked_to p (walk R sectors bytes (suc n) p) ≡ walked_to q (walk R sectors bytes n q)
+  pub leads-on : led_to (read_behind R sectors bytes p) ≡ Ok q → walked_to p (walk R sectors bytes (suc n) p) ≡ walked_to q (walk R sectors bytes n q)
   unfolding led_to walked_to walk walk_on and_then
   leads-on h = go (read_behind R sectors bytes p) refl h
     where
@@ -186,28 +187,32 @@ module _ (R sectors : ℕ) (bytes : List ℕ) (n : ℕ) (p q : Place) where
       rest r (walked rs) = refl
       rest r (broken o) = refl
 
-      go : (g : Got) → read_behind R sectors bytes p ≡ g → led_to g ≡ To q → walked_to p (walk_on g (walk R sectors bytes n)) ≡ walked_to q (walk R sectors bytes n q)
+      go : (g : Got) → read_behind R sectors bytes p ≡ g → led_to g ≡ Ok q → walked_to p (walk_on g (walk R sectors bytes n)) ≡ walked_to q (walk R sectors bytes n q)
       go (got r) e h =
           let is : r.behind ≡ q = cc in
           rest r (walk R sectors bytes n r.behind) ∙ ap (λ (z : Place). walked_to z (walk R sectors bytes n z)) is
       go (lost o) e h = let z : ◌≡◌ {A = ℕ} 0 1 = cc in absurd (omega arith)
 
   -- or to the bad code
-  pub leads-off : led_to (read_behind R sectors bytes p) ≡ Lost q → walked_to p (walk R sectors bytes (suc n) p) ≡ Lost q
+  pub leads-off : led_to (read_behind R sectors bytes p) ≡ lost_at q → walked_to p (walk R sectors bytes (suc n) p) ≡ lost_at q
   unfolding led_to walked_to walk walk_on
   leads-off h = go (read_behind R sectors bytes p) refl h
     where
-      go : (g : Got) → read_behind R sectors bytes p ≡ g → led_to g ≡ Lost q → walked_to p (walk_on g (walk R sectors bytes n)) ≡ Lost q
+      go : (g : Got) → read_behind R sectors bytes p ≡ g → led_to g ≡ lost_at q → walked_to p (walk_on g (walk R sectors bytes n)) ≡ lost_at q
       go (got r) e h = let z : ◌≡◌ {A = ℕ} 0 1 = cc in absurd (omega arith)
       go (lost o) e h = h
 
 -- whether it decodes shows in where it leads
-pub to-decodes : (p : Place) (w : Walk) (q : Place) → walked_to p w ≡ To q → (decodes w ≡ true) × (q ≡ behind_from p (records_of w) (length (records_of w)))
+pub ok-decodes : (p : Place) (w : Walk) → is_ok (walked_to p w) ≡ decodes w
+unfolding walked_to decodes
+ok-decodes p (walked []) = refl
+ok-decodes p (walked (r ∷ rs)) = ok-decodes r.behind (walked rs)
+ok-decodes p (broken q) = refl
+
+pub to-decodes : (p : Place) (w : Walk) (q : Place) → walked_to p w ≡ Ok q → (decodes w ≡ true) × (q ≡ behind_from p (records_of w) (length (records_of w)))
 unfolding decodes records_of
-to-decodes p (walked rs) q h = let is : To (behind_from p rs (length rs)) ≡ To q = sym (walked_to_lem p rs) ∙ h in (refl, (cc))
+to-decodes p (walked rs) q h = let is : Ok (behind_from p rs (length rs)) ≡ Ok q = sym (walked_to_lem p rs) ∙ h in (refl, (cc))
 to-decodes p (broken o) q h = let z : ◌≡◌ {A = ℕ} 0 1 = unfold walked_to in cc in absurd (omega arith)
 
-pub lost-breaks : (p : Place) (w : Walk) (q : Place) → walked_to p w ≡ Lost q → decodes w ≡ false
-unfolding decodes
-lost-breaks p (walked rs) q h = let is : To (behind_from p rs (length rs)) ≡ Lost q = sym (walked_to_lem p rs) ∙ h in let z : ◌≡◌ {A = ℕ} 0 1 = cc in absurd (omega arith)
-lost-breaks p (broken o) q h = refl
+pub lost-breaks : (p : Place) (w : Walk) (q : Place) → walked_to p w ≡ lost_at q → decodes w ≡ false
+lost-breaks p w q h = sym (ok-decodes p w) ∙ ap is_ok h

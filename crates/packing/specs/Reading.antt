@@ -1,13 +1,12 @@
 -- Document 01, "Compressed records": coded records one behind another in the sectors of an extent, as they are read. Definitions only.
 -- `bytes` is the file's extent, of so many `sectors`; a place is one of them, from 0 on, and a byte 0 to 360.
-use Rattle.std.specs.Prelude.{Bool, true, false, ◌&&◌, ◌||◌, List, [], ◌∷◌, ℕ, zero, suc, ◌+◌, ◌-◌, ◌*◌, length, get_or, eqb, leb, ltb}
+use Rattle.std.specs.Prelude.{Bool, true, false, ◌&&◌, ◌||◌, List, [], ◌∷◌, ℕ, zero, suc, ◌+◌, ◌-◌, ◌*◌, length, get_or, eqb, leb, ltb, Result, Ok, Err}
 use Rattle.geometry.specs.Bytes.{part, lay}
 use Rattle.geometry.specs.Sizes.{sector}
 use Rattle.geometry.specs.Places.{byte_of, origin}
 use Rattle.geometry.specs.declared.Place.{Place}
 use Rattle.decoding.specs.Decode.{Decoded, good, bad, decode}
-use Rattle.packing.specs.declared.Led.{Led}
-use Rattle.packing.specs.declared.Led.TheVariants.{To, Lost}
+use Rattle.packing.specs.declared.BadPlace.{BadPlace}
 
 -- the extent with a held sector, if 360 bytes are lent for it, in place of its own
 unfoldable pub overlaid : List ℕ → ℕ → List ℕ → List ℕ
@@ -97,14 +96,17 @@ unfoldable pub behind : List Recorded → ℕ → Place
 behind rs n = behind_from origin rs n
 
 -- what walking or reading leads to: the place behind, or the place at which a code is bad
-unfoldable pub led_to : Got → Led
-led_to (got r) = To r.behind
-led_to (lost p) = Lost p
+abbrev pub lost_at : Place → Result Place BadPlace
+lost_at p = Err (record { place = p })
 
-unfoldable pub walked_to : Place → Walk → Led
-walked_to p (walked []) = To p
+unfoldable pub led_to : Got → Result Place BadPlace
+led_to (got r) = Ok r.behind
+led_to (lost p) = lost_at p
+
+unfoldable pub walked_to : Place → Walk → Result Place BadPlace
+walked_to p (walked []) = Ok p
 walked_to p (walked (r ∷ rs)) = walked_to r.behind (walked rs)
-walked_to p (broken q) = Lost q
+walked_to p (broken q) = lost_at q
 
 -- a lent buffer, old before: the record; a bad code leaves it as it was
 unfoldable pub into : Got → List ℕ → List ℕ

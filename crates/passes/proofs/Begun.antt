@@ -28,7 +28,7 @@ use Rattle.showing.specs.Showing.{Begun, begun, opening, opened_as}
 use Rattle.callers.specs.Lent.{lent_engine}
 use Rattle.callers.proofs.Called.{called}
 use Rattle.callers.proofs.Kept.{starts, stored-table}
-use Rattle.showing.proofs.Opened.{random-stops, other-opens, long-stops, bad-stops, unknown-stops, known-opens}
+use Rattle.showing.proofs.Opening.{random-stops, other-opens, long-stops, bad-stops, unknown-stops, known-opens}
 use Rattle.passes.proofs.Asks.{start-told}
 
 abbrev number : Begun → ℕ

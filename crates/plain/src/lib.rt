@@ -2,39 +2,17 @@
 #![tactic(auto)]
 
 ghost use Rattle.std.specs.Prelude.{◌≡◌};
-ghost use Rattle.plain.specs.Plain.{written_with, acted_with};
+ghost use Rattle.plain.specs.Plain.{acted_with};
 
-use directory::{Entry, stamp};
-use geometry::Geometry;
-use requests::{Order, Request};
+use directory::Entry;
+use requests::Request;
 use sessions::OpenFile;
-use straight::{store, write_blocked, write_coded};
+use straight::Straight;
 
-// A write. The code is that of the bytes given, if the file is compressed.
-fn write(image: &mut [u8], e: Entry, f: OpenFile, given: &[u8], code: &[u8])
-    ensures { image.new ≡ written_with e f given.now code.now image.old }
-{
-    if e.kind == Geometry::BLOCKED {
-        write_blocked(image, e, f, given);
-    } else if e.kind == Geometry::COMPRESSED {
-        let here = f.here;
-        write_coded(image, e, here, code);
-    } else {
-        store(image, e, f.position, given);
-    }
-}
-
-// A request on entry i.
+// A request on entry i. Nothing is held, so no sector is told that a record read lies in.
 pub fn act(image: &mut [u8], i: usize, e: Entry, f: OpenFile, q: Request, given: &[u8], code: &[u8])
     ensures { image.new ≡ acted_with q i e f given.now code.now image.old }
 {
-    match q {
-        Request::Write => write(image, e, f, given, code),
-        Request::GranuleWrite(g) => store(image, e, g, given),
-        Request::Position(o) => match o {
-            Order::RewindOffline => stamp(image, i, e.count, e.flags),
-            _ => {}
-        },
-        _ => {}
-    }
+    let mut file = Straight { image, entry: e };
+    held::act(&mut file, i, f, q, given, code, 0);
 }

@@ -2,12 +2,46 @@
 // what the second program, written from documents 01 and 02 alone, says of each case.
 #![tactic(auto)]
 
+ghost use Rattle.std.specs.Prelude.{◌<◌};
+
+use arguments::{Opened, open_read};
 use case_io::{
-    Ahead, Files, Header, close_cases, find_rows, make_image, open_cases, patch, place,
-    print_engine, skip_patches, skip_rows,
+    Header, MOST, PATCH, ROW, go, make_image, patch, place, print_case, read_header, read_whole,
+    skip,
 };
 use moving::part;
+use row_io::Script;
 use storing::Form;
+
+// The file of the cases, opened three times: for the images and the patches, the rows, and the bytes given.
+#[derive(Drop)]
+struct Files {
+    cases: Opened,
+    script: Script,
+}
+
+// Opens the file of the cases, which argument i names.
+fn open_cases(rt: &HostRuntime, i: usize) -> Files {
+    Files {
+        cases: open_read(rt, i),
+        script: Script {
+            rows: open_read(rt, i),
+            bytes: open_read(rt, i),
+        },
+    }
+}
+
+// Goes to a case's rows, and to the bytes that are given behind them. The patches of the sessions stand next in the file of the cases.
+fn find_rows(f: &mut Files, h: Header) {
+    let patches = place(&mut f.cases);
+    let script = &mut f.script;
+    go(&mut script.rows, patches);
+    skip(&mut script.rows, PATCH * u32::from(h.plain));
+    skip(&mut script.rows, PATCH * u32::from(h.buffered));
+    let rows = place(&mut script.rows);
+    go(&mut script.bytes, rows);
+    skip(&mut script.bytes, ROW * u32::from(h.rows));
+}
 
 // Mounts an image, puts the next n patches into its session, plays a script, and prints the image's sums.
 fn play_image(
@@ -20,13 +54,13 @@ fn play_image(
 ) {
     play_io::mount(rt, image, session);
     patch(&mut f.cases, n as usize, session);
-    play_io::play(rt, &mut f.script, &mut f.bytes, rows as u32, image, session);
+    play_io::play(rt, &mut f.script, u32::from(rows), image, session);
     play_io::print_image(rt, image);
 }
 
-// Plays a case with the engine whose session is lent, on an image of as many bytes as the last whole one, which is given. The patches of the
+// Plays a case with the engine whose session has so many bytes, on an image of as many bytes as the last whole one, which is given. The patches of the
 // case's image stand at a place of the file. Behind them other sessions' patches are left out, and the next n are put into this one.
-fn play_with(
+fn play_with<const SESSION: usize>(
     rt: &impl Print,
     f: &mut Files,
     at: Option<u64>,
@@ -35,35 +69,25 @@ fn play_with(
     n: u16,
     whole: &[u8],
     image: &mut [u8],
-    session: &mut [u8],
-) {
+)
+    requires { SESSION < 65536 }
+{
+    let mut session = [0u8; SESSION];
     make_image(&mut f.cases, at, h, whole, image);
     find_rows(f, h);
-    skip_patches(&mut f.cases, others);
-    play_image(rt, f, n, h.rows, image, session);
+    skip(&mut f.cases, PATCH * u32::from(others));
+    play_image(rt, f, n, h.rows, image, &mut session);
 }
 
 // Plays a case with both. Behind the second engine's patches stand the rows, and the bytes given.
 fn play_both(rt: &impl Print, f: &mut Files, h: Header, whole: &[u8], image: &mut [u8]) {
-    let mut plain = [0u8; Form::SESSION];
-    let mut buffered = [0u8; Form::BUFFERED];
     let at = place(&mut f.cases);
-    print_engine(rt, false);
-    play_with(rt, f, at, h, 0, h.plain, whole, image, &mut plain);
-    print_engine(rt, true);
-    play_with(
-        rt,
-        f,
-        at,
-        h,
-        h.plain,
-        h.buffered,
-        whole,
-        image,
-        &mut buffered,
-    );
-    skip_rows(&mut f.cases, h.rows);
-    case_io::skip(&mut f.cases, h.high, h.low);
+    let _ = println!(rt; "PLAIN");
+    play_with::<{ Form::SESSION }>(rt, f, at, h, 0, h.plain, whole, image);
+    let _ = println!(rt; "BUFFERED");
+    play_with::<{ Form::BUFFERED }>(rt, f, at, h, h.plain, h.buffered, whole, image);
+    skip(&mut f.cases, ROW * u32::from(h.rows));
+    skip(&mut f.cases, h.given);
 }
 
 // Plays case number k. The length of the last whole image, which before had n bytes; there is as much room for the case's.
@@ -76,27 +100,23 @@ fn play_case(
     whole: &mut [u8],
     room: &mut [u8],
 ) -> usize {
-    case_io::print_case(rt, k);
-    let m = case_io::read_whole(&mut f.cases, h, n, whole);
+    print_case(rt, k);
+    let m = read_whole(&mut f.cases, h, n, whole);
     if m <= room.len() {
         play_both(rt, f, h, part(whole, 0, m), &mut room[..m]);
     }
     m
 }
 
-// Plays the cases. A proved loop has to end, so it counts the cases up to a number that no file has.
+// Plays the cases.
 fn play_all(rt: &impl Print, f: &mut Files, whole: &mut [u8], room: &mut [u8]) {
+    // Stays: the room of an image is on the stack and has the length of the last whole one beside it, since no memory is allocated.
     let mut n = 0;
-    let mut k: u64 = 1;
-    while k < 1000000 {
-        let ahead = case_io::read_header(&mut f.cases);
-        match ahead {
-            Ahead::Case(h) => {
-                n = play_case(rt, f, k, h, n, whole, room);
-            }
-            Ahead::End => return,
-        }
-        k += 1;
+    for k in 1..MOST {
+        let Some(h) = read_header(&mut f.cases) else {
+            return;
+        };
+        n = play_case(rt, f, k, h, n, whole, room);
     }
 }
 
@@ -105,5 +125,4 @@ fn main(rt: HostRuntime) {
     let mut whole = [0u8; 65536];
     let mut room = [0u8; 65536];
     play_all(&rt, &mut f, &mut whole, &mut room);
-    close_cases(f);
 }

@@ -1,5 +1,5 @@
 -- A row played by the calls from C, on a session in lent bytes of either engine. Definitions only.
-use Rattle.std.specs.Prelude.{true, false, List, [], ℕ, ◌%◌, eqb, get_or}
+use Rattle.std.specs.Prelude.{true, false, List, [], ℕ, ◌%◌, eqb, get_or, Option}
 use Rattle.requests.specs.Codes.{asked_for}
 use Rattle.requests.specs.Numbers.{number_of}
 use Rattle.requests.specs.declared.Edit.TheVariants.{Add, Delete}
@@ -45,7 +45,7 @@ module _ (row : Row) (given : List ℕ) where
   -- what is said of a row behind its request
   unfoldable pub said_of : Left → Played
   said_of a =
-      let spot : Spot = spot_of (bare (lent_session a.session)) row.entry in
+      let spot : Option Spot = spot_of (bare (lent_session a.session)) row.entry in
       record { number = a.number; sum = sum_of (words_of (moved row given a)); standing = standing spot; position = record_at spot 0 }
 
   unfoldable pub played : List ℕ → List ℕ → List ℕ → Played

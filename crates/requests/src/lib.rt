@@ -5,12 +5,11 @@
 ghost use Rattle.std.specs.Prelude.{◌≡◌};
 ghost use Rattle.requests.specs.Numbers.{number_of};
 ghost use Rattle.requests.specs.Codes.{asked_for};
-ghost use Rattle.requests.specs.declared.Answer.TheVariants.{Met, Refused};
 
 use geometry::Place;
 
 // A position order, one of seven.
-#[derive(Clone, Copy)]
+#[derive(Clone, Copy, PartialEq, Eq, Debug)]
 pub enum Order {
     WriteMark,
     RewindOnline,
@@ -22,7 +21,7 @@ pub enum Order {
 }
 
 // A read, a write, a granule read, write or look, an opening, or a position order.
-#[derive(Clone, Copy)]
+#[derive(Clone, Copy, PartialEq, Eq, Debug)]
 pub enum Request {
     Open,
     Read,
@@ -35,7 +34,7 @@ pub enum Request {
 
 // What the directory is asked, the RAD Editor's ADD and DELETE: a file is added, with its kind, its record or granule length and its number of
 // sectors, the bytes given being its name; or the file of an entry is deleted.
-#[derive(Clone, Copy)]
+#[derive(Clone, Copy, PartialEq, Eq, Debug)]
 pub enum Edit {
     Add {
         kind: u16,
@@ -45,42 +44,35 @@ pub enum Edit {
     Delete,
 }
 
-// What a code asks for.
-#[derive(Clone, Copy)]
-pub enum Asked {
-    For(Request),
-    Unknown,
-}
-
 // What a request may meet: answers 1 and 2.
-#[derive(Clone, Copy)]
+#[derive(Clone, Copy, PartialEq, Eq, Debug)]
 pub enum Edge {
-    EndOfFile,
-    BeginningOfTape,
+    EndOfFile = 1,
+    BeginningOfTape = 2,
 }
 
 // Answers 3 to 17, in that order.
-#[derive(Clone, Copy)]
+#[derive(Clone, Copy, PartialEq, Eq, Debug)]
 pub enum Refusal {
-    NoRoom,
-    Protected,
-    OddCount,
-    BadSize,
-    WrongSequence,
-    NotThere,
-    AlreadyOpen,
-    FifthFile,
-    BadImage,
-    NotLegal,
-    BadName,
-    NameInUse,
-    NoEntry,
-    NoGap,
-    BadShape,
+    NoRoom = 3,
+    Protected = 4,
+    OddCount = 5,
+    BadSize = 6,
+    WrongSequence = 7,
+    NotThere = 8,
+    AlreadyOpen = 9,
+    FifthFile = 10,
+    BadImage = 11,
+    NotLegal = 12,
+    BadName = 13,
+    NameInUse = 14,
+    NoEntry = 15,
+    NoGap = 16,
+    BadShape = 17,
 }
 
 // An answer: done, an edge met, or a refusal.
-#[derive(Clone, Copy)]
+#[derive(Clone, Copy, PartialEq, Eq, Debug)]
 pub enum Answer {
     Done,
     Met(Edge),
@@ -108,68 +100,38 @@ pub struct Facts {
     pub buffer: usize, // the size of the buffer to be read into
 }
 
-// The number of an edge.
-fn edge_number(e: Edge) -> u16
-    ensures { result ≡ number_of (Met e) }
-{
-    match e {
-        Edge::EndOfFile => 1,
-        Edge::BeginningOfTape => 2,
-    }
-}
-
-// The number of a refusal.
-fn refusal_number(x: Refusal) -> u16
-    ensures { result ≡ number_of (Refused x) }
-{
-    match x {
-        Refusal::NoRoom => 3,
-        Refusal::Protected => 4,
-        Refusal::OddCount => 5,
-        Refusal::BadSize => 6,
-        Refusal::WrongSequence => 7,
-        Refusal::NotThere => 8,
-        Refusal::AlreadyOpen => 9,
-        Refusal::FifthFile => 10,
-        Refusal::BadImage => 11,
-        Refusal::NotLegal => 12,
-        Refusal::BadName => 13,
-        Refusal::NameInUse => 14,
-        Refusal::NoEntry => 15,
-        Refusal::NoGap => 16,
-        Refusal::BadShape => 17,
-    }
-}
-
 // Documents 01 and 02's number of an answer.
-pub fn number(a: Answer) -> u16
-    ensures { result ≡ number_of a }
-{
-    match a {
-        Answer::Done => 0,
-        Answer::Met(e) => edge_number(e),
-        Answer::Refused(x) => refusal_number(x),
+impl From<Answer> for u16 {
+    ghost from_gives = { λ a n. n ≡ number_of a };
+
+    fn from(a: Answer) -> u16 {
+        match a {
+            Answer::Done => 0,
+            Answer::Met(e) => e as u16,
+            Answer::Refused(x) => x as u16,
+        }
     }
 }
 
-// The request of that code; g is the granule's number.
-pub fn by_code(code: u16, g: u32) -> Asked
+// The request of that code, if there is one; g is the granule's number.
+#[tactic(auto, unfolding(crate::specs::Codes::asked_for, crate::specs::Codes::codes))]
+pub fn by_code(code: u16, g: u32) -> Option<Request>
     ensures { result ≡ asked_for code g }
 {
-    match code {
-        1 => Asked::For(Request::Open),
-        2 => Asked::For(Request::Read),
-        3 => Asked::For(Request::Write),
-        4 => Asked::For(Request::GranuleRead(g)),
-        5 => Asked::For(Request::GranuleWrite(g)),
-        6 => Asked::For(Request::GranuleLook(g)),
-        7 => Asked::For(Request::Position(Order::WriteMark)),
-        8 => Asked::For(Request::Position(Order::RewindOnline)),
-        9 => Asked::For(Request::Position(Order::RewindOffline)),
-        10 => Asked::For(Request::Position(Order::RecordForward)),
-        11 => Asked::For(Request::Position(Order::RecordBack)),
-        12 => Asked::For(Request::Position(Order::FileForward)),
-        13 => Asked::For(Request::Position(Order::FileBack)),
-        _ => Asked::Unknown,
-    }
+    Some(match code {
+        1 => Request::Open,
+        2 => Request::Read,
+        3 => Request::Write,
+        4 => Request::GranuleRead(g),
+        5 => Request::GranuleWrite(g),
+        6 => Request::GranuleLook(g),
+        7 => Request::Position(Order::WriteMark),
+        8 => Request::Position(Order::RewindOnline),
+        9 => Request::Position(Order::RewindOffline),
+        10 => Request::Position(Order::RecordForward),
+        11 => Request::Position(Order::RecordBack),
+        12 => Request::Position(Order::FileForward),
+        13 => Request::Position(Order::FileBack),
+        _ => return None,
+    })
 }

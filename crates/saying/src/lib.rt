@@ -1,5 +1,7 @@
 // What is said of a script, line by line: of a mounting, a row, an image, a row that is not in order. docs/PLAY.md has the lines.
-#![tactic(auto)]
+// Stays: no Display. What is promised of these functions is `Wrote`, of bytes put into what is lent as far as there is room; a Display beside them would have
+// each line a second time.
+#![tactic(auto, unfolding(texts::specs::Texts::spelled, texts::specs::Texts::spaced, crate::specs::Said::mount_line, crate::specs::Said::fault_words))]
 
 ghost use Rattle.std.specs.Prelude.{[], ◌∷◌, ◌++◌};
 ghost use Rattle.texts.specs.Texts.{decimal, spaced, Wrote};
@@ -13,7 +15,7 @@ fn put_count(out: &mut [u8], at: usize, text: &[u8], k: u16) -> usize
     ensures { Wrote out.old at (text.now ++ (decimal k ++ (10 ∷ []))) out.new result }
 {
     let a = put_all(out, at, text);
-    put_number(out, a, k as u32, b'\n')
+    put_number(out, a, u32::from(k), b'\n')
 }
 
 // Puts what is said of a mounting into out. How many bytes that is.
@@ -31,7 +33,7 @@ fn put_stand(out: &mut [u8], at: usize, standing: u16, position: u32) -> usize
         return put_all(out, at, b"- -\n");
     }
     let a = put_number(out, at, position, b' ');
-    put_number(out, a, (standing - 1) as u32, b'\n')
+    put_number(out, a, u32::from(standing - 1), b'\n')
 }
 
 // Puts what is said of row n into out. How many bytes that is.
@@ -39,7 +41,7 @@ pub fn write_row(out: &mut [u8], n: u32, p: Played) -> usize
     ensures { Wrote out.old 0 (row_line n p) out.new result }
 {
     let b = put_number(out, 0, n, b' ');
-    let c = put_number(out, b, p.number as u32, b' ');
+    let c = put_number(out, b, u32::from(p.number), b' ');
     let d = put_number(out, c, p.sum, b' ');
     put_stand(out, d, p.standing, p.position)
 }

@@ -1,28 +1,28 @@
 -- Sums word by word: behind each word the sum of the rest is to be added, and a remainder may be taken at any time.
 use mathlib.Core.Path.{◌≡◌, refl, ap}
-use mathlib.Core.List.{List, [], ◌∷◌}
-use Prim.Native.Nat.{ℕ, suc, ◌+◌, ◌*◌, ◌%◌, ◌<◌, ◌≤◌}
+use mathlib.Core.List.{List, [], ◌∷◌, ◌++◌}
+use Prim.Native.Nat.{ℕ, min, ◌+◌, ◌%◌, ◌<◌}
 use native.Mathlib.Omega.{arith}
-use lib.ListN.{length, drop, get_or, drop_of_length-le}
-use lib.Seq.{drop-cons, drop-drop, get_or-drop}
+use lib.ListN.{length}
+use Rattle.std.proofs.lemmas.List.{nil_from_length}
 use Rattle.geometry.specs.Bytes.{word_at}
 use Rattle.scripts.specs.Sums.{words_of, total, sum_of, running}
 
-first : (x : ℕ) (r : List ℕ) → words_of (x ∷ r) ≡ (256 * x + get_or r 0 0) ∷ words_of (drop 1 r)
-unfolding words_of
-first x [] = ap (λ (n : ℕ). n ∷ words_of []) (omega arith)
-first x (y ∷ r) = refl
+front : (word rest : List ℕ) → length word ≡ min 2 (length (word ++ rest)) → 0 < length (word ++ rest) → words_of (word ++ rest) ≡ word_at word 0 ∷ words_of rest
+unfolding words_of word_at
+front [] rest n p = absurd (omega (arith, n, p))
+front (x ∷ []) [] n p = ap (λ (w : ℕ). w ∷ []) (omega arith)
+front (x ∷ []) (y ∷ rest) n p = absurd (omega (arith, n))
+front (x ∷ y ∷ []) rest n p = refl
+front (x ∷ y ∷ z ∷ word) rest n p = absurd (omega (arith, n))
 
-pub next : (s : List ℕ) (i : ℕ) → 2 * i < length s → words_of (drop (2 * i) s) ≡ word_at s (2 * i) ∷ words_of (drop (2 * (i + 1)) s)
-unfolding word_at
-next s i h =
-    let e : suc (2 * i) + 0 ≡ 2 * i + 1 = omega arith in
-    let f : suc (2 * i) + 1 ≡ 2 * (i + 1) = omega arith in
-    rw (drop-cons s (2 * i) 0 h, first (get_or s (2 * i) 0) (drop (suc (2 * i)) s), get_or-drop (suc (2 * i)) s 0 0, drop-drop 1 (suc (2 * i)) s, e, f)
+-- a word and what is left behind it: only the last may have one byte
+pub next : (all word rest : List ℕ) → all ≡ word ++ rest → length word ≡ min 2 (length all) → 0 < length all → words_of all ≡ word_at word 0 ∷ words_of rest
+next all word rest e n p = rw e (front word rest (rw e at n) (rw e at p))
 
-pub none : (s : List ℕ) (i : ℕ) → length s ≤ 2 * i → words_of (drop (2 * i) s) ≡ []
+pub none : (rest : List ℕ) → length rest ≡ 0 → words_of rest ≡ []
 unfolding words_of
-none s i h = rw (drop_of_length-le s {i = 2 * i} h)
+none rest n = rw (nil_from_length rest n)
 
 -- what the sum before the words ws and a come to
 abbrev pub To : ℕ → List ℕ → ℕ

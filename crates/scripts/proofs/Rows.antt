@@ -1,72 +1,42 @@
--- A row read, test by test: each is the definition's own equation.
-use mathlib.Core.Path.{◌≡◌, sym, ap, ◌∙◌}
-use mathlib.Core.Bool.{true, false, ◌||◌}
-use mathlib.Core.Logic.{◌≢◌}
+-- A row that is whole and well shaped is in order where its code names a request, or adds or deletes a file; else its code is told.
+use mathlib.Core.Path.{◌≡◌, refl, sym, ap, ◌∙◌}
+use mathlib.Core.Bool.{Bool, true, false, not, ◌&&◌, false≢true}
 use mathlib.Core.List.{List}
-use Prim.Native.Nat.{ℕ, ◌≤◌, ◌<◌}
-use lib.Dec.{eqb}
+use Prim.Native.Nat.{ℕ, ◌≤◌}
 use lib.ListN.{length}
-use borrow.Author.Tests.{lt-ltb, le-ltb, eq-eqb, ne_eqb}
+use borrow.Author.Tests.{le-ltb, not-true, not-false}
+use Rattle.std.specs.Prelude.{Option, Some, None, Ok, Err, is_some}
 use Rattle.geometry.specs.Bytes.{word_at}
 use Rattle.geometry.proofs.Tests.{chosen, not_chosen}
 use Rattle.requests.specs.Codes.{asked_for}
-use Rattle.requests.specs.declared.Asked.{Asked}
-use Rattle.requests.specs.declared.Asked.TheVariants.{For, Unknown}
 use Rattle.requests.specs.declared.Request.{Request}
-use Rattle.scripts.specs.Script.{is_edit, used_by, row_in, row_for, is_misshapen, row_of, missing_for}
-use Rattle.scripts.specs.declared.Fault.TheVariants.{Cut, Shape, Code, Missing, NoName}
-use Rattle.scripts.specs.declared.Found.TheVariants.{InOrder, Wrong}
+use Rattle.scripts.specs.Script.{is_edit, row_in, row_for, is_misshapen, row_of}
+use Rattle.scripts.specs.declared.Fault.TheVariants.{Code}
 use Rattle.scripts.specs.declared.Row.{Row}
 
-pub writes : (code n : ℕ) → (eqb code 3 || (eqb code 5 || eqb code 14)) ≡ true → n ≡ used_by code n
-unfolding used_by
-writes code n h = rw (used_by, h)
-
-pub writes-not : (code n : ℕ) → (eqb code 3 || (eqb code 5 || eqb code 14)) ≡ false → 0 ≡ used_by code n
-unfolding used_by
-writes-not code n h = rw (used_by, h)
-
 module _ (b : List ℕ) where
-  pub cut : length b < 16 → Wrong (Cut (length b)) ≡ row_of b
-  unfolding row_of
-  cut h = rw (row_of, lt-ltb (length b) 16 h)
+  good : (x : Option Request) (none : Bool) → is_some x ≡ not none → none && not (is_edit (word_at b 0)) ≡ false → Ok (row_in b) ≡ row_for b x
+  unfolding row_for
+  good (Some q) none s t = refl
+  good None true s t = sym (chosen (is_edit (word_at b 0)) _ _ (not-false (is_edit (word_at b 0)) t))
+  good None false s t = absurd (false≢true s)
 
-  module _ (h : 16 ≤ length b) where
-    pub shape : is_misshapen b ≡ true → Wrong Shape ≡ row_of b
-    unfolding row_of
-    shape z = rw (row_of, le-ltb (length b) 16 h, z)
+  bad : (x : Option Request) (none : Bool) → is_some x ≡ not none → none && not (is_edit (word_at b 0)) ≡ true → Err (Code (word_at b 0)) ≡ row_for b x
+  unfolding row_for
+  bad (Some q) true s t = absurd (false≢true (sym s))
+  bad (Some q) false s t = absurd (false≢true t)
+  bad None true s t = sym (not_chosen (is_edit (word_at b 0)) _ _ (not-true (is_edit (word_at b 0)) t))
+  bad None false s t = absurd (false≢true s)
 
-    -- the code of a row of that shape names a request, or it adds or deletes, or it is unknown
-    module _ (z : is_misshapen b ≡ false) (row : Row) (k : row ≡ row_in b) (x : Asked) (e : x ≡ asked_for row.code row.granule) where
-      by_code : row_for b x ≡ row_of b
-      unfolding row_of row_in
-      by_code = rw (row_of, le-ltb (length b) 16 h, z, e, k)
+  module _ (h : 16 ≤ length b) (z : is_misshapen b ≡ false) (row : Row) (k : row ≡ row_in b) (x : Option Request) (e : x ≡ asked_for row.code row.granule) (none : Bool) (s : is_some x ≡ not none) where
+    by_code : row_for b x ≡ row_of b
+    unfolding row_of row_in
+    by_code = rw (row_of, le-ltb (length b) 16 h, z, e, k)
 
-      pub asked : (q : Request) → x ≡ For q → InOrder row ≡ row_of b
-      unfolding row_for
-      asked q n = ap InOrder k ∙ ap (row_for b) (sym n) ∙ by_code
+    pub in-order : none && not (is_edit row.code) ≡ false → Ok row ≡ row_of b
+    unfolding row_in
+    in-order t = ap Ok k ∙ good x none s (ap (λ (r : Row). none && not (is_edit r.code)) (sym k) ∙ t) ∙ by_code
 
-      module _ (n : x ≡ Unknown) where
-        none : row_for b Unknown ≡ row_of b
-        none = ap (row_for b) (sym n) ∙ by_code
-
-        code_is : row.code ≡ word_at b 0
-        unfolding row_in
-        code_is = ap (λ (r : Row). r.code) k
-
-        pub edits : is_edit row.code ≡ true → InOrder row ≡ row_of b
-        unfolding row_for
-        edits t = ap InOrder k ∙ sym (chosen (is_edit (word_at b 0)) _ _ (ap is_edit (sym code_is) ∙ t)) ∙ none
-
-        pub unknown : is_edit row.code ≡ false → Wrong (Code row.code) ≡ row_of b
-        unfolding row_for
-        unknown t = ap (λ (c : ℕ). Wrong (Code c)) code_is ∙ sym (not_chosen (is_edit (word_at b 0)) _ _ (ap is_edit (sym code_is) ∙ t)) ∙ none
-
-module _ (row : Row) where
-  pub no_name : row.code ≡ 14 → NoName row.uses ≡ missing_for row
-  unfolding missing_for
-  no_name h = sym (chosen (eqb row.code 14) _ _ (eq-eqb row.code 14 h))
-
-  pub no_bytes : row.code ≢ 14 → Missing row.uses ≡ missing_for row
-  unfolding missing_for
-  no_bytes h = sym (not_chosen (eqb row.code 14) _ _ (ne_eqb row.code 14 h))
+    pub unknown : none && not (is_edit row.code) ≡ true → Err (Code row.code) ≡ row_of b
+    unfolding row_in
+    unknown t = ap (λ (r : Row). Err (Code r.code)) k ∙ bad x none s (ap (λ (r : Row). none && not (is_edit r.code)) (sym k) ∙ t) ∙ by_code

@@ -1,14 +1,11 @@
 -- A script: rows of eight words, high byte first. Definitions only.
-use Rattle.std.specs.Prelude.{Bool, true, false, ◌&&◌, ◌||◌, not, List, ℕ, ◌+◌, ◌*◌, eqb, ltb}
+use Rattle.std.specs.Prelude.{Bool, true, false, ◌&&◌, ◌||◌, not, List, ℕ, ◌+◌, ◌*◌, eqb, ltb, Option, Some, None, Result, Ok, Err}
 use Rattle.std.proofs.Math.ListN as list
 use Rattle.geometry.specs.Bytes.{word_at}
 use Rattle.requests.specs.Codes.{asked_for}
-use Rattle.requests.specs.declared.Asked.{Asked}
-use Rattle.requests.specs.declared.Asked.TheVariants.{For, Unknown}
+use Rattle.requests.specs.declared.Request.{Request}
 use Rattle.scripts.specs.declared.Fault.{Fault}
 use Rattle.scripts.specs.declared.Fault.TheVariants.{Cut, Shape, Code, Missing, NoName}
-use Rattle.scripts.specs.declared.Found.{Found}
-use Rattle.scripts.specs.declared.Found.TheVariants.{InOrder, Wrong}
 use Rattle.scripts.specs.declared.Row.{Row}
 
 -- the codes behind those of the requests: 14 adds a file, 15 deletes one
@@ -40,22 +37,22 @@ row_in b = record {
 }
 
 -- the row whose code asks for that; a code that names no request, and neither adds nor deletes, is told
-unfoldable pub row_for : List ℕ → Asked → Found
-row_for b (For q) = InOrder (row_in b)
-row_for b Unknown = elim (is_edit (word_at b 0)) [ true ↦ InOrder (row_in b) | false ↦ Wrong (Code (word_at b 0)) ]
+unfoldable pub row_for : List ℕ → Option Request → Result Row Fault
+row_for b (Some q) = Ok (row_in b)
+row_for b None = elim (is_edit (word_at b 0)) [ true ↦ Ok (row_in b) | false ↦ Err (Code (word_at b 0)) ]
 
 -- word 7 is not zero, or word 6 is not in a row that takes no granule
 unfoldable pub is_misshapen : List ℕ → Bool
 is_misshapen b = not (eqb (word_at b 14) 0) || (not (eqb (word_at b 12) 0) && not (takes_granule (word_at b 0)))
 
 -- a row has 16 bytes, its unused words 6 and 7 are zero, and its code is one of 1 to 15; what is told is the first of these that fails
-unfoldable pub row_of : List ℕ → Found
+unfoldable pub row_of : List ℕ → Result Row Fault
 row_of b =
     elim (ltb (list.length b) 16) [
-      | true ↦ Wrong (Cut (list.length b))
+      | true ↦ Err (Cut (list.length b))
       | false ↦
           elim (is_misshapen b) [
-            | true ↦ Wrong Shape
+            | true ↦ Err Shape
             | false ↦ row_for b (asked_for (word_at b 0) (granule_in b))
           ]
     ]

@@ -1,16 +1,17 @@
 // Scripts of requests: what a row asks for, and the sums of words. docs/PLAY.md has the form of a script.
-#![tactic(auto)]
+#![tactic(auto, unfolding(crate::specs::Script::is_edit, crate::specs::Script::used_by, crate::specs::Script::takes_granule, crate::specs::Script::granule_in, crate::specs::Script::row_in, crate::specs::Script::is_misshapen, crate::specs::Script::missing_for))]
 
 ghost use Rattle.std.specs.Prelude.{◌≡◌};
 ghost use Rattle.scripts.specs.Script.{is_edit, used_by, takes_granule, granule_in, row_in, is_misshapen, row_of, missing_for};
 ghost use Rattle.scripts.specs.Sums.{sums_of};
 
 use moving::word_at;
-use requests::{Asked, by_code};
+use requests::by_code;
 
 // ---- rows
 
 // A row that is in order.
+// Stays: its code is a number, since the calls from C take numbers (`lleuadrys_request`), and so does the row's bytes' definition `row_in`.
 #[derive(Clone, Copy)]
 pub struct Row {
     pub code: u16,
@@ -22,7 +23,7 @@ pub struct Row {
 }
 
 // Why a row is not in order.
-#[derive(Clone, Copy)]
+#[derive(Clone, Copy, PartialEq, Eq, Debug)]
 pub enum Fault {
     Cut(u32), // only so many of its bytes are there
     Shape, // word 7 is not zero, or word 6 where no granule is taken
@@ -32,18 +33,11 @@ pub enum Fault {
     Unread, // a file failed where it was to be read
 }
 
-// What a row is read as.
-#[derive(Clone, Copy)]
-pub enum Found {
-    InOrder(Row),
-    Wrong(Fault),
-}
-
 // How many of the bytes given a row of that code and length uses up.
 fn used_by(code: u16, length: u16) -> u16
     ensures { result ≡ used_by code length }
 {
-    if (code == 3) | ((code == 5) | (code == 14)) {
+    if matches!(code, 3 | 5 | 14) {
         length
     } else {
         0
@@ -54,14 +48,14 @@ fn used_by(code: u16, length: u16) -> u16
 pub fn is_edit(code: u16) -> bool
     ensures { result ≡ is_edit code }
 {
-    (code == 14) | (code == 15)
+    matches!(code, 14 | 15)
 }
 
 // Whether a code asks for a granule.
 fn takes_granule(code: u16) -> bool
     ensures { result ≡ takes_granule code }
 {
-    (code == 4) | ((code == 5) | (code == 6))
+    matches!(code, 4 | 5 | 6)
 }
 
 // Whether a word of a row that is not used is not zero.
@@ -79,7 +73,7 @@ fn granule_in(bytes: &[u8]) -> u32
 {
     let high = word_at(bytes, 12);
     let low = word_at(bytes, 6);
-    65536 * (high as u32) + (low as u32)
+    65536 * u32::from(high) + u32::from(low)
 }
 
 // The words of a row.
@@ -89,37 +83,31 @@ fn row_in(bytes: &[u8]) -> Row
     let code = word_at(bytes, 0);
     let length = word_at(bytes, 4);
     Row {
-        code: code,
+        code,
         entry: word_at(bytes, 2),
         granule: granule_in(bytes),
-        length: length,
+        length,
         sectors: word_at(bytes, 8),
         uses: used_by(code, length),
     }
 }
 
 // The row that some bytes are, or why it is not in order.
-pub fn row_of(bytes: &[u8]) -> Found
+#[tactic(auto, unfolding(crate::specs::Script::row_of))]
+pub fn row_of(bytes: &[u8]) -> Result<Row, Fault>
     ensures { result ≡ row_of bytes.now }
 {
     if bytes.len() < 16 {
-        return Found::Wrong(Fault::Cut(bytes.len() as u32));
+        return Err(Fault::Cut(bytes.len() as u32));
     }
     if is_misshapen(bytes) {
-        return Found::Wrong(Fault::Shape);
+        return Err(Fault::Shape);
     }
     let row = row_in(bytes);
-    let code = row.code;
-    match by_code(code, row.granule) {
-        Asked::For(_) => Found::InOrder(row),
-        Asked::Unknown => {
-            if is_edit(code) {
-                Found::InOrder(row)
-            } else {
-                Found::Wrong(Fault::Code(code))
-            }
-        }
+    if by_code(row.code, row.granule).is_none() & !is_edit(row.code) {
+        return Err(Fault::Code(row.code));
     }
+    Ok(row)
 }
 
 // Why a row is not in order for which too few bytes are left.
@@ -146,14 +134,11 @@ pub struct Sums {
 pub fn sums_of(s: &[u8]) -> Sums
     ensures { result ≡ sums_of s.now }
 {
-    let n = s.len() / 2 + s.len() % 2;
     let mut a: u32 = 0;
     let mut b: u32 = 0;
-    let mut i: usize = 0;
-    while i < n {
-        a = (a + word_at(s, 2 * i) as u32) % 65535;
+    for word in s.chunks(2) {
+        a = (a + u32::from(word_at(word, 0))) % 65535;
         b = (b + a) % 65535;
-        i += 1;
     }
     Sums {
         words: a,
@@ -164,6 +149,7 @@ pub fn sums_of(s: &[u8]) -> Sums
 // ---- what is said
 
 // What is said of a row.
+// Stays: number and standing are as the calls from C answer them (`lleuadrys_request`, `lleuadrys_position`).
 #[derive(Clone, Copy)]
 pub struct Played {
     pub number: u16, // its request's

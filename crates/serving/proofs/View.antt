@@ -3,6 +3,7 @@ use mathlib.Core.Path.{◌≡◌, sym, ap, ◌∙◌}
 use mathlib.Core.Bool.{Bool, true, false}
 use mathlib.Core.List.{List, map}
 use Prim.Native.Nat.{ℕ, ◌+◌, ◌<◌}
+use Rattle.std.specs.Prelude.{Option, None}
 use native.Mathlib.Omega.{arith}
 use native.Mathlib.Decide.{dec_lt}
 use lib.ListN.{length, get_or-eq_default}
@@ -11,7 +12,7 @@ use Rattle.geometry.specs.Sizes.{entries, random}
 use Rattle.geometry.proofs.Tests.{either, both_ways}
 use Rattle.geometry.proofs.Numbered.{length-numbered, get_d_numbered, many-map, many-alike}
 use Rattle.directory.specs.Entries.{entry_at, free_entry, is_free, is_kind, is_marked}
-use Rattle.sessions.specs.Session.{file_of, open_files, stand, spot_of, extent, legal}
+use Rattle.sessions.specs.Session.{at, file_of, open_files, stand, spot_of, extent, legal}
 use Rattle.sessions.proofs.Legal.{entry-inside}
 use Rattle.sessions.proofs.Distinct.{distinct, free-shut}
 use Rattle.sessions.proofs.Counted.{open-count}
@@ -22,7 +23,6 @@ use Rattle.directory.specs.declared.Entry.{Entry}
 use Rattle.sessions.specs.declared.OpenFile.{OpenFile}
 use Rattle.sessions.specs.declared.Session.{Session}
 use Rattle.sessions.specs.declared.Spot.{Spot}
-use Rattle.sessions.specs.declared.Spot.TheVariants.{Closed, At}
 
 -- what entry i shows
 unfoldable pub shows_at : List ℕ → Session → ℕ → Model
@@ -34,8 +34,8 @@ view image s = map (shows_at image s) (numbers_from 0 entries)
 -- ---- of one entry
 
 -- where an open file stands
-abbrev spot : Bool → ℕ → Bool → Spot
-spot b p y = elim b [ true ↦ At p y | false ↦ Closed ]
+abbrev spot : Bool → ℕ → Bool → Option Spot
+spot b p y = elim b [ true ↦ at p y | false ↦ None ]
 
 pub shows-free : (e : Entry) (f : OpenFile) (bytes : List ℕ) → is_free e ≡ true → shows e f bytes ≡ nothing
 unfolding shows

@@ -1,5 +1,5 @@
 -- Document 01, "Answer numbers", last paragraph, and document 02, item 1: sessions, and when one is legal for an image. Definitions only.
-use Rattle.std.specs.Prelude.{Bool, true, false, ◌&&◌, ◌||◌, not, List, [], ◌∷◌, map, ℕ, ◌*◌, length, get_or, replicate, eqb, leb, ltb}
+use Rattle.std.specs.Prelude.{Bool, true, false, ◌&&◌, ◌||◌, not, List, [], ◌∷◌, map, ℕ, ◌*◌, length, get_or, replicate, eqb, leb, ltb, Option, Some, None}
 use Rattle.geometry.specs.Bytes.{part, lay}
 use Rattle.geometry.specs.Lists.{all, every, pairwise, first_with, how_many}
 use Rattle.geometry.specs.Places.{origin}
@@ -13,7 +13,6 @@ use Rattle.sessions.specs.declared.BufferedSession.{BufferedSession}
 use Rattle.sessions.specs.declared.OpenFile.{OpenFile}
 use Rattle.sessions.specs.declared.Session.{Session}
 use Rattle.sessions.specs.declared.Spot.{Spot}
-use Rattle.sessions.specs.declared.Spot.TheVariants.{Closed, At}
 
 -- a state that is not in use
 abbrev pub idle : OpenFile
@@ -50,12 +49,16 @@ slot_of files i =
 unfoldable pub open_files : List OpenFile → ℕ
 open_files files = how_many (λ f. f.used) files
 
+-- that an open file stands at a record, or beyond the mark
+abbrev pub at : ℕ → Bool → Option Spot
+at p y = Some (record { «record» = p; beyond = y })
+
 -- where a file stands, if it is open
-unfoldable pub stand : OpenFile → Spot
-stand f = elim f.used [ true ↦ At f.position f.beyond | false ↦ Closed ]
+unfoldable pub stand : OpenFile → Option Spot
+stand f = elim f.used [ true ↦ at f.position f.beyond | false ↦ None ]
 
 -- where entry i's file stands
-unfoldable pub spot_of : Session → ℕ → Spot
+unfoldable pub spot_of : Session → ℕ → Option Spot
 spot_of s i = stand (file_of s.files i)
 
 -- ---- a file's bytes

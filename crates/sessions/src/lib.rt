@@ -12,6 +12,7 @@ use geometry::{Geometry, Place};
 // An open file: its entry, its position, and for a compressed file the current place and the end place.
 #[derive(Clone, Copy)]
 pub struct OpenFile {
+    // Stays: no option, since what stands behind a flag of 0 comes back as it was: `file_stored` has it, `file_in` reads it, and a legal session may hold any there.
     pub used: bool,
     pub entry: usize,
     pub position: u32,
@@ -33,6 +34,7 @@ pub struct BufferedFile {
 // What an open file holds, without the bytes: a sector of its extent, if it holds one, and whether that is changed.
 #[derive(Clone, Copy)]
 pub struct Holding {
+    // Stays: no option, as in an open file: `hold_of` and `hold_stored` have the two behind it, and `lay_state` lays them.
     pub holds: bool,
     pub held: u32,
     pub changed: bool,
@@ -60,11 +62,11 @@ pub struct BufferedSession {
     pub files: [BufferedFile; Geometry::MOST_OPEN],
 }
 
-// Where an entry's file stands.
+// Where an open file stands: before which record, and whether beyond the mark.
 #[derive(Clone, Copy)]
-pub enum Spot {
-    Closed,
-    At { record: u32, beyond: bool },
+pub struct Spot {
+    pub record: u32,
+    pub beyond: bool,
 }
 
 // ---- states
@@ -100,16 +102,16 @@ pub fn fresh(f: OpenFile) -> BufferedFile
 // ---- where a file stands
 
 // Where a file stands, if it is open.
-pub fn stand(f: OpenFile) -> Spot
+pub fn stand(f: OpenFile) -> Option<Spot>
     ensures { result ≡ stand f }
 {
     if f.used {
-        Spot::At {
+        Some(Spot {
             record: f.position,
             beyond: f.beyond,
-        }
+        })
     } else {
-        Spot::Closed
+        None
     }
 }
 

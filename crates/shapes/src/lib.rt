@@ -12,22 +12,17 @@ use names::is_name;
 pub fn is_named(name: &[u8]) -> bool
     ensures { result ≡ is_named name.now }
 {
-    if name.len() != 8 {
-        return false;
-    }
-    is_name(name)
+    name.len() == 8 && is_name(name)
 }
 
 // The greatest R of a kind.
 fn longest(kind: u16) -> u16
     ensures { result ≡ Rules.longest kind }
 {
-    if kind == Geometry::BLOCKED {
-        Geometry::LONGEST_BLOCKED
-    } else if kind == Geometry::COMPRESSED {
-        Geometry::LONGEST_COMPRESSED
-    } else {
-        Geometry::LONGEST
+    match kind {
+        Geometry::BLOCKED => Geometry::LONGEST_BLOCKED,
+        Geometry::COMPRESSED => Geometry::LONGEST_COMPRESSED,
+        _ => Geometry::LONGEST,
     }
 }
 

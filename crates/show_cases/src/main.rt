@@ -3,21 +3,21 @@
 #![tactic(auto)]
 
 use arguments::{Opened, open_read};
-use case_io::{Ahead, Header};
+use case_io::{Header, MOST, make_image, place, print_case, read_header, read_next, read_whole};
 use moving::part;
 
 // Shows the file of the name that stands next, of n bytes.
 fn show_named(rt: &impl Print, file: &mut Opened, n: usize, image: &mut [u8]) {
     let mut name = [0u8; 4096];
-    let m = case_io::read_next(file, n, &mut name);
-    show_io::show(rt, image, part(&name, 0, m));
+    let m = read_next(file, n, &mut name);
+    show_io::show(rt, image, &name[..m]);
 }
 
 // Shows a case on an image of as many bytes as the last whole one, which is given.
 fn show_next(rt: &impl Print, file: &mut Opened, h: Header, whole: &[u8], image: &mut [u8]) {
-    let at = case_io::place(file);
-    case_io::make_image(file, at, h, whole, image);
-    show_named(rt, file, case_io::number(h.high, h.low), image);
+    let at = place(file);
+    make_image(file, at, h, whole, image);
+    show_named(rt, file, h.given as usize, image);
 }
 
 // The same in a room, which has as many bytes as any image of the cases.
@@ -28,18 +28,17 @@ fn show_in(rt: &impl Print, file: &mut Opened, h: Header, whole: &[u8], room: &m
     }
 }
 
-// Shows the cases. A proved loop has to end, so it counts the cases up to a number that no file has.
+// Shows the cases.
 fn show_all(rt: &impl Print, file: &mut Opened, whole: &mut [u8], room: &mut [u8]) {
+    // Stays: the room of an image is on the stack and has the length of the last whole one beside it, since no memory is allocated.
     let mut n = 0;
-    let mut k: u64 = 1;
-    while k < 1000000 {
-        let Ahead::Case(h) = case_io::read_header(file) else {
+    for k in 1..MOST {
+        let Some(h) = read_header(file) else {
             return;
         };
-        case_io::print_case(rt, k);
-        n = case_io::read_whole(file, h, n, whole);
+        print_case(rt, k);
+        n = read_whole(file, h, n, whole);
         show_in(rt, file, h, part(whole, 0, n), room);
-        k += 1;
     }
 }
 

@@ -1,4 +1,4 @@
 pub mod Lines
 pub mod Named
-pub mod Opened
+pub mod Opening
 pub mod Read

@@ -14,7 +14,7 @@ use Rattle.geometry.proofs.Tests.{either}
 use Rattle.directory.specs.Entries.{free_entry, entry_at}
 use Rattle.directory.specs.Search.{matches, told, find}
 use Rattle.directory.specs.declared.Entry.{Entry}
-use Rattle.directory.specs.declared.Found.TheVariants.{Nothing}
+use Rattle.std.specs.Prelude.{None}
 use Rattle.directory.proofs.Find.{found_none}
 use Rattle.storing.specs.Stored.{has_buffers, is_session, lent_session}
 use Rattle.telling.specs.Told.{found}
@@ -47,7 +47,7 @@ put-part o xs new n w = rw (w.puts, ends_at w) (put_front o xs)
 -- ---- nine bytes are enough
 
 module _ (table : List Entry) where
-  none : (name : List ℕ) → 8 < length name → find table name ≡ told Nothing
+  none : (name : List ℕ) → 8 < length name → find table name ≡ told None
   none name h = found_none table name free_entry (λ j l. no (entry_at table j))
     where
       no : (e : Entry) → matches name e ≡ false

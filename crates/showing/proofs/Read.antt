@@ -1,5 +1,5 @@
 -- The next record: it is read into the front of the room, and a byte is left behind it for the line's end.
-use mathlib.Core.Path.{◌≡◌, ap, subst}
+use mathlib.Core.Path.{◌≡◌, refl, ap, subst, ◌∙◌}
 use mathlib.Core.List.{List, [], ◌++◌}
 use Prim.Native.Nat.{ℕ, ◌≤◌, ◌<◌}
 use native.Mathlib.Omega.{arith}
@@ -8,10 +8,12 @@ use lib.ListN.{length, take, drop}
 use lib.Seq.{take_at}
 use borrow.Author.Tests.{ltb-true}
 use Rattle.geometry.proofs.Tests.{either, chosen, not_chosen}
+use Rattle.requests.specs.Numbers.{number_of}
+use Rattle.requests.specs.declared.Answer.{Answer}
 use Rattle.requests.specs.declared.Request.TheVariants.{Read}
+use Rattle.judging.specs.Lent.{after_in}
 use Rattle.steps.specs.Step.{After}
 use Rattle.engines.specs.Engines.{requested}
-use Rattle.asking.proofs.Asked.{Told}
 use Rattle.texts.specs.Texts.{Wrote}
 use Rattle.showing.specs.Lines.{printed}
 use Rattle.showing.specs.Showing.{room_for, read_into, room_after, Prints}
@@ -27,8 +29,8 @@ module _ (R : ℕ) (out : List ℕ) where
   room-is n e = omega (arith, room_most)
 
 -- what is read is in the front of the room, and printed there
-module _ (image b : List ℕ) (i R : ℕ) (out : List ℕ) (n : ℕ) (room : n ≡ room_for R out) (a : ℕ) (to lent moved : List ℕ)
-    (t : Told image b i [] (take n out) Read a to lent moved) (size : length moved ≡ n) where
+module _ (image b : List ℕ) (i R : ℕ) (out : List ℕ) (n : ℕ) (room : n ≡ room_for R out) (a : Answer) (to lent moved : List ℕ)
+    (t : after_in a to lent moved ≡ requested image b i Read [] (take n out)) (size : length moved ≡ n) where
   abbrev w : After (List ℕ)
   w = requested image b i Read [] (take n out)
 
@@ -36,15 +38,14 @@ module _ (image b : List ℕ) (i R : ℕ) (out : List ℕ) (n : ℕ) (room : n �
   unfolding read_into
   is_read = ap (λ (k : ℕ). requested image b i Read [] (take k out)) room
 
-  pub shows : (s : ℕ) (new : List ℕ) → Wrote (moved ++ drop n out) 0 (printed a (take n (moved ++ drop n out))) new s
-      → Prints (read_into image b i R out) (room_after image b i R out) a s to lent new
+  pub shows : (s : ℕ) (new : List ℕ) → Wrote (moved ++ drop n out) 0 (printed (number_of a) (take n (moved ++ drop n out))) new s
+      → Prints (read_into image b i R out) (room_after image b i R out) (number_of a) s to lent new
   unfolding room_after
   shows s new wrote =
-      subst (λ (v : After (List ℕ)). Prints v (v.buffer ++ drop (room_for R out) out) a s to lent new) is_read (
-        t.answers,
-        t.leaves,
-        t.stands,
-        subst (λ (k : ℕ). Wrote (w.buffer ++ drop k out) 0 (printed a w.buffer) new s) room
-            (subst (λ (bs : List ℕ). Wrote (bs ++ drop n out) 0 (printed a bs) new s) t.moves
-            (subst (λ (xs : List ℕ). Wrote (moved ++ drop n out) 0 (printed a xs) new s) (take_at moved (drop n out) n size) wrote)),
+      subst (λ (v : After (List ℕ)). Prints v (v.buffer ++ drop (room_for R out) out) (number_of a) s to lent new) (t ∙ is_read) (
+        refl,
+        refl,
+        refl,
+        subst (λ (k : ℕ). Wrote (moved ++ drop k out) 0 (printed (number_of a) moved) new s) room
+            (subst (λ (xs : List ℕ). Wrote (moved ++ drop n out) 0 (printed (number_of a) xs) new s) (take_at moved (drop n out) n size) wrote),
       )

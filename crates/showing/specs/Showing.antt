@@ -1,8 +1,11 @@
 -- Document 02, item 4: "it opens a file by name, reads kinds 1 to 3 from the start". What the two calls ask of the file layer, and what they leave; the listing is
 -- a run of them. Definitions only.
-use Rattle.std.specs.Prelude.{◌≡◌, true, false, List, [], ◌∷◌, ◌++◌, ℕ, zero, suc, eqb, ltb, length, take, drop, get_or}
+use Rattle.std.specs.Prelude.{◌≡◌, true, false, List, [], ◌∷◌, ◌++◌, ℕ, zero, suc, Result, Ok, Err, eqb, ltb, length, take, drop, get_or}
 use Rattle.geometry.specs.Sizes.{random}
 use Rattle.requests.specs.Numbers.{number_of}
+use Rattle.requests.specs.declared.Answer.{Answer}
+use Rattle.requests.specs.declared.Answer.TheVariants.{Refused}
+use Rattle.requests.specs.declared.Refusal.{Refusal}
 use Rattle.requests.specs.declared.Request.TheVariants.{Open, Read}
 use Rattle.steps.specs.Step.{After}
 use Rattle.engines.specs.Engines.{requested}
@@ -12,6 +15,7 @@ use Rattle.typing.specs.Typing.{name_of}
 use Rattle.telling.specs.Told.{found, field_in}
 use Rattle.calling.specs.Mounted.{mount_number, mount_bytes}
 use Rattle.showing.specs.Lines.{printed}
+use Rattle.showing.specs.declared.Opened.{Opened}
 
 -- ---- a file is opened by its name
 
@@ -60,6 +64,16 @@ begun image b typed = elim (is_short image) [ true ↦ begun_on image (mount_byt
 abbrev pub Leaves : Begun → ℕ → List ℕ → List ℕ → ℕ → ℕ → ℕ → ℕ → Type 0
 Leaves s n image b old_entry entry old_length size =
     (n ≡ s.number) × (image ≡ s.image) × (b ≡ s.session) × (entry ≡ get_or s.told 0 old_entry) × (size ≡ get_or s.told 1 old_length)
+
+-- a search as it goes on: an entry found is opened, and a refusal stops the listing
+abbrev pub led_to : Result ℕ Refusal → List ℕ → List ℕ → Begun
+led_to (Ok i) image b = opening image b i
+led_to (Err x) image b = stopped (number_of (Refused x)) image b
+
+-- a beginning as it is handed out: a file opened, or the answer that stops it
+abbrev pub begun_as : Result Opened Answer → List ℕ → List ℕ → Begun
+begun_as (Ok file) image b = record { number = 0; told = file.entry ∷ file.length ∷ []; image = image; session = b }
+begun_as (Err a) image b = stopped (number_of a) image b
 
 -- ---- its next record
 

@@ -1,118 +1,47 @@
 // An open-file state laid in the bytes of a session, with or without a buffer: numbers low byte first.
 #![tactic(auto)]
 
-ghost use Rattle.std.specs.Prelude.{◌≡◌, [], ◌∷◌, ◌+◌, ◌*◌, ◌≤◌, ◌<◌};
+ghost use Rattle.std.specs.Prelude.{◌≡◌, ◌+◌, ◌*◌, ◌≤◌, ◌<◌};
 ghost use Rattle.geometry.specs.Sizes.{most_open};
-ghost use Rattle.storing.specs.Numbers.{bytes_of};
 ghost use Rattle.storing.specs.Stored.{files_at, width, has_buffers, place_stored, file_stored, hold_stored, lay_state, lay_fresh};
 
 use geometry::{Geometry, Place};
 use moving::lay;
 use sessions::{Holding, OpenFile, fresh};
-use storing::{Form, flag, has_buffers, no_hold};
-
-// ---- the bytes of numbers
-
-// The four bytes of a number, and the eight of one: the first counts least.
-#[derive(Clone, Copy)]
-struct Long {
-    a: u8,
-    b: u8,
-    c: u8,
-    d: u8,
-}
-
-#[derive(Clone, Copy)]
-struct Wide {
-    a: u8,
-    b: u8,
-    c: u8,
-    d: u8,
-    e: u8,
-    f: u8,
-    g: u8,
-    h: u8,
-}
-
-fn four(x: u32) -> Long
-    ensures { (result.a ∷ result.b ∷ result.c ∷ result.d ∷ []) ≡ bytes_of 4 x }
-{
-    let y = x / 256;
-    let z = y / 256;
-    let w = z / 256;
-    Long {
-        a: (x % 256) as u8,
-        b: (y % 256) as u8,
-        c: (z % 256) as u8,
-        d: (w % 256) as u8,
-    }
-}
-
-fn eight(x: usize) -> Wide
-    ensures { (result.a ∷ result.b ∷ result.c ∷ result.d ∷ result.e ∷ result.f ∷ result.g ∷ result.h ∷ []) ≡ bytes_of 8 x }
-{
-    let a = x / 256;
-    let b = a / 256;
-    let c = b / 256;
-    let d = c / 256;
-    let e = d / 256;
-    let f = e / 256;
-    let g = f / 256;
-    Wide {
-        a: (x % 256) as u8,
-        b: (a % 256) as u8,
-        c: (b % 256) as u8,
-        d: (c % 256) as u8,
-        e: (d % 256) as u8,
-        f: (e % 256) as u8,
-        g: (f % 256) as u8,
-        h: (g % 256) as u8,
-    }
-}
+use storing::{Form, has_buffers, no_hold, state_width};
 
 // ---- the bytes of a state
 
-fn place_bytes(p: Place) -> Wide
-    ensures { (result.a ∷ result.b ∷ result.c ∷ result.d ∷ result.e ∷ result.f ∷ result.g ∷ result.h ∷ []) ≡ place_stored p }
+fn place_bytes(p: Place) -> [u8; 8]
+    ensures { result ≡ place_stored p }
 {
-    let s = four(p.sector);
-    let b = four(p.byte);
-    Wide {
-        a: s.a,
-        b: s.b,
-        c: s.c,
-        d: s.d,
-        e: b.a,
-        f: b.b,
-        g: b.c,
-        h: b.d,
-    }
+    let s = p.sector.to_le_bytes();
+    let b = p.byte.to_le_bytes();
+    [s[0], s[1], s[2], s[3], b[0], b[1], b[2], b[3]]
 }
 
 fn file_bytes(f: OpenFile) -> [u8; 30]
     ensures { result ≡ file_stored f }
 {
-    let u = flag(f.used);
-    let i = eight(f.entry);
-    let p = four(f.position);
-    let y = flag(f.beyond);
-    let here = f.here;
-    let end = f.end;
-    let h = place_bytes(here);
-    let e = place_bytes(end);
+    let u = u8::from(f.used);
+    let i = f.entry.to_le_bytes();
+    let p = f.position.to_le_bytes();
+    let y = u8::from(f.beyond);
+    let h = place_bytes(f.here);
+    let e = place_bytes(f.end);
     [
-        u, i.a, i.b, i.c, i.d, i.e, i.f, i.g, i.h, p.a, p.b, p.c, p.d, y, h.a, h.b, h.c, h.d, h.e,
-        h.f, h.g, h.h, e.a, e.b, e.c, e.d, e.e, e.f, e.g, e.h,
+        u, i[0], i[1], i[2], i[3], i[4], i[5], i[6], i[7], p[0], p[1], p[2], p[3], y, h[0], h[1],
+        h[2], h[3], h[4], h[5], h[6], h[7], e[0], e[1], e[2], e[3], e[4], e[5], e[6], e[7],
     ]
 }
 
 fn hold_bytes(h: Holding) -> [u8; 6]
     ensures { result ≡ hold_stored h }
 {
-    let a = flag(h.holds);
-    let n = four(h.held);
-    let c = flag(h.changed);
-    [a, n.a, n.b, n.c, n.d, c]
+    let a = u8::from(h.holds);
+    let n = h.held.to_le_bytes();
+    let c = u8::from(h.changed);
+    [a, n[0], n[1], n[2], n[3], c]
 }
 
 // ---- a state of a session
@@ -122,11 +51,7 @@ fn state_place(buffers: bool, k: usize) -> usize
     requires { k < most_open }
     ensures { (result ≡ files_at + width buffers * k) × (result ≤ 1584) }
 {
-    if buffers {
-        Form::FILES + Form::HELD * k
-    } else {
-        Form::FILES + Form::FILE * k
-    }
+    Form::FILES + state_width(buffers) * k
 }
 
 // Lays a state over that of number k, if there is one; its buffer, if it has one, stays.

@@ -1,6 +1,6 @@
 -- Numbers and their bytes, by going down the bytes: each is told back from the other. And a part of bytes, written out.
 use mathlib.Core.Path.{◌≡◌, refl, sym, ap, ◌∙◌}
-use mathlib.Core.Bool.{true}
+use mathlib.Core.Bool.{Bool, true, false}
 use mathlib.Core.List.{List, [], ◌∷◌, map}
 use Prim.Native.Nat.{ℕ, zero, suc, ◌+◌, ◌*◌, ◌/◌, ◌%◌, ◌^◌, ◌≤◌, ◌<◌}
 use native.Mathlib.Nat.{pow-succ'}
@@ -14,7 +14,16 @@ use Rattle.geometry.proofs.Bytes.{same_bytes, length_part, get_d_part}
 use Rattle.geometry.proofs.Numbered.{length-numbered, get_d_numbered}
 use Rattle.geometry.proofs.Tests.{and_left, and_right}
 use Rattle.tables.specs.Numbers.{number_in}
-use Rattle.storing.specs.Numbers.{bytes_of}
+use Rattle.std.specs.Int.{from_bool}
+use Rattle.storing.specs.Numbers.{bytes_of, flag_of}
+
+-- ---- a truth value
+
+-- as std makes a byte of it
+pub flag-byte : (u : Bool) (x : ℕ) → x ≡ from_bool u → x ≡ flag_of u
+unfolding flag_of
+flag-byte true x e = e
+flag-byte false x e = e
 
 -- ---- bytes written out
 

@@ -1,11 +1,14 @@
 -- What is asked of bytes before they are read as a session, and what that gives.
 use mathlib.Core.Path.{◌≡◌, refl, sym, ap, ◌∙◌}
 use mathlib.Core.Logic.{◌≢◌}
-use mathlib.Core.Bool.{Bool, true, false, ◌&&◌, and-true, and-false}
-use mathlib.Core.List.{List, ◌∷◌, map}
-use Prim.Native.Nat.{ℕ, zero, suc, ◌+◌, ◌<◌, ◌≤◌}
+use mathlib.Core.Bool.{Bool, true, false, ◌&&◌, and-true, and-false, and_assoc}
+use mathlib.Core.List.{List, [], ◌∷◌, map}
+use Prim.Native.Nat.{ℕ, zero, suc, ◌+◌, ◌*◌, ◌<◌, ◌≤◌}
 use native.Mathlib.Omega.{arith}
-use lib.ListN.{length, get_or}
+use lib.ListN.{length, get_or, take}
+use lib.Seq.{take_all}
+use Rattle.std.proofs.Common.{add-one}
+use Rattle.tables.proofs.Rows.{length-row, get_or-row}
 use lib.Dec.{eqb}
 use borrow.Author.Tests.{lt-ltb, eq-eqb, ne_eqb, eqb-true}
 use Rattle.geometry.specs.Bytes.{is_byte}
@@ -45,12 +48,31 @@ bytes b h = every-from is_byte b 0 λ (k : ℕ) (q : k < length b). lt-ltb (get_
 
 -- ---- what is asked of bytes
 
+-- of each state, whether its truth values are 0 or 1
+abbrev pub flags_in : Bool → List ℕ → List Bool
+flags_in u b = row_in (state_flags u) (width u) most_open b files_at
+
+all-more : (bs : List Bool) (k : ℕ) → k < length bs → (all (take k bs) && get_or bs k true) ≡ all (take (suc k) bs)
+unfolding all
+all-more [] k h = absurd (omega arith)
+all-more (x ∷ bs) zero h = sym (and-true x)
+all-more (x ∷ bs) (suc k) h = and_assoc x (all (take k bs)) (get_or bs k true) ∙ ap (λ (y : Bool). x && y) (all-more bs k (omega arith))
+
 module _ (u : Bool) (b : List ℕ) where
-  -- each truth value of the four states, and of what it says of itself
-  pub asked : every is_byte b ≡ true → length b ≡ size_of u
-      → is_session u b ≡ ((state_flags u b files_at && (state_flags u b (files_at + width u) && (state_flags u b (files_at + width u + width u) && state_flags u b (files_at + width u + width u + width u)))) && saying_flags b (said_at u))
-  unfolding is_session all row_in
-  asked h l = rw (h, eq-eqb (length b) (size_of u) l, and-true (state_flags u b (files_at + width u + width u + width u)))
+  flags-length : length (flags_in u b) ≡ most_open
+  flags-length = length-row (state_flags u) (width u) most_open b files_at
+
+  -- one more state
+  pub flags-more : (k : ℕ) → k < most_open → (f : Bool) → f ≡ state_flags u b (files_at + width u * k) → (all (take k (flags_in u b)) && f) ≡ all (take (k + 1) (flags_in u b))
+  flags-more k h f e =
+      ap (λ (g : Bool). all (take k (flags_in u b)) && g) (e ∙ sym (get_or-row (state_flags u) (width u) most_open b files_at k true h))
+      ∙ all-more (flags_in u b) k (omega (arith, flags-length))
+      ∙ ap (λ (j : ℕ). all (take j (flags_in u b))) (sym (add-one k))
+
+  -- those of all four, and each of what it says of itself
+  pub asked : every is_byte b ≡ true → length b ≡ size_of u → (k : ℕ) → most_open ≤ k → is_session u b ≡ (all (take k (flags_in u b)) && saying_flags b (said_at u))
+  unfolding is_session
+  asked h l k m = rw (h, eq-eqb (length b) (size_of u) l, take_all k (flags_in u b) (omega (arith, flags-length))) refl
 
   pub other-size : length b ≢ size_of u → is_session u b ≡ false
   unfolding is_session
@@ -89,7 +111,7 @@ told-by-size false b l = ne_eqb (length b) (size_of true) λ (h : length b ≡ s
 
 -- ---- states without their buffers
 
-bare-state : (u : Bool) (b : List ℕ) (at : ℕ) → (state_in u b at).file ≡ file_in b at
+pub bare-state : (u : Bool) (b : List ℕ) (at : ℕ) → (state_in u b at).file ≡ file_in b at
 unfolding state_in
 bare-state true b at = unfold held_in in refl
 bare-state false b at = refl

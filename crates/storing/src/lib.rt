@@ -4,7 +4,6 @@
 #![tactic(auto)]
 
 ghost use Rattle.std.specs.Prelude.{◌≡◌, ◌≤◌};
-ghost use Rattle.storing.specs.Numbers.{flag_of};
 ghost use Rattle.storing.specs.Stored.{held_width, width, has_buffers, no_hold, saying_stored, start_saying, start_table, lay_start};
 
 use geometry::Geometry;
@@ -48,13 +47,6 @@ pub fn state_width(buffers: bool) -> usize
     if buffers { Form::HELD } else { Form::FILE }
 }
 
-// A truth value as a byte.
-pub fn flag(x: bool) -> u8
-    ensures { result ≡ flag_of x }
-{
-    if x { 1 } else { 0 }
-}
-
 // A buffer that holds nothing.
 pub fn no_hold() -> Holding
     ensures { result ≡ no_hold }
@@ -71,7 +63,7 @@ pub fn no_hold() -> Holding
 fn saying_bytes(s: Saying) -> [u8; 1]
     ensures { result ≡ saying_stored s }
 {
-    [flag(s.refused)]
+    [u8::from(s.refused)]
 }
 
 // What a session with nothing open says of itself.

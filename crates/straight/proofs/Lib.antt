@@ -1,3 +1,4 @@
 pub mod Coded
 pub mod Judged
 pub mod Goes
+pub mod Moved

@@ -1,24 +1,24 @@
-// What a request writes straight in the image: document 01's "Where a record lies" and "Compressed records".
+// How an engine moves bytes (`Mover`), and what moves them straight in the image: document 01's "Where a record lies" and "Compressed records".
 #![tactic(auto)]
 
-ghost use Rattle.std.specs.Prelude.{◌≡◌, [], map, ◌+◌, ◌-◌, ◌≤◌, ◌<◌, ◌^◌, length};
+ghost use Rattle.std.specs.Prelude.{◌≡◌, ◌-◌, length, refl};
+ghost use Rattle.std.proofs.Common.{◌∙◌};
 ghost use Rattle.std.proofs.lemmas.List.Edits.{sets};
+ghost use Rattle.directory.specs.Stamp.{stamp_bytes};
 ghost use Rattle.geometry.specs.Bytes.{padded};
-ghost use Rattle.geometry.specs.Bytes as Bytes;
 ghost use Rattle.geometry.specs.Sizes as Sizes;
-ghost use Rattle.packing.specs.Placing.{changes};
-ghost use Rattle.sessions.specs.Session.{idle};
-ghost use Rattle.steps.specs.Effects.{sector_at, store_effect, blocked_effect, plain_do, plain_all};
+ghost use Rattle.sessions.specs.Session.{idle, fresh};
+ghost use Rattle.steps.specs.Effects.{Bench, store_effect, plain_do};
 ghost use Rattle.steps.specs.Effects as Effects;
+ghost use Rattle.straight.specs.Moving.{scene, Way, moved_by, straight_way};
+ghost use Rattle.straight.specs.Moving as Moving;
 ghost use Rattle.straight.specs.Straight.{writing, code_given};
 
 use coding::encode;
-use directory::Entry;
-use geometry::{Geometry, Place};
+use directory::{Entry, stamp};
+use geometry::Geometry;
 use moving::lay_padded;
-use packing::fits_here;
 use placing::{record_at, room_behind};
-use sessions::OpenFile;
 
 // Record or granule k where it lies, with zeros behind it: up to its last sector's end, or to its own end where it shares its sector.
 pub fn store(image: &mut [u8], e: Entry, k: u32, given: &[u8])
@@ -28,41 +28,6 @@ pub fn store(image: &mut [u8], e: Entry, k: u32, given: &[u8])
     let at = record_at(e, e.kind, k);
     let n = Geometry::bytes_for(e.kind, e.length);
     lay_padded(image, at, given, n, 0);
-}
-
-// Lays xs over a sector of the extent, from one of its bytes on, with b behind them up to the sector's end.
-fn change(image: &mut [u8], e: Entry, sector: usize, byte: usize, xs: &[u8], b: u8)
-    requires { (sector < 2 ^ 40) × (byte < 2 ^ 48) }
-    ensures { image.new ≡ Bytes.lay image.old (sector_at e sector + byte) (padded b (Sizes.sector - byte) xs.now) }
-{
-    let at = Geometry::SECTOR * ((e.first as usize) + sector) + byte;
-    lay_padded(image, at, xs, room_behind(byte), b);
-}
-
-// The blocked record at the file's position, with zeros behind it up to its sector's end.
-pub fn write_blocked(image: &mut [u8], e: Entry, f: OpenFile, given: &[u8])
-    ensures { image.new
-        ≡ plain_do (writing e f given.now) (blocked_effect (writing e f given.now)) image.old }
-{
-    let sector = Geometry::sector_of_record(Geometry::BLOCKED, e.length, f.position);
-    let byte = Geometry::byte_of_record(Geometry::BLOCKED, e.length, f.position);
-    change(image, e, sector, byte, given, 0);
-}
-
-// A coded record, at the place p or in the next sector, with 128 behind it; before it goes on, the rest of the old sector becomes 128.
-pub fn write_coded(image: &mut [u8], e: Entry, p: Place, code: &[u8])
-    ensures { image.new ≡ plain_all (writing e idle []) (map Effects.change (changes p code.now)) image.old }
-{
-    let sector = p.sector as usize;
-    let byte = p.byte as usize;
-    if fits_here(p, code.len()) {
-        change(image, e, sector, byte, code, Geometry::GO_ON);
-    } else if Geometry::SECTOR <= byte {
-        change(image, e, sector + 1, 0, code, Geometry::GO_ON);
-    } else {
-        change(image, e, sector, byte, &code[..0], Geometry::GO_ON);
-        change(image, e, sector + 1, 0, code, Geometry::GO_ON);
-    }
 }
 
 // ---- the code of a record
@@ -78,5 +43,104 @@ pub fn encode_given(e: Entry, given: &[u8], code: &mut [u8]) -> usize
         encode(given, code)
     } else {
         0
+    }
+}
+
+// ---- how an engine moves bytes
+
+// A file that is moved in one engine's way: its entry, the image, and what the file holds there.
+pub trait Mover {
+    ghost use Rattle.directory.specs.declared.Entry.{Entry};
+
+    // the image, and what the file holds
+    ghost bench: { Self → Bench };
+
+    ghost entry: { Self → Entry };
+
+    // the same file, in the same lent bytes
+    ghost Same: { Self → Self → Type 0 };
+
+    // how a sector is held and changed, and how the buffer goes back
+    ghost way: { Way };
+
+    fn entry(&self) -> Entry
+        ensures { result ≡ entry self.now };
+
+    // Sector k of the extent is read.
+    fn hold(&mut self, k: usize)
+        ensures { (bench self.new ≡ way (entry self.old) (Effects.hold k) (bench self.old)) × Same self.old self.new };
+
+    // Lays xs over sector k from one of its bytes on, with `behind` up to the sector's end.
+    fn change(&mut self, k: usize, byte: usize, xs: &[u8], behind: u8)
+        ensures { (bench self.new
+            ≡ way (entry self.old) (Effects.change (record { place = record { sector = k; byte = byte }; bytes = padded behind (Sizes.sector - byte) xs.now })) (bench self.old))
+            × Same self.old self.new };
+
+    // The buffer goes back.
+    fn put_back(&mut self)
+        ensures { (bench self.new ≡ way (entry self.old) Effects.put_back (bench self.old)) × Same self.old self.new };
+
+    // Record or granule k where it lies.
+    fn store(&mut self, k: u32, given: &[u8])
+        ensures { (bench self.new
+            ≡ moved_by way (scene 0 (entry self.old)) (store_effect (writing (entry self.old) idle given.now) k) (bench self.old))
+            × Same self.old self.new };
+
+    // Count and flags in entry i of the directory.
+    fn stamp(&mut self, i: usize)
+        ensures { (bench self.new
+            ≡ moved_by way (scene i (entry self.old)) (Effects.stamp (stamp_bytes (entry self.old).count (entry self.old).flags)) (bench self.old))
+            × Same self.old self.new };
+
+    ghost same_entry: { (a b : Self) → Same a b → entry b ≡ entry a };
+
+    ghost same_itself: { (a : Self) → Same a a };
+
+    ghost same_on: { (a b c : Self) → Same a b → Same b c → Same a c };
+}
+
+// A file whose bytes are moved straight in the image: it holds nothing.
+#[derive(Drop)]
+pub struct Straight<'a> {
+    pub image: &'a mut [u8],
+    pub entry: Entry,
+}
+
+impl<'a> Mover for Straight<'a> {
+    ghost bench = { λ m. Moving.bench m.image.now (fresh idle) };
+
+    ghost entry = { λ m. m.entry };
+
+    ghost Same = { λ m n. (n.entry ≡ m.entry) × (n.image.ghost_name ≡ m.image.ghost_name) };
+
+    ghost way = { straight_way };
+
+    ghost same_entry = { λ a b p. p.0 };
+
+    ghost same_itself = { λ a. (refl, refl) };
+
+    ghost same_on = { λ a b c p q. (q.0 ∙ p.0, q.1 ∙ p.1) };
+
+    fn entry(&self) -> Entry {
+        self.entry
+    }
+
+    fn hold(&mut self, _: usize) {}
+
+    fn change(&mut self, k: usize, byte: usize, xs: &[u8], behind: u8) {
+        // what begins past the last number that is counted begins past any image
+        let sector = k.saturating_add(self.entry.first as usize);
+        let at = Geometry::SECTOR.saturating_mul(sector).saturating_add(byte);
+        lay_padded(self.image, at, xs, room_behind(byte), behind);
+    }
+
+    fn put_back(&mut self) {}
+
+    fn store(&mut self, k: u32, given: &[u8]) {
+        store(self.image, self.entry, k, given);
+    }
+
+    fn stamp(&mut self, i: usize) {
+        stamp(self.image, i, self.entry.count, self.entry.flags);
     }
 }

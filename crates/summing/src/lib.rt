@@ -12,6 +12,7 @@ ghost use Rattle.summing.specs.Moved.{moved};
 use directory::entry_at;
 use lleuadrys::lleuadrys_look;
 use moving::part;
+use requests::{Request, by_code};
 use scripts::{Row, sums_of};
 
 // The sum of the words that a read of entry i moved, which are R bytes of the buffer.
@@ -32,6 +33,7 @@ fn sum_shown(image: &[u8], session: &[u8], i: usize, g: u32) -> u32
 }
 
 // The sum of the words that a row's request moved.
+// Stays: the number of the answer, as the call from C gave it (lleuadrys_request).
 pub fn sum_moved(
     row: Row,
     given: &[u8],
@@ -46,11 +48,14 @@ pub fn sum_moved(
         return 0;
     }
     let i = row.entry as usize;
-    let code = row.code;
-    match code {
-        2 | 4 => sum_read(image, i, buffer),
-        3 | 5 => sums_of(given).words,
-        6 => sum_shown(image, session, i, row.granule),
-        _ => 0,
+    match by_code(row.code, row.granule) {
+        Some(Request::Read) => sum_read(image, i, buffer),
+        Some(Request::GranuleRead(_)) => sum_read(image, i, buffer),
+        Some(Request::Write) => sums_of(given).words,
+        Some(Request::GranuleWrite(_)) => sums_of(given).words,
+        Some(Request::GranuleLook(g)) => sum_shown(image, session, i, g),
+        Some(Request::Open) => 0,
+        Some(Request::Position(_)) => 0,
+        None => 0,
     }
 }

@@ -1,10 +1,11 @@
 -- Laying an entry, a count with flags, or a table: what the bytes are by the width, and what is laid where there is room.
-use mathlib.Core.Path.{◌≡◌, sym, ap, ◌∙◌}
-use mathlib.Core.Bool.{true, false, and-false}
-use mathlib.Core.List.{List}
-use Prim.Native.Nat.{ℕ, ◌+◌, ◌*◌, ◌≤◌, ◌<◌}
+use mathlib.Core.Path.{◌≡◌, refl, sym, ap, ◌∙◌}
+use mathlib.Core.Bool.{true, false, ◌&&◌, and-false}
+use mathlib.Core.List.{List, ◌++◌}
+use Prim.Native.Nat.{ℕ, ◌+◌, ◌-◌, ◌*◌, ◌≤◌, ◌<◌}
 use native.Mathlib.Omega.{arith}
 use native.Mathlib.Decide.{ℕ_discrete}
+use lib.Dec.{ltb}
 use lib.ListN.{length, length-append}
 use borrow.Author.Tests.{lt-ltb, le-ltb}
 use Rattle.geometry.specs.Bytes.{lay, word}
@@ -26,9 +27,6 @@ pub entry-one : (w : ℕ) (e : Entry) → w ≡ 20 → entry_of w e ≡ entry_by
 unfolding entry_of entry_bytes count_of
 entry-one w e q = rw q
 
-pub entry-two : (w : ℕ) (e : Entry) → Wide w → ¬ (w ≡ 20) → entry_of w e ≡ entry_of 22 e
-entry-two w e h n = let q : w ≡ 22 = omega (arith, n) in ap (λ (v : ℕ). entry_of v e) q
-
 module _ (e : Entry) (named : length e.name ≡ 8) where
   long-one : length (entry_of 20 e) ≡ 20
   unfolding entry_of count_of word
@@ -47,6 +45,19 @@ module _ (e : Entry) (named : length e.name ≡ 8) where
           let q : w ≡ 22 = omega (arith, n) in
           ap (λ (v : ℕ). length (entry_of v e)) q ∙ long-two ∙ sym q
 
+pub length-counts : (w count flags : ℕ) → Wide w → length (count_of w count ++ word flags) ≡ w - 16
+length-counts w count flags h = go (ℕ_discrete w 20)
+  where
+    one : length (count_of 20 count ++ word flags) ≡ 4
+    one = unfold count_of word in refl
+
+    two : length (count_of 22 count ++ word flags) ≡ 6
+    two = unfold count_of word long in refl
+
+    go : Dec (w ≡ 20) → length (count_of w count ++ word flags) ≡ w - 16
+    go (yes q) = ap (λ (v : ℕ). length (count_of v count ++ word flags)) q ∙ one ∙ omega arith
+    go (no n) = let q : w ≡ 22 = omega (arith, n) in ap (λ (v : ℕ). length (count_of v count ++ word flags)) q ∙ two ∙ omega arith
+
 -- ---- where there is room, and where not
 
 module _ (w n : ℕ) (b : List ℕ) (i k : ℕ) (x : List ℕ) where
@@ -58,9 +69,13 @@ module _ (w n : ℕ) (b : List ℕ) (i k : ℕ) (x : List ℕ) where
   unfolding lay_row
   row-not l = rw (le-ltb i n l, and-false (has_rows w n b), lay_row)
 
-  pub row-none : has_rows w n b ≡ false → lay_row w n b i k x ≡ b
+  pub row-placed : (has_rows w n b && ltb i n) ≡ true → (p : ℕ) → p ≡ w * i + k → lay_row w n b i k x ≡ lay b p x
   unfolding lay_row
-  row-none h = rw (h, lay_row)
+  row-placed h p e = rw (h, lay_row) (ap (λ (q : ℕ). lay b q x) (sym e))
+
+  pub row-unplaced : (has_rows w n b && ltb i n) ≡ false → lay_row w n b i k x ≡ b
+  unfolding lay_row
+  row-unplaced h = rw (h, lay_row)
 
 module _ (v : ℕ) (out : List ℕ) (w : ℕ) (b : List ℕ) (n : ℕ) where
   pub copied-there : has_rows v n out ≡ true → has_rows w n b ≡ true → copied v out w b n ≡ lay out 0 (row_of (entry_of v) (entries_in w n b))

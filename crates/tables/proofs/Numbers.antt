@@ -4,6 +4,7 @@ use mathlib.Core.Bool.{Bool, true, ◌&&◌}
 use mathlib.Core.List.{List, [], ◌∷◌, map}
 use Prim.Native.Nat.{ℕ, suc, ◌+◌, ◌*◌, ◌/◌, ◌%◌, ◌≤◌, ◌<◌}
 use native.Mathlib.Omega.{arith}
+use Rattle.std.specs.Int.{w32, w64, from_le_bytes}
 use lib.Dec.{eqb}
 use lib.ListN.{length, get_or}
 use lib.Seq.{drop-cons}
@@ -13,7 +14,7 @@ use Rattle.geometry.specs.Lists.{every, same, numbers_from}
 use Rattle.geometry.proofs.Bytes.{same_bytes, length_part, get_d_part, part-split}
 use Rattle.geometry.proofs.Numbered.{length-numbered, get_d_numbered}
 use Rattle.geometry.proofs.Tests.{alike, and_left, and_right, and_both, every-from}
-use Rattle.tables.specs.Numbers.{long_at, number_in}
+use Rattle.tables.specs.Numbers.{number_in}
 
 -- ---- bytes written out
 
@@ -30,41 +31,35 @@ written b at n h =
 
 -- ---- bytes read at once
 
--- the bytes of a number of four, taken out one by one
-module _ (x p q r s : ℕ) (e : x ≡ p + 256 * (q + 256 * (r + 256 * s))) (hp : p < 256) (hq : q < 256) (hr : r < 256) where
-  second : x / 256 % 256 ≡ q
-  second = let t : x / 256 ≡ q + 256 * (r + 256 * s) = omega arith in omega arith
+pub from_le-eight : (x₀ x₁ x₂ x₃ x₄ x₅ x₆ x₇ : ℕ) → from_le_bytes w64 (x₀ ∷ x₁ ∷ x₂ ∷ x₃ ∷ x₄ ∷ x₅ ∷ x₆ ∷ x₇ ∷ []) ≡ number_in (x₀ ∷ x₁ ∷ x₂ ∷ x₃ ∷ x₄ ∷ x₅ ∷ x₆ ∷ x₇ ∷ [])
+unfolding number_in
+from_le-eight x₀ x₁ x₂ x₃ x₄ x₅ x₆ x₇ = omega arith
 
-  third : x / 65536 % 256 ≡ r
-  third = let t : x / 65536 ≡ r + 256 * s = omega arith in omega arith
+pub from_le-four : (x₀ x₁ x₂ x₃ : ℕ) → from_le_bytes w32 (x₀ ∷ x₁ ∷ x₂ ∷ x₃ ∷ []) ≡ number_in (x₀ ∷ x₁ ∷ x₂ ∷ x₃ ∷ [])
+unfolding number_in
+from_le-four x₀ x₁ x₂ x₃ = omega arith
 
-  fourth : x / 16777216 ≡ s
-  fourth = omega arith
+-- eight are four, and four behind them
+pub eight-fours : (b : List ℕ) (at : ℕ) → at + 8 ≤ length b → number_in (part b at 4) + 4294967296 * number_in (part b (at + 4) 4) ≡ number_in (part b at 8)
+unfolding number_in
+eight-fours b at h =
+    let front = written b at 3 (omega arith) in
+    rw (part-split b at 8 4 (omega arith), front) (omega arith)
 
-  turned-bytes : 16777216 * (x % 256) + 65536 * (x / 256 % 256) + 256 * (x / 65536 % 256) + x / 16777216 ≡ 65536 * (256 * p + q) + (256 * r + s)
-  turned-bytes = let t : x % 256 ≡ p = omega arith in rw (second, third, fourth) (omega arith)
+-- no byte behind a place is the place
+pub at_front : (b : List ℕ) (at x : ℕ) → (x ≡ number_in (part b (at + 0) 8)) × (every is_byte (part b (at + 0) 8) ≡ true)
+    → (x ≡ number_in (part b at 8)) × (every is_byte (part b at 8) ≡ true)
+at_front b at x h = let e : at + 0 ≡ at = omega arith in rw e at h
 
-module _ (b : List ℕ) (at : ℕ) where
-  -- eight are four, and four behind them
-  pub eight-fours : at + 8 ≤ length b → number_in (part b at 4) + 4294967296 * number_in (part b (at + 4) 4) ≡ number_in (part b at 8)
-  unfolding number_in
-  eight-fours h =
-      let front = written b at 3 (omega arith) in
-      rw (part-split b at 8 4 (omega arith), front) (omega arith)
+-- the eight bytes at a place
+pub from_le-part : (b : List ℕ) (at : ℕ) → at + 8 ≤ length b → from_le_bytes w64 (part b at 8) ≡ number_in (part b at 8)
+from_le-part b at h = rw (written b at 7 h) (from_le-eight _ _ _ _ _ _ _ _)
 
-  module _ (g : (k : ℕ) → get_or b k 0 < 256) where
-    pub turned_two : at + 2 ≤ length b → 256 * (number_in (part b at 2) % 256) + number_in (part b at 2) / 256 ≡ word_at b at
-    unfolding number_in word_at
-    turned_two h = rw (written b at 1 h) (omega (arith, g at, g (at + 1)))
-
-    pub turned-four : at + 4 ≤ length b
-        → 16777216 * (number_in (part b at 4) % 256) + 65536 * (number_in (part b at 4) / 256 % 256) + 256 * (number_in (part b at 4) / 65536 % 256) + number_in (part b at 4) / 16777216
-        ≡ long_at b at
-    unfolding number_in long_at word_at
-    turned-four h =
-        let e : (at + 2) + 1 ≡ at + 3 = omega arith in
-        let n : number_in (part b at 4) ≡ get_or b at 0 + 256 * (get_or b (at + 1) 0 + 256 * (get_or b (at + 2) 0 + 256 * get_or b (at + 3) 0)) = ap number_in (written b at 3 h) ∙ omega arith in
-        rw e (turned-bytes (number_in (part b at 4)) (get_or b at 0) (get_or b (at + 1) 0) (get_or b (at + 2) 0) (get_or b (at + 3) 0) n (g at) (g (at + 1)) (g (at + 2)))
+-- two bytes read as a number, and turned, are the word
+pub turned_two : (b : List ℕ) (at : ℕ) → ((k : ℕ) → get_or b k 0 < 256) → at + 2 ≤ length b
+    → 256 * (number_in (part b at 2) % 256) + number_in (part b at 2) / 256 ≡ word_at b at
+unfolding number_in word_at
+turned_two b at g h = rw (written b at 1 h) (omega (arith, g at, g (at + 1)))
 
 -- a word that was turned, byte by byte
 pub turned-back : (k t : ℕ) → k < 65536 → t ≡ 256 * (k % 256) + k / 256 → word k ≡ (t % 256 ∷ t / 256 ∷ [])
@@ -128,21 +123,13 @@ same_number (x ∷ xs) (y ∷ ys) l g h =
     let c : number_in xs ≡ number_in ys = eqb-true (number_in xs) (number_in ys) (n ∙ and_right (eqb x y) (same xs ys) q) in
     eq-eqb (x + 256 * number_in xs) (y + 256 * number_in ys) (omega arith))
 
-module _ (b : List ℕ) (g : (k : ℕ) → get_or b k 0 < 256) where
-  eight-bytes : (at : ℕ) → at + 8 ≤ length b → every is_byte (part b at 8) ≡ true
-  eight-bytes at h =
-      every-from is_byte (part b at 8) 0 λ (i : ℕ) (q : i < length (part b at 8)).
-      let n : length (part b at 8) ≡ 8 = length_part b at 8 h in
-      lt-ltb (get_or (part b at 8) i 0) 256 (omega (arith, get_d_part b at 8 i 0 (omega arith), g (at + i)))
+pub eight-bytes : (b : List ℕ) → ((k : ℕ) → get_or b k 0 < 256) → (at : ℕ) → at + 8 ≤ length b → every is_byte (part b at 8) ≡ true
+eight-bytes b g at h =
+    every-from is_byte (part b at 8) 0 λ (i : ℕ) (q : i < length (part b at 8)).
+    let n : length (part b at 8) ≡ 8 = length_part b at 8 h in
+    lt-ltb (get_or (part b at 8) i 0) 256 (omega (arith, get_d_part b at 8 i 0 (omega arith), g (at + i)))
 
-  -- eight bytes and eight others
-  pub same-eights : (d : List ℕ) → ((k : ℕ) → get_or d k 0 < 256) → (at end : ℕ) → at + 8 ≤ length b → end + 8 ≤ length d
-      → eqb (number_in (part b at 8)) (number_in (part d end 8)) ≡ same (part b at 8) (part d end 8)
-  same-eights d g' at end h k =
-      same_number (part b at 8) (part d end 8) (length_part b at 8 h ∙ sym (length_part d end 8 k)) (eight-bytes at h) (others d g' end k)
-    where
-      others : (d : List ℕ) → ((k : ℕ) → get_or d k 0 < 256) → (end : ℕ) → end + 8 ≤ length d → every is_byte (part d end 8) ≡ true
-      others d g' end k =
-          every-from is_byte (part d end 8) 0 λ (i : ℕ) (q : i < length (part d end 8)).
-          let n : length (part d end 8) ≡ 8 = length_part d end 8 k in
-          lt-ltb (get_or (part d end 8) i 0) 256 (omega (arith, get_d_part d end 8 i 0 (omega arith), g' (end + i)))
+-- eight bytes and eight others
+pub same-eights : (b d : List ℕ) (at end : ℕ) → at + 8 ≤ length b → end + 8 ≤ length d → every is_byte (part b at 8) ≡ true → every is_byte (part d end 8) ≡ true
+    → eqb (number_in (part b at 8)) (number_in (part d end 8)) ≡ same (part b at 8) (part d end 8)
+same-eights b d at end h k g g' = same_number (part b at 8) (part d end 8) (length_part b at 8 h ∙ sym (length_part d end 8 k)) g g'

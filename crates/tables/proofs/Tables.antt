@@ -3,13 +3,12 @@ use mathlib.Core.Path.{◌≡◌, refl, sym, ap, ◌∙◌}
 use mathlib.Core.Bool.{Bool, true, false, ◌&&◌, ◌||◌, not, and-true, and-false, or-true, or-false}
 use mathlib.Core.List.{List, []}
 use Prim.Native.Nat.{ℕ, ◌+◌, ◌-◌, ◌*◌, ◌/◌, ◌%◌, ◌≤◌, ◌<◌, max}
-use native.Mathlib.Nat.{mul-le-mul_left}
 use native.Mathlib.Omega.{arith}
 use lib.Dec.{eqb, leb}
 use lib.ListN.{length, take, get_or}
 use lib.Seq.{take_all}
 use borrow.Author.Tests.{eq-eqb, ne_eqb, le-leb, lt-leb, leb-true}
-use Rattle.geometry.specs.Bytes.{part, word_at}
+use Rattle.geometry.specs.Bytes.{part, word_at, is_byte}
 use Rattle.geometry.specs.Lists.{every, pairwise, same}
 use Rattle.geometry.proofs.Bytes.{part-all}
 use Rattle.geometry.proofs.Front.{front-one, front-some}
@@ -22,13 +21,14 @@ use Rattle.directory.proofs.Free.{zero-free, zero-good}
 use Rattle.directory.proofs.Grouped.{grouped, free-apart}
 use Rattle.directory.proofs.Find.{found_none}
 use Rattle.directory.specs.declared.Entry.{Entry}
-use Rattle.directory.specs.declared.Found.TheVariants.{Nothing}
+use Rattle.std.specs.Prelude.{None}
 use Rattle.tables.specs.Numbers.{long_at, number_in}
 use Rattle.tables.specs.Rows.{row_in}
 use Rattle.tables.specs.Tables.{has_rows, entry_in, entries_in, table_in}
+use Rattle.tables.specs.Table.{rows_of}
+use Rattle.tables.specs.declared.Table.{Table}
 use Rattle.tables.proofs.Numbers.{same-eights}
 use Rattle.tables.proofs.Rows.{length-row, get_or-row, take_row}
-use Rattle.tables.proofs.Widths.{below, one_on, row_before, row_upto}
 use Rattle.tables.proofs.Entries.{name-is}
 
 -- ---- entry i
@@ -55,6 +55,14 @@ module _ (w n : ℕ) (b : List ℕ) where
   pub table_none : has_rows w n b ≡ false → table_in w n b ≡ []
   unfolding table_in
   table_none h = rw (h, table_in)
+
+-- the table that was made of bytes
+pub table-made : (t : Table) (w n : ℕ) (b : List ℕ) → (has_rows w n b ≡ true) × ((t.bytes.now ≡ b) × ((t.width ≡ w) × (t.rows ≡ n))) → rows_of t ≡ table_in w n b
+table-made t w n b h =
+    ap (entries_in t.width t.rows) h.1.0
+    ∙ ap (λ (k : ℕ). entries_in k t.rows b) h.1.1.0
+    ∙ ap (λ (k : ℕ). entries_in w k b) h.1.1.1
+    ∙ sym (table_is w n b h.0)
 
 -- ---- the next entry
 
@@ -96,43 +104,28 @@ module _ (w i : ℕ) (b : List ℕ) where
       more-good N
       ∙ rw (zero-good N (entry_in w b (w * i)) z, free-apart (entry_in w b (w * i)) (zero-free N (entry_in w b (w * i)) z) (entries_in w i b), and-true (table_good N (entries_in w i b)))
 
-pub zero-less : (w i at : ℕ) (b : List ℕ) → 0 < i → at ≡ w * (i - 1) → is_zero (entry_in w b at) ≡ true → (N : ℕ) → table_good N (entries_in w i b) ≡ table_good N (entries_in w (i - 1) b)
-zero-less w i at b h q z N =
+pub zero-less : (w i : ℕ) (b : List ℕ) → 0 < i → is_zero (entry_in w b (w * (i - 1))) ≡ true → (N : ℕ) → table_good N (entries_in w i b) ≡ table_good N (entries_in w (i - 1) b)
+zero-less w i b h z N =
     let e : i ≡ (i - 1) + 1 = omega arith in
-    ap (λ (n : ℕ). table_good N (entries_in w n b)) e ∙ zero_more w (i - 1) b (ap (λ (n : ℕ). is_zero (entry_in w b n)) (sym q) ∙ z) N
+    ap (λ (n : ℕ). table_good N (entries_in w n b)) e ∙ zero_more w (i - 1) b z N
 
--- ---- a rule of one, of the entries before a byte
-
-pub record Kept (w : ℕ) (b : List ℕ) (p : Entry → Bool) (at : ℕ) : Type 0 where
-  pub row : ℕ
-  pub place : at ≡ w * row
-  pub all : every p (entries_in w row b) ≡ true
+-- ---- a rule of one, of the first entries
 
 module _ (w : ℕ) (b : List ℕ) (p : Entry → Bool) where
-  pub kept-none : Kept w b p 0
+  pub every-none : every p (entries_in w 0 b) ≡ true
   unfolding entries_in row_in every
-  kept-none = record { row = 0; place = omega arith; all = refl }
+  every-none = refl
 
-  module _ (at : ℕ) (k : Kept w b p at) where
-    pub kept_on : p (entry_in w b at) ≡ true → Kept w b p (at + w)
-    kept_on e = record { row = k.row + 1; place = omega (arith, one_on w k.row); all = more-every w k.row b p ∙ rw (sym k.place, k.all, e) }
+  pub every_on : (i : ℕ) → every p (entries_in w i b) ≡ true → p (entry_in w b (w * i)) ≡ true → every p (entries_in w (i + 1) b) ≡ true
+  every_on i h e = more-every w i b p ∙ rw (h, e)
 
-    -- of all before byte `end`, where entry i begins
-    module _ (end : ℕ) where
-      pub kept_off : at < end → p (entry_in w b at) ≡ false → (i : ℕ) → end ≡ w * i → false ≡ every p (entries_in w i b)
-      kept_off h e i q =
-          let l : length (entries_in w i b) ≡ i = length-entries w i b in
-          let j : k.row < i = row_before w k.row i (omega arith) in
-          sym (denied (every p (entries_in w i b)) (p (entry_in w b at)) (λ (t : every p (entries_in w i b) ≡ true).
-          sym (ap p (entry-is w i b k.row at j k.place)) ∙ every-get_or p (entries_in w i b) k.row free_entry t (omega arith)) e)
+  pub every_off : (j i : ℕ) → j < i → p (entry_in w b (w * j)) ≡ false → false ≡ every p (entries_in w i b)
+  every_off j i h e =
+      sym (denied (every p (entries_in w i b)) (p (entry_in w b (w * j))) (λ (t : every p (entries_in w i b) ≡ true).
+      sym (ap p (entry-is w i b j (w * j) h refl)) ∙ every-get_or p (entries_in w i b) j free_entry t (omega (arith, length-entries w i b))) e)
 
-      pub kept_whole : 0 < w → end ≤ at → (i : ℕ) → end ≡ w * i → true ≡ every p (entries_in w i b)
-      kept_whole s h i q =
-          let j : i ≤ k.row = row_upto w i k.row s (omega arith) in
-          let l : length (entries_in w k.row b) ≡ k.row = length-entries w k.row b in
-          let m : length (entries_in w i b) ≡ i = length-entries w i b in
-          sym (every-from p (entries_in w i b) free_entry λ (n : ℕ) (u : n < length (entries_in w i b)).
-          ap p (entry-is w i b n (w * n) (omega arith) refl ∙ sym (entry-is w k.row b n (w * n) (omega arith) refl)) ∙ every-get_or p (entries_in w k.row b) n free_entry k.all (omega arith))
+  pub every-whole : (j i : ℕ) → j ≡ i → every p (entries_in w j b) ≡ true → true ≡ every p (entries_in w i b)
+  every-whole j i e h = sym (ap (λ (n : ℕ). every p (entries_in w n b)) (sym e) ∙ h)
 
 -- ---- names
 
@@ -141,15 +134,15 @@ used-kinds : (w : ℕ) (b : List ℕ) (at end kind : ℕ) → kind ≡ word_at b
 unfolding entry_in
 used-kinds w b at end kind k u = rw (sym k, ne_eqb (word_at b (end + 8)) 0 u) (or-false (eqb kind 0))
 
-module _ (w : ℕ) (b : List ℕ) (g : (k : ℕ) → get_or b k 0 < 256) (at : ℕ) (room : at + 8 ≤ length b) (x : ℕ) (p : x ≡ number_in (part b at 8)) where
+module _ (w : ℕ) (b : List ℕ) (at : ℕ) (room : at + 8 ≤ length b) (x : ℕ) (p : (x ≡ number_in (part b at 8)) × (every is_byte (part b at 8) ≡ true)) where
   -- with another entry
-  module _ (end : ℕ) (room' : end + 8 ≤ length b) (y : ℕ) (q : y ≡ number_in (part b end 8)) where
+  module _ (end : ℕ) (room' : end + 8 ≤ length b) (y : ℕ) (q : (y ≡ number_in (part b end 8)) × (every is_byte (part b end 8) ≡ true)) where
     abbrev differ : Bool
     differ = names_differ (entry_in w b at) (entry_in w b end)
 
     alike-names : same (entry_in w b at).name (entry_in w b end).name ≡ eqb x y
     unfolding entry_in
-    alike-names = rw (name-is b at room, name-is b end room', p, q) (sym (same-eights b g b g at end room room'))
+    alike-names = rw (name-is b at room, name-is b end room', p.0, q.0) (sym (same-eights b b at end room room' p.1 q.1))
 
     pub names-other : ¬ (x ≡ y) → true ≡ differ
     unfolding names_differ
@@ -160,12 +153,12 @@ module _ (w : ℕ) (b : List ℕ) (g : (k : ℕ) → get_or b k 0 < 256) (at : �
     names_same e kind k u = sym (rw (alike-names, eq-eqb x y e) (used-kinds w b at end kind k u))
 
   -- with a name that is looked for
-  module _ (name : List ℕ) (g' : (k : ℕ) → get_or name k 0 < 256) (long : length name ≡ 8) (y : ℕ) (q : y ≡ number_in (part name 0 8)) where
+  module _ (name : List ℕ) (long : length name ≡ 8) (y : ℕ) (q : (y ≡ number_in (part name 0 8)) × (every is_byte (part name 0 8) ≡ true)) where
     sought : same (entry_in w b at).name name ≡ eqb x y
     unfolding entry_in
     sought =
-        rw (name-is b at room, p, q)
-        (sym (same-eights b g name g' at 0 room (omega arith) ∙ ap (same (part b at 8)) (part-all name 8 long)))
+        rw (name-is b at room, p.0, q.0)
+        (sym (same-eights b name at 0 room (omega arith) p.1 q.1 ∙ ap (same (part b at 8)) (part-all name 8 long)))
 
     pub match-other : ¬ (x ≡ y) → matches name (entry_in w b at) ≡ false
     unfolding matches
@@ -192,23 +185,25 @@ unfolding matches
 match_none name e h = rw (ne_eqb (length name) 8 h)
 
 -- nothing is found by a name of another length, nor in no table
-pub unnamed-none : (t : List Entry) (name : List ℕ) → ¬ (length name ≡ 8) → find t name ≡ told Nothing
+pub unnamed-none : (t : List Entry) (name : List ℕ) → ¬ (length name ≡ 8) → find t name ≡ told None
 unnamed-none t name h = found_none t name free_entry (λ j l. match_none name (get_or t j free_entry) h)
 
-pub empty-none : (t : List Entry) (name : List ℕ) → t ≡ [] → find t name ≡ told Nothing
+pub empty-none : (t : List Entry) (name : List ℕ) → t ≡ [] → find t name ≡ told None
 empty-none t name e = found_none t name free_entry (λ j l. absurd (omega (arith, ap length e)))
 
 -- ---- extents
 
 -- two words at once
-module _ (b : List ℕ) (g : (k : ℕ) → get_or b k 0 < 256) (at x : ℕ) (p : x ≡ long_at b (at + 12)) where
+module _ (b : List ℕ) (at x : ℕ) (p : (x ≡ long_at b (at + 12)) × (word_at b ((at + 12) + 2) < 65536)) where
+  second : (at + 12) + 2 ≡ at + 14
+  second = omega arith
+
   low : word_at b (at + 14) < 65536
-  unfolding word_at
-  low = omega (arith, g (at + 14), g ((at + 14) + 1))
+  low = rw second at p.1
 
   both : x ≡ 65536 * word_at b (at + 12) + word_at b (at + 14)
   unfolding long_at
-  both = let e : (at + 12) + 2 ≡ at + 14 = omega arith in p ∙ rw e
+  both = p.0 ∙ rw second
 
   begins : x / 65536 ≡ word_at b (at + 12)
   begins = omega (arith, both, low)
@@ -270,69 +265,54 @@ two-told e t r p q =
 all-follow : (p q : Entry → Bool) → ((e : Entry) → p e ≡ true → q e ≡ true) → (t : List Entry) → every p t ≡ true → every q t ≡ true
 all-follow p q f t h = every-from q t free_entry λ (i : ℕ) (l : i < length t). f (get_or t i free_entry) (every-get_or p t i free_entry h l)
 
--- ---- a table tested from its front: the entries before a byte keep every rule, and end by a sector
+-- ---- a table tested from its front: the first entries keep every rule, and end by a sector
 
-pub record Passed (w N : ℕ) (b : List ℕ) (s at : ℕ) : Type 0 where
-  pub row : ℕ
-  pub place : at ≡ w * row
-  pub good : table_good N (entries_in w row b) ≡ true
-  pub ended : every (ends_by s) (entries_in w row b) ≡ true
+pub record Passed (w N : ℕ) (b : List ℕ) (s i : ℕ) : Type 0 where
+  pub good : table_good N (entries_in w i b) ≡ true
+  pub ended : every (ends_by s) (entries_in w i b) ≡ true
 
 module _ (w N : ℕ) (b : List ℕ) where
   pub passed_none : Passed w N b 0 0
   unfolding entries_in row_in every pairwise
-  passed_none = record { row = 0; place = omega arith; good = grouped N []; ended = refl }
+  passed_none = record { good = grouped N []; ended = refl }
 
-  module _ (s at : ℕ) (o : Passed w N b s at) where
-    on : (s' : ℕ) → s ≤ s' → entry_good N (entry_in w b at) ≡ true → every (λ a. two_good a (entry_in w b at)) (entries_in w o.row b) ≡ true → ends_by s' (entry_in w b at) ≡ true
-        → Passed w N b s' (at + w)
+  module _ (s i : ℕ) (o : Passed w N b s i) where
+    abbrev next : Entry
+    next = entry_in w b (w * i)
+
+    on : (s' : ℕ) → s ≤ s' → entry_good N next ≡ true → every (λ a. two_good a next) (entries_in w i b) ≡ true → ends_by s' next ≡ true → Passed w N b s' (i + 1)
     on s' l g t e = record {
-      row = o.row + 1;
-      place = omega (arith, o.place, one_on w o.row);
-      good = more-good w o.row b N ∙ rw (sym o.place, o.good, g, t);
-      ended = more-every w o.row b (ends_by s') ∙ rw (sym o.place, all-follow (ends_by s) (ends_by s') (λ (x : Entry) (h : ends_by s x ≡ true). ends_on s s' x l h) (entries_in w o.row b) o.ended, e);
+      good = more-good w i b N ∙ rw (o.good, g, t);
+      ended = more-every w i b (ends_by s') ∙ rw (all-follow (ends_by s) (ends_by s') (λ (x : Entry) (h : ends_by s x ≡ true). ends_on s s' x l h) (entries_in w i b) o.ended, e);
     }
 
-    pub passed-zero : is_zero (entry_in w b at) ≡ true → (s' : ℕ) → s' ≡ s → Passed w N b s' (at + w)
+    pub passed-zero : is_zero next ≡ true → (s' : ℕ) → s' ≡ s → Passed w N b s' (i + 1)
     passed-zero z s' q =
-        let f = zero-free N (entry_in w b at) z in
-        on s' (omega arith) (zero-good N (entry_in w b at) z) (free-apart (entry_in w b at) f (entries_in w o.row b)) (rw (eq-eqb (entry_in w b at).kind 0 f))
+        let f = zero-free N next z in
+        on s' (omega arith) (zero-good N next z) (free-apart next f (entries_in w i b)) (rw (eq-eqb next.kind 0 f))
 
-    pub passed-used : entry_good N (entry_in w b at) ≡ true → (r : Bool) → ((i : ℕ) → at ≡ w * i → r ≡ every (λ a. two_good a (entry_in w b at)) (entries_in w i b)) → r ≡ true
-        → (end s' : ℕ) → end ≡ word_at b (at + 12) + word_at b (at + 14) → s' ≡ max s end → Passed w N b s' (at + w)
+    pub passed-used : entry_good N next ≡ true → (r : Bool) → r ≡ every (λ a. two_good a next) (entries_in w i b) → r ≡ true
+        → (end s' : ℕ) → end ≡ word_at b (w * i + 12) + word_at b (w * i + 14) → s' ≡ max s end → Passed w N b s' (i + 1)
     unfolding entry_in
     passed-used g r t q end s' m n =
-        on s' (omega arith) g (sym (t o.row o.place) ∙ q) (rw (sym m, le-leb end s' (omega arith), or-true (is_free (entry_in w b at))))
+        on s' (omega arith) g (sym t ∙ q) (rw (sym m, le-leb end s' (omega arith), or-true (is_free next)))
 
     -- those before it share no sector with one that begins behind them
-    pub passed-behind : (i : ℕ) → at ≡ w * i → 0 < w → s ≤ word_at b (at + 12) → every (λ a. extents_apart a (entry_in w b at)) (entries_in w i b) ≡ true
+    pub passed-behind : s ≤ word_at b (w * i + 12) → every (λ a. extents_apart a next) (entries_in w i b) ≡ true
     unfolding entry_in
-    passed-behind i q p h =
-        let e : o.row ≡ i = omega (arith, row_upto w o.row i p (omega (arith, o.place)), row_upto w i o.row p (omega (arith, o.place))) in
-        ap (λ (n : ℕ). every (λ a. extents_apart a (entry_in w b at)) (entries_in w n b)) (sym e)
-        ∙ all-follow (ends_by s) (λ a. extents_apart a (entry_in w b at)) (λ (a : Entry) (m : ends_by s a ≡ true). ends-apart s a (entry_in w b at) h m) (entries_in w o.row b) o.ended
+    passed-behind h = all-follow (ends_by s) (λ a. extents_apart a next) (λ (a : Entry) (m : ends_by s a ≡ true). ends-apart s a next h m) (entries_in w i b) o.ended
 
-    pub passed-room : (n m : ℕ) → at < w * n → n ≤ m → at + w ≤ w * m
-    passed-room n m h l =
-        omega (arith, o.place, below w o.row n (row_before w o.row n (omega (arith, o.place))), mul-le-mul_left w l)
-
-    module _ (n : ℕ) where
-      here : at < w * n → o.row < n
-      here h = row_before w o.row n (omega (arith, o.place))
-
+    module _ (n : ℕ) (here : i < n) where
       -- one that breaks a rule of one, and one that breaks a rule of two
-      pub passed-one : at < w * n → entry_good N (entry_in w b at) ≡ false → false ≡ table_good N (entries_in w n b)
-      passed-one h e =
-          sym (grouped N (entries_in w n b) ∙ front-one (entry_good N) two_good (entries_in w n b) o.row free_entry (omega (arith, length-entries w n b, here h))
-          (ap (entry_good N) (entry-is w n b o.row at (here h) o.place) ∙ e))
+      pub passed-one : entry_good N next ≡ false → false ≡ table_good N (entries_in w n b)
+      passed-one e =
+          sym (grouped N (entries_in w n b) ∙ front-one (entry_good N) two_good (entries_in w n b) i free_entry (omega (arith, length-entries w n b))
+          (ap (entry_good N) (entry-is w n b i (w * i) here refl) ∙ e))
 
-      pub passed-two : at < w * n → (r : Bool) → ((i : ℕ) → at ≡ w * i → r ≡ every (λ a. two_good a (entry_in w b at)) (entries_in w i b)) → r ≡ false
-          → false ≡ table_good N (entries_in w n b)
-      passed-two h r t q =
-          sym (grouped N (entries_in w n b) ∙ front-some (entry_good N) two_good (entries_in w n b) o.row free_entry (omega (arith, length-entries w n b, here h))
-          (rw (entry-is w n b o.row at (here h) o.place, first-entries w n b o.row (omega (arith, here h))) (sym (t o.row o.place) ∙ q)))
+      pub passed-two : (r : Bool) → r ≡ every (λ a. two_good a next) (entries_in w i b) → r ≡ false → false ≡ table_good N (entries_in w n b)
+      passed-two r t q =
+          sym (grouped N (entries_in w n b) ∙ front-some (entry_good N) two_good (entries_in w n b) i free_entry (omega (arith, length-entries w n b))
+          (rw (entry-is w n b i (w * i) here refl, first-entries w n b i (omega arith)) (sym t ∙ q)))
 
-      pub passed-whole : 0 < w → w * n ≤ at → at ≤ w * n → true ≡ table_good N (entries_in w n b)
-      passed-whole p h k =
-          let e : o.row ≡ n = omega (arith, row_upto w o.row n p (omega (arith, o.place)), row_upto w n o.row p (omega (arith, o.place))) in
-          sym (ap (λ (m : ℕ). table_good N (entries_in w m b)) (sym e) ∙ o.good)
+    pub passed-whole : (n : ℕ) → i ≡ n → true ≡ table_good N (entries_in w n b)
+    passed-whole n e = sym (ap (λ (m : ℕ). table_good N (entries_in w m b)) (sym e) ∙ o.good)

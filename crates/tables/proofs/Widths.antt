@@ -57,6 +57,9 @@ module _ (w n : ℕ) (b : List ℕ) where
 pub below : (w i n : ℕ) → i < n → w * i + w ≤ w * n
 below w i n h = omega (arith, mul-le-mul_left w h, mul-suc w i)
 
+pub room : (w i n : ℕ) (b : List ℕ) → w * n ≤ length b → i < n → w * i + w ≤ length b
+room w i n b h l = omega (arith, below w i n l)
+
 pub one_on : (w i : ℕ) → w * i + w ≡ w * (i + 1)
 one_on w i = omega (arith, mul-suc w i)
 

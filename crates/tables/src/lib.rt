@@ -2,8 +2,8 @@
 // Fields: name 8, kind 2, length 2, first 2, sectors 2, count 2 or 4, flags 2; high byte first.
 #![tactic(auto)]
 
-ghost use Rattle.std.specs.Prelude.{◌≡◌, true, false, ◌&&◌, [], ◌∷◌, ℕ, ◌+◌, ◌*◌, ◌/◌, ◌%◌, ◌≤◌, max, length};
-ghost use Rattle.geometry.specs.Bytes.{part, padded, word_at};
+ghost use Rattle.std.specs.Prelude.{◌≡◌, true, false, ◌&&◌, ℕ, ◌+◌, ◌-◌, ◌*◌, ◌≤◌, ◌<◌, length, MatchOption};
+ghost use Rattle.geometry.specs.Bytes.{part, word_at, is_byte};
 ghost use Rattle.geometry.specs.Lists.{every};
 ghost use Rattle.directory.specs.Entries.{entry_at};
 ghost use Rattle.directory.specs.Rules.{names_differ, extents_apart, table_good};
@@ -12,9 +12,8 @@ ghost use Rattle.directory.specs.Search.{told, find};
 ghost use Rattle.tables.specs.Numbers.{long_at, number_in};
 ghost use Rattle.tables.specs.Tables.{Wide, has_rows, count_at, entry_in, entries_in, table_in};
 
-use directory::{Entry, Found, free_entry};
+use directory::{Entry, free_entry};
 use geometry::Geometry;
-use moving::turned;
 use names::is_name;
 use vetting::used_good;
 
@@ -29,51 +28,31 @@ impl Width {
     pub const TWO: usize = 22;
 }
 
-// ---- numbers where they lie: two, four or eight bytes are read low byte first, as one number, and turned where the high byte is the first
+// ---- numbers where they lie
 
-// Two bytes as a number, the first counting least.
-fn two(a: u8, b: u8) -> u16
-    ensures { result ≡ number_in (a ∷ b ∷ []) }
+// The eight bytes at a place.
+fn eight_bytes(b: &[u8], at: usize) -> [u8; 8]
+    requires { at + 8 ≤ length b.now }
+    ensures { result ≡ part b.now at 8 }
 {
-    (a as u16) + 256 * (b as u16)
+    [
+        b[at],
+        b[at + 1],
+        b[at + 2],
+        b[at + 3],
+        b[at + 4],
+        b[at + 5],
+        b[at + 6],
+        b[at + 7],
+    ]
 }
 
-// Four bytes.
-fn four(a: u8, b: u8, c: u8, d: u8) -> u32
-    ensures { result ≡ number_in (a ∷ b ∷ c ∷ d ∷ []) }
-{
-    (a as u32) + 256 * (b as u32) + 65536 * (c as u32) + 16777216 * (d as u32)
-}
-
-// The two bytes at a place as a number.
-fn two_in(b: &[u8], at: usize) -> u16
-    requires { at + 2 ≤ length b.now }
-    ensures { result ≡ number_in (part b.now at 2) }
-{
-    two(b[at], b[at + 1])
-}
-
-// The four bytes.
-fn four_in(b: &[u8], at: usize) -> u32
-    requires { at + 4 ≤ length b.now }
-    ensures { result ≡ number_in (part b.now at 4) }
-{
-    four(b[at], b[at + 1], b[at + 2], b[at + 3])
-}
-
-// The eight bytes, to be compared with others or with zero.
+// The eight bytes as one number, the first counting least, to be compared with others or with zero.
 fn eight_in(b: &[u8], at: usize) -> usize
     requires { at + 8 ≤ length b.now }
-    ensures { result ≡ number_in (part b.now at 8) }
+    ensures { (result ≡ number_in (part b.now at 8)) × (every is_byte (part b.now at 8) ≡ true) }
 {
-    (four_in(b, at) as usize) + 4294967296 * (four_in(b, at + 4) as usize)
-}
-
-// A number of four bytes with its bytes the other way round.
-fn turned_long(x: u32) -> u32
-    ensures { result ≡ 16777216 * (x % 256) + 65536 * (x / 256 % 256) + 256 * (x / 65536 % 256) + x / 16777216 }
-{
-    16777216 * (x % 256) + 65536 * (x / 256 % 256) + 256 * (x / 65536 % 256) + x / 16777216
+    usize::from_le_bytes(eight_bytes(b, at))
 }
 
 // The word at a place, high byte first.
@@ -81,18 +60,18 @@ fn word_in(b: &[u8], at: usize) -> u16
     requires { at + 2 ≤ length b.now }
     ensures { result ≡ word_at b.now at }
 {
-    turned(two_in(b, at))
+    u16::from_be_bytes([b[at], b[at + 1]])
 }
 
 // The two words at a place, high word first.
 fn long_in(b: &[u8], at: usize) -> u32
     requires { at + 4 ≤ length b.now }
-    ensures { result ≡ long_at b.now at }
+    ensures { (result ≡ long_at b.now at) × (word_at b.now (at + 2) < 65536) }
 {
-    turned_long(four_in(b, at))
+    u32::from_be_bytes([b[at], b[at + 1], b[at + 2], b[at + 3]])
 }
 
-// ---- an entry where it lies
+// ---- a table where it lies
 
 // Whether bytes have room for so many entries of a width that there is.
 pub fn has_rows(b: &[u8], width: usize, rows: usize) -> bool
@@ -107,229 +86,285 @@ pub fn has_rows(b: &[u8], width: usize, rows: usize) -> bool
     }
 }
 
-// The count of the entry at a place.
-fn count_in(b: &[u8], width: usize, at: usize) -> u32
-    requires { Wide width × (at + width ≤ length b.now) }
-    ensures { result ≡ count_at width b.now (at + 16) }
-{
-    if width == Width::ONE {
-        word_in(b, at + 16) as u32
-    } else {
-        long_in(b, at + 16)
-    }
+// Bytes, an entry's width, and how many entries they begin with.
+#[derive(Clone, Copy)]
+pub struct Table<'a> {
+    pub bytes: &'a [u8],
+    pub width: usize,
+    pub rows: usize,
+    pub ghost wide: { Wide width },
+    pub ghost fits: { width * rows ≤ length bytes.now },
 }
 
-// The eight bytes of its name.
-fn name_in(b: &[u8], at: usize) -> [u8; 8]
-    requires { at + 8 ≤ length b.now }
-    ensures { result ≡ padded 0 8 (part b.now at 8) }
-{
-    [
-        b[at],
-        b[at + 1],
-        b[at + 2],
-        b[at + 3],
-        b[at + 4],
-        b[at + 5],
-        b[at + 6],
-        b[at + 7],
-    ]
-}
+impl<'a> Table<'a> {
+    ghost use Rattle.tables.specs.Table.{rows_of};
 
-// The entry.
-fn entry_at(b: &[u8], width: usize, at: usize) -> Entry
-    requires { Wide width × (at + width ≤ length b.now) }
-    ensures { result ≡ entry_in width b.now at }
-{
-    let name = name_in(b, at);
-    Entry {
-        name: name,
-        kind: word_in(b, at + 8),
-        length: word_in(b, at + 10),
-        first: word_in(b, at + 12),
-        sectors: word_in(b, at + 14),
-        count: count_in(b, width, at),
-        flags: word_in(b, at + (width - 2)),
+    // The table of so many entries that bytes hold; nothing where they have no room for it, or it is of another width.
+    pub fn of(b: &'a [u8], width: usize, rows: usize) -> Option<Table<'a>>
+        ensures { MatchOption result (has_rows width rows b.now ≡ false)
+            (λ t. (has_rows width rows b.now ≡ true) × ((t.bytes.now ≡ b.now) × ((t.width ≡ width) × (t.rows ≡ rows)))) }
+    {
+        if has_rows(b, width, rows) {
+            Some(Table {
+                bytes: b,
+                width: width,
+                rows: rows,
+            })
+        } else {
+            None
+        }
     }
-}
 
-// ---- the rules of one entry
+    // ---- an entry
 
-// Whether all its bytes are zero: three numbers of eight are, of which the last begins in the one before. A used entry has sectors,
-// which are among the last eight, so these are looked at first.
-fn is_zero(b: &[u8], width: usize, at: usize) -> bool
-    requires { Wide width × (at + width ≤ length b.now) }
-    ensures { result ≡ is_zero (entry_in width b.now at) }
-{
-    if eight_in(b, at + (width - 8)) != 0 {
-        return false;
+    // Where entry i begins.
+    fn place(&self, i: usize) -> usize
+        requires { i < self.now.rows }
+        ensures { (result ≡ self.now.width * i) × (result + self.now.width ≤ length self.now.bytes.now) }
+    {
+        self.width * i
     }
-    if eight_in(b, at + 8) != 0 {
-        return false;
+
+    // The word k bytes behind.
+    fn word(&self, i: usize, k: usize) -> u16
+        requires { (i < self.now.rows) × (k + 2 ≤ self.now.width) }
+        ensures { result ≡ word_at self.now.bytes.now (self.now.width * i + k) }
+    {
+        word_in(self.bytes, self.place(i) + k)
     }
-    eight_in(b, at) == 0
-}
 
-// Whether one that is not zero keeps the rules of one entry, in an image of n sectors.
-fn used_row(b: &[u8], width: usize, at: usize, n: u32) -> bool
-    requires { Wide width × ((at + width ≤ length b.now) × (is_zero (entry_in width b.now at) ≡ false)) }
-    ensures { result ≡ entry_good n (entry_in width b.now at) }
-{
-    if !is_name(&b[at..at + 8]) {
-        return false;
+    // The two words.
+    fn long(&self, i: usize, k: usize) -> u32
+        requires { (i < self.now.rows) × (k + 4 ≤ self.now.width) }
+        ensures { (result ≡ long_at self.now.bytes.now (self.now.width * i + k)) × (word_at self.now.bytes.now (self.now.width * i + k + 2) < 65536) }
+    {
+        long_in(self.bytes, self.place(i) + k)
     }
-    let e = entry_at(b, width, at);
-    used_good(e, n)
-}
 
-// The sector behind its extent.
-fn end_in(b: &[u8], at: usize) -> u32
-    requires { at + 16 ≤ length b.now }
-    ensures { result ≡ word_at b.now (at + 12) + word_at b.now (at + 14) }
-{
-    (word_in(b, at + 12) as u32) + (word_in(b, at + 14) as u32)
-}
-
-// ---- the rules of two entries
-
-// Whether an entry has another name than a used one, whose name is that number. Eight bytes are compared at once, and a kind is asked for
-// where they are the same.
-fn differs(b: &[u8], at: usize, name: usize) -> bool
-    requires { at + 10 ≤ length b.now }
-    ensures { (w end : ℕ) → end + 8 ≤ length b.now → name ≡ number_in (part b.now end 8) → ¬ (word_at b.now (end + 8) ≡ 0)
-        → result ≡ names_differ (entry_in w b.now at) (entry_in w b.now end) }
-{
-    if eight_in(b, at) != name {
-        return true;
+    // The eight bytes as one number.
+    fn eight(&self, i: usize, k: usize) -> usize
+        requires { (i < self.now.rows) × (k + 8 ≤ self.now.width) }
+        ensures { (result ≡ number_in (part self.now.bytes.now (self.now.width * i + k) 8)) × (every is_byte (part self.now.bytes.now (self.now.width * i + k) 8) ≡ true) }
+    {
+        eight_in(self.bytes, self.place(i) + k)
     }
-    word_in(b, at + 8) == Geometry::FREE
-}
 
-// Whether it shares no sector with a used one, which has those from `first` up to `behind`. Both its words are read at once, and its kind
-// where they tell of a shared sector.
-fn apart(b: &[u8], at: usize, first: u32, behind: u32) -> bool
-    requires { at + 16 ≤ length b.now }
-    ensures { (w : ℕ) (e : Entry) → first ≡ e.first → behind ≡ e.first + e.sectors → ¬ (e.kind ≡ 0) → result ≡ extents_apart (entry_in w b.now at) e }
-{
-    let extent = long_in(b, at + 12);
-    if 65536 * (behind as usize) <= (extent as usize) {
-        return true;
+    // The count.
+    fn count(&self, i: usize) -> u32
+        requires { i < self.now.rows }
+        ensures { result ≡ count_at self.now.width self.now.bytes.now (self.now.width * i + 16) }
+    {
+        if self.width == Width::ONE {
+            self.word(i, 16) as u32
+        } else {
+            self.long(i, 16)
+        }
     }
-    if extent / 65536 + extent % 65536 <= first {
-        return true;
-    }
-    word_in(b, at + 8) == Geometry::FREE
-}
 
-// Whether the used entry at byte end has another name than each before it.
-fn named_once(b: &[u8], width: usize, end: usize) -> bool
-    requires { Wide width × ((end + width ≤ length b.now) × (¬ (word_at b.now (end + 8) ≡ 0))) }
-    ensures { (i : ℕ) → end ≡ width * i → result ≡ every (λ f. names_differ f (entry_in width b.now end)) (entries_in width i b.now) }
-{
-    let name = eight_in(b, end);
-    let mut at: usize = 0;
-    while at < end {
-        if !differs(b, at, name) {
+    // The entry.
+    fn row(&self, i: usize) -> Entry
+        requires { i < self.now.rows }
+        ensures { result ≡ entry_in self.now.width self.now.bytes.now (self.now.width * i) }
+    {
+        Entry {
+            name: eight_bytes(self.bytes, self.place(i)),
+            kind: self.word(i, 8),
+            length: self.word(i, 10),
+            first: self.word(i, 12),
+            sectors: self.word(i, 14),
+            count: self.count(i),
+            flags: self.word(i, self.width - 2),
+        }
+    }
+
+    // Entry i; a free one where there is none.
+    pub fn entry(&self, i: usize) -> Entry
+        ensures { result ≡ entry_at (rows_of self.now) i }
+    {
+        if i < self.rows {
+            self.row(i)
+        } else {
+            free_entry()
+        }
+    }
+
+    // ---- the rules of one entry
+
+    // Whether all bytes of entry i are zero: three numbers of eight are, of which the last begins in the one before. A used entry has sectors,
+    // which are among the last eight, so these are looked at first.
+    fn is_zero(&self, i: usize) -> bool
+        requires { i < self.now.rows }
+        ensures { result ≡ is_zero (entry_in self.now.width self.now.bytes.now (self.now.width * i)) }
+    {
+        if self.eight(i, self.width - 8) != 0 {
             return false;
         }
-        at += width;
-    }
-    true
-}
-
-// Whether it has another name than each before it, and shares no sector with any.
-fn stands_apart(b: &[u8], width: usize, end: usize) -> bool
-    requires { Wide width × ((end + width ≤ length b.now) × (¬ (word_at b.now (end + 8) ≡ 0))) }
-    ensures { (i : ℕ) → end ≡ width * i → result ≡ every (λ f. two_good f (entry_in width b.now end)) (entries_in width i b.now) }
-{
-    let name = eight_in(b, end);
-    let first = word_in(b, end + 12) as u32;
-    let behind = end_in(b, end);
-    let mut at: usize = 0;
-    while at < end {
-        if !apart(b, at, first, behind) {
+        if self.eight(i, 8) != 0 {
             return false;
         }
-        if !differs(b, at, name) {
+        self.eight(i, 0) == 0
+    }
+
+    // Whether one that is not zero keeps the rules of one entry, in an image of n sectors.
+    fn used_row(&self, i: usize, n: u32) -> bool
+        requires { (i < self.now.rows) × (is_zero (entry_in self.now.width self.now.bytes.now (self.now.width * i)) ≡ false) }
+        ensures { result ≡ entry_good n (entry_in self.now.width self.now.bytes.now (self.now.width * i)) }
+    {
+        let at = self.place(i);
+        if !is_name(&self.bytes[at..at + 8]) {
             return false;
         }
-        at += width;
+        used_good(self.row(i), n)
     }
-    true
-}
 
-// The same, where those before it end by sector `behind`: if it begins there or later it shares none.
-fn two_good(b: &[u8], width: usize, end: usize, behind: u32) -> bool
-    requires { (Wide width × ((end + width ≤ length b.now) × (¬ (word_at b.now (end + 8) ≡ 0))))
-        × ((i : ℕ) → end ≡ width * i → behind ≤ word_at b.now (end + 12) → every (λ f. extents_apart f (entry_in width b.now end)) (entries_in width i b.now) ≡ true) }
-    ensures { (i : ℕ) → end ≡ width * i → result ≡ every (λ f. two_good f (entry_in width b.now end)) (entries_in width i b.now) }
-{
-    if (word_in(b, end + 12) as u32) < behind {
-        stands_apart(b, width, end)
-    } else {
-        named_once(b, width, end)
+    // The sector behind its extent.
+    fn end(&self, i: usize) -> u32
+        requires { i < self.now.rows }
+        ensures { result ≡ word_at self.now.bytes.now (self.now.width * i + 12) + word_at self.now.bytes.now (self.now.width * i + 14) }
+    {
+        (self.word(i, 12) as u32) + (self.word(i, 14) as u32)
     }
-}
 
-// ---- the table
+    // ---- the rules of two entries
 
-// How many entries there are up to the last that is not zero: those behind it break no rule.
-fn rows_in_use(b: &[u8], width: usize, rows: usize) -> usize
-    requires { Wide width × (width * rows ≤ length b.now) }
-    ensures { (result ≤ rows) × ((N : ℕ) → table_good N (entries_in width rows b.now) ≡ table_good N (entries_in width result b.now)) }
-{
-    let mut i = rows;
-    let mut at = width * rows;
-    while 0 < i {
-        at -= width;
-        if !is_zero(b, width, at) {
-            return i;
+    // Whether entry j has another name than a used one, whose name is that number. Eight bytes are compared at once, and a kind is asked for
+    // where they are the same.
+    fn differs(&self, j: usize, name: usize) -> bool
+        requires { j < self.now.rows }
+        ensures { (end : ℕ) → end + 8 ≤ length self.now.bytes.now → (name ≡ number_in (part self.now.bytes.now end 8)) × (every is_byte (part self.now.bytes.now end 8) ≡ true) → ¬ (word_at self.now.bytes.now (end + 8) ≡ 0)
+            → result ≡ names_differ (entry_in self.now.width self.now.bytes.now (self.now.width * j)) (entry_in self.now.width self.now.bytes.now end) }
+    {
+        if self.eight(j, 0) != name {
+            return true;
         }
-        i -= 1;
+        self.word(j, 8) == Geometry::FREE
     }
-    0
-}
 
-// The greater of two numbers.
-fn greatest(a: u32, b: u32) -> u32
-    ensures { result ≡ max a b }
-{
-    if a <= b { b } else { a }
-}
+    // Whether it shares no sector with a used one, which has those from `first` up to `behind`. Both its words are read at once, and its kind
+    // where they tell of a shared sector.
+    fn apart(&self, j: usize, first: u32, behind: u32) -> bool
+        requires { j < self.now.rows }
+        ensures { (e : Entry) → first ≡ e.first → behind ≡ e.first + e.sectors → ¬ (e.kind ≡ 0)
+            → result ≡ extents_apart (entry_in self.now.width self.now.bytes.now (self.now.width * j)) e }
+    {
+        let extent = self.long(j, 12);
+        if 65536 * (behind as usize) <= (extent as usize) {
+            return true;
+        }
+        if extent / 65536 + extent % 65536 <= first {
+            return true;
+        }
+        self.word(j, 8) == Geometry::FREE
+    }
 
-// Whether so many entries keep every rule of a directory but the decoding one, in an image of n sectors.
-fn rows_good(b: &[u8], width: usize, rows: usize, n: u32) -> bool
-    requires { Wide width × (width * rows ≤ length b.now) }
-    ensures { result ≡ table_good n (entries_in width rows b.now) }
-{
-    let used = rows_in_use(b, width, rows);
-    let end = width * used;
-    let mut behind: u32 = 0;
-    let mut at: usize = 0;
-    while at < end {
-        if !is_zero(b, width, at) {
-            if !used_row(b, width, at, n) {
+    // Whether entry i, a used one, has another name than each before it.
+    fn named_once(&self, i: usize) -> bool
+        requires { (i < self.now.rows) × (¬ (word_at self.now.bytes.now (self.now.width * i + 8) ≡ 0)) }
+        ensures { result ≡ every (λ f. names_differ f (entry_in self.now.width self.now.bytes.now (self.now.width * i))) (entries_in self.now.width i self.now.bytes.now) }
+    {
+        let name = self.eight(i, 0);
+        for j in 0..i {
+            if !self.differs(j, name) {
                 return false;
             }
-            if !two_good(b, width, at, behind) {
+        }
+        true
+    }
+
+    // Whether it has another name than each before it, and shares no sector with any.
+    fn stands_apart(&self, i: usize) -> bool
+        requires { (i < self.now.rows) × (¬ (word_at self.now.bytes.now (self.now.width * i + 8) ≡ 0)) }
+        ensures { result ≡ every (λ f. two_good f (entry_in self.now.width self.now.bytes.now (self.now.width * i))) (entries_in self.now.width i self.now.bytes.now) }
+    {
+        let name = self.eight(i, 0);
+        let first = self.word(i, 12) as u32;
+        let behind = self.end(i);
+        for j in 0..i {
+            if !self.apart(j, first, behind) {
                 return false;
             }
-            behind = greatest(behind, end_in(b, at));
+            if !self.differs(j, name) {
+                return false;
+            }
         }
-        at += width;
+        true
     }
-    true
+
+    // The same, where those before it end by sector `behind`: if it begins there or later it shares none.
+    fn two_good(&self, i: usize, behind: u32) -> bool
+        requires { ((i < self.now.rows) × (¬ (word_at self.now.bytes.now (self.now.width * i + 8) ≡ 0)))
+            × (behind ≤ word_at self.now.bytes.now (self.now.width * i + 12) → every (λ f. extents_apart f (entry_in self.now.width self.now.bytes.now (self.now.width * i))) (entries_in self.now.width i self.now.bytes.now) ≡ true) }
+        ensures { result ≡ every (λ f. two_good f (entry_in self.now.width self.now.bytes.now (self.now.width * i))) (entries_in self.now.width i self.now.bytes.now) }
+    {
+        if (self.word(i, 12) as u32) < behind {
+            self.stands_apart(i)
+        } else {
+            self.named_once(i)
+        }
+    }
+
+    // ---- the table
+
+    // How many entries there are up to the last that is not zero: those behind it break no rule.
+    fn rows_in_use(&self) -> usize
+        ensures { (result ≤ self.now.rows) × ((N : ℕ) → table_good N (entries_in self.now.width self.now.rows self.now.bytes.now) ≡ table_good N (entries_in self.now.width result self.now.bytes.now)) }
+    {
+        for i in (0..self.rows).rev() {
+            if !self.is_zero(i) {
+                return i + 1;
+            }
+        }
+        0
+    }
+
+    // Whether the entries keep every rule of a directory but the decoding one, in an image of n sectors.
+    pub fn is_good(&self, n: u32) -> bool
+        ensures { result ≡ table_good n (rows_of self.now) }
+    {
+        let mut behind: u32 = 0;
+        for i in 0..self.rows_in_use() {
+            if !self.is_zero(i) {
+                if !self.used_row(i, n) {
+                    return false;
+                }
+                if !self.two_good(i, behind) {
+                    return false;
+                }
+                behind = behind.max(self.end(i));
+            }
+        }
+        true
+    }
+
+    // The number of the lowest entry that has that name.
+    pub fn find(&self, name: &[u8]) -> Option<usize>
+        ensures { told result ≡ find (rows_of self.now) name.now }
+    {
+        if name.len() != 8 {
+            return None;
+        }
+        let x = eight_in(name, 0);
+        for i in 0..self.rows {
+            if self.eight(i, 0) == x {
+                if self.word(i, 8) != Geometry::FREE {
+                    return Some(i);
+                }
+            }
+        }
+        None
+    }
 }
+
+// ---- the table that bytes hold
 
 // Whether bytes hold a table of so many entries of that width that keeps every rule of a directory but the decoding one, in an image of so many sectors.
 // Bytes with no room for it hold none, and there is none of a width but 20 and 22.
 pub fn table_good(b: &[u8], width: usize, rows: usize, sectors: u32) -> bool
     ensures { result ≡ (has_rows width rows b.now && table_good sectors (entries_in width rows b.now)) }
 {
-    if has_rows(b, width, rows) {
-        rows_good(b, width, rows, sectors)
-    } else {
-        false
+    match Table::of(b, width, rows) {
+        Some(t) => t.is_good(sectors),
+        None => false,
     }
 }
 
@@ -337,37 +372,18 @@ pub fn table_good(b: &[u8], width: usize, rows: usize, sectors: u32) -> bool
 pub fn entry_in(b: &[u8], width: usize, rows: usize, i: usize) -> Entry
     ensures { result ≡ entry_at (table_in width rows b.now) i }
 {
-    if !has_rows(b, width, rows) {
-        return free_entry();
-    }
-    if i < rows {
-        entry_at(b, width, width * i)
-    } else {
-        free_entry()
+    match Table::of(b, width, rows) {
+        Some(t) => t.entry(i),
+        None => free_entry(),
     }
 }
 
 // The number of the lowest entry of the table that has that name.
-pub fn search_in(b: &[u8], width: usize, rows: usize, name: &[u8]) -> Found
+pub fn search_in(b: &[u8], width: usize, rows: usize, name: &[u8]) -> Option<usize>
     ensures { told result ≡ find (table_in width rows b.now) name.now }
 {
-    if name.len() != 8 {
-        return Found::Nothing;
+    match Table::of(b, width, rows) {
+        Some(t) => t.find(name),
+        None => None,
     }
-    if !has_rows(b, width, rows) {
-        return Found::Nothing;
-    }
-    let x = eight_in(name, 0);
-    let mut at: usize = 0;
-    let mut i: usize = 0;
-    while i < rows {
-        if eight_in(b, at) == x {
-            if word_in(b, at + 8) != Geometry::FREE {
-                return Found::Number(i);
-            }
-        }
-        at += width;
-        i += 1;
-    }
-    Found::Nothing
 }

@@ -1,5 +1,5 @@
 -- The tapes and rows that an image shows, and what a request on one of them makes of it and tells. Definitions only.
-use Rattle.std.specs.Prelude.{Bool, true, false, ◌&&◌, not, List, [], map, ℕ, length, get_or, set, eqb}
+use Rattle.std.specs.Prelude.{Bool, true, false, ◌&&◌, not, List, [], map, ℕ, length, get_or, set, eqb, Option, None}
 use Rattle.geometry.specs.Bytes.{lay}
 use Rattle.geometry.specs.Lists.{how_many, every}
 use Rattle.geometry.specs.Places.{origin}
@@ -7,7 +7,7 @@ use Rattle.geometry.specs.Sizes.{free, random}
 use Rattle.directory.specs.Entries.{table_of, is_free, is_kind, is_marked, is_protected}
 use Rattle.requests.specs.Judge.{judge}
 use Rattle.requests.specs.Numbers.{number_of}
-use Rattle.sessions.specs.Session.{extent}
+use Rattle.sessions.specs.Session.{at, extent}
 use Rattle.tapes.specs.Row.{Row, row_of, row_facts, row_next, granule}
 use Rattle.tapes.specs.Tape.{Shape, Tape, tape_of, tape_facts, tape_next, tape_record}
 use Rattle.directory.specs.declared.Entry.{Entry}
@@ -17,7 +17,6 @@ use Rattle.requests.specs.declared.Facts.{Facts}
 use Rattle.requests.specs.declared.Request.{Request}
 use Rattle.requests.specs.declared.Request.TheVariants.{Open, Read, Write, GranuleRead, GranuleWrite, GranuleLook, Position}
 use Rattle.sessions.specs.declared.Spot.{Spot}
-use Rattle.sessions.specs.declared.Spot.TheVariants.{Closed, At}
 
 -- what an entry is: free, a sequential file, or a random one
 pub data Model : Type 0 where
@@ -47,10 +46,10 @@ is_open_model (tape t) = t.is_open
 is_open_model (row w) = w.is_open
 
 -- where it stands
-unfoldable pub model_spot : Model → Spot
-model_spot nothing = Closed
-model_spot (tape t) = elim t.is_open [ true ↦ At t.position t.beyond | false ↦ Closed ]
-model_spot (row w) = elim w.is_open [ true ↦ At 0 false | false ↦ Closed ]
+unfoldable pub model_spot : Model → Option Spot
+model_spot nothing = None
+model_spot (tape t) = elim t.is_open [ true ↦ at t.position t.beyond | false ↦ None ]
+model_spot (row w) = elim w.is_open [ true ↦ at 0 false | false ↦ None ]
 
 -- no such entry: kind 0
 abbrev pub no_facts : Facts
@@ -129,7 +128,7 @@ pub record Report : Type 0 where
   pub told : List ℕ
   pub buffer : List ℕ
   pub shown : List ℕ
-  pub spots : List Spot
+  pub spots : List (Option Spot)
 
 unfoldable pub open_models : List Model → ℕ
 open_models ms = how_many is_open_model ms

@@ -1,15 +1,22 @@
 -- What a caller is told of a session in lent bytes, entry by entry, and of an answer's number. Definitions only.
-use Rattle.std.specs.Prelude.{true, false, List, [], ◌∷◌, ◌++◌, ℕ, get_or}
+use Rattle.std.specs.Prelude.{true, false, List, [], ◌∷◌, ℕ, Result, Ok, Err, get_or}
 use Rattle.directory.specs.Entries.{entry_at, is_free}
 use Rattle.directory.specs.Search.{find}
 use Rattle.directory.specs.declared.Entry.{Entry}
-use Rattle.tables.specs.Rows.{row_of}
+use Rattle.requests.specs.Numbers.{number_of}
+use Rattle.requests.specs.declared.Answer.TheVariants.{Refused}
+use Rattle.requests.specs.declared.Refusal.{Refusal}
 use Rattle.storing.specs.Stored.{has_buffers, is_session, lent_session}
 use Rattle.texts.specs.Texts.{spelled}
 
 -- "An entry is also found by name": 0 and its number, or 8, in the session's table; 12 where the bytes are no session
 unfoldable pub found : List ℕ → List ℕ → ℕ × List ℕ
 found b name = elim (is_session (has_buffers b) b) [ true ↦ find (lent_session b).table name | false ↦ (12, []) ]
+
+-- what a search hands out, as it is told: 0 and the entry's number, or the number of why there is none
+abbrev pub told_of : Result ℕ Refusal → ℕ × List ℕ
+told_of (Ok i) = (0, i ∷ [])
+told_of (Err x) = (number_of (Refused x), [])
 
 -- the fields of an entry behind its name, from number 1 on, in the order of its bytes; none other than 0 of a free entry
 unfoldable pub field_of : Entry → ℕ → ℕ
@@ -44,7 +51,3 @@ words =
 
 unfoldable pub words_of : ℕ → List ℕ
 words_of n = get_or words n (spelled "no such number")
-
--- the words of all, one behind another, and those of no answer last
-unfoldable pub all_words : List ℕ
-all_words = row_of (λ w. w) words ++ spelled "no such number"

@@ -1,10 +1,8 @@
 -- Texts as ASCII bytes, and what it is to put one into bytes that are lent. Definitions only.
-use Rattle.std.specs.Prelude.{◌≡◌, Bool, true, false, ◌&&◌, List, [], ◌∷◌, ◌++◌, ℕ, zero, suc, ◌+◌, ◌-◌, ◌*◌, ◌/◌, ◌%◌, min, length, leb, ltb}
+use Rattle.std.specs.Prelude.{◌≡◌, Bool, true, false, ◌&&◌, Option, Some, None, List, [], ◌∷◌, ◌++◌, ℕ, zero, suc, ◌+◌, ◌-◌, ◌*◌, ◌/◌, ◌%◌, min, length, leb, ltb}
 use Prim.Native.Char.{code}
 use Prim.Native.String.{String, [] as end, ◌∷◌ as ◌then◌}
 use Rattle.std.proofs.lemmas.List.Edits.{sets}
-use Rattle.texts.specs.declared.Numeral.{Numeral}
-use Rattle.texts.specs.declared.Numeral.TheVariants.{Number, Nothing}
 
 -- the numbers of a text's characters
 unfoldable pub spelled : String → List ℕ
@@ -38,15 +36,15 @@ abbrev pub is_digit : ℕ → Bool
 is_digit c = leb 48 c && leb c 57
 
 -- a number with a digit more behind it; there is none where c is no digit, or where it has more than 32 bits
-unfoldable pub with_digit : Numeral → ℕ → Numeral
-with_digit (Number n) c = elim (is_digit c && ltb (10 * n + (c - 48)) 4294967296) [ true ↦ Number (10 * n + (c - 48)) | false ↦ Nothing ]
-with_digit Nothing c = Nothing
+unfoldable pub with_digit : Option ℕ → ℕ → Option ℕ
+with_digit (Some n) c = elim (is_digit c && ltb (10 * n + (c - 48)) 4294967296) [ true ↦ Some (10 * n + (c - 48)) | false ↦ None ]
+with_digit None c = None
 
 -- with one after another
-unfoldable pub with_digits : Numeral → List ℕ → Numeral
+unfoldable pub with_digits : Option ℕ → List ℕ → Option ℕ
 with_digits r [] = r
 with_digits r (c ∷ cs) = with_digits (with_digit r c) cs
 
 -- the number that a text of one to ten digits says: proofs/Reading.antt shows that it reads "decimal" back
-unfoldable pub number_in : List ℕ → Numeral
-number_in xs = elim (leb 1 (length xs) && leb (length xs) 10) [ true ↦ with_digits (Number 0) xs | false ↦ Nothing ]
+unfoldable pub number_in : List ℕ → Option ℕ
+number_in xs = elim (leb 1 (length xs) && leb (length xs) 10) [ true ↦ with_digits (Some 0) xs | false ↦ None ]

@@ -4,13 +4,6 @@
 ghost use Rattle.std.specs.Prelude.{◌≡◌, [], ◌∷◌, ◌++◌, ◌+◌, ◌%◌};
 ghost use Rattle.texts.specs.Texts.{decimal_in, decimal, Wrote, with_digit, number_in};
 
-// What a text says: a number, or none.
-#[derive(Drop)]
-pub enum Numeral {
-    Number(u32),
-    Nothing,
-}
-
 // Puts c at the place at, if there is such a place. The place behind it.
 pub fn put_byte(out: &mut [u8], at: usize, c: u8) -> usize
     ensures { Wrote out.old at (c ∷ []) out.new result }
@@ -28,10 +21,8 @@ pub fn put_all(out: &mut [u8], at: usize, xs: &[u8]) -> usize
     ensures { Wrote out.old at xs.now out.new result }
 {
     let mut a = at;
-    let mut k = 0;
-    while k < xs.len() {
-        a = put_byte(out, a, xs[k]);
-        k += 1;
+    for &c in xs {
+        a = put_byte(out, a, c);
     }
     a
 }
@@ -66,42 +57,27 @@ pub fn put_number(out: &mut [u8], at: usize, n: u32, c: u8) -> usize
 }
 
 // A number with a digit more behind it. There is none where c is no digit, or where it has more than 32 bits.
-fn with_digit(r: Numeral, c: u8) -> Numeral
-    ensures { result ≡ with_digit r c }
+#[tactic(auto, unfolding(crate::specs::Texts::with_digit))]
+fn longer(n: u32, c: u8) -> Option<u32>
+    ensures { result ≡ with_digit (Some n) c }
 {
-    match r {
-        Numeral::Number(n) => longer(n, c),
-        Numeral::Nothing => Numeral::Nothing,
+    if !c.is_ascii_digit() {
+        return None;
     }
-}
-
-// The same of a number.
-fn longer(n: u32, c: u8) -> Numeral
-    ensures { result ≡ with_digit (Numeral.Number n) c }
-{
-    if (c < 48) | (57 < c) {
-        return Numeral::Nothing;
-    }
-    let m = 10 * (n as u64) + ((c - 48) as u64);
-    if m < 4294967296 {
-        Numeral::Number(m as u32)
-    } else {
-        Numeral::Nothing
-    }
+    n.checked_mul(10)?.checked_add((c - b'0') as u32)
 }
 
 // The number that a text says in decimal, in one to ten digits; none if it is anything else.
-pub fn number_in(text: &[u8]) -> Numeral
+#[tactic(auto, unfolding(crate::specs::Texts::number_in))]
+pub fn number_in(text: &[u8]) -> Option<u32>
     ensures { result ≡ number_in text.now }
 {
-    if (text.len() < 1) | (10 < text.len()) {
-        return Numeral::Nothing;
+    if text.is_empty() || 10 < text.len() {
+        return None;
     }
-    let mut r = Numeral::Number(0);
-    let mut k = 0;
-    while k < text.len() {
-        r = with_digit(r, text[k]);
-        k += 1;
+    let mut n = 0;
+    for &c in text {
+        n = longer(n, c)?;
     }
-    r
+    Some(n)
 }

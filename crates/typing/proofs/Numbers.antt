@@ -1,24 +1,14 @@
--- A number of two bytes, and a kind by its word: the branches are the definition's.
+-- A kind by its word: the branches are the definition's.
 use mathlib.Core.Path.{◌≡◌, refl, ap, ◌∙◌}
 use mathlib.Core.Bool.{true, false}
 use mathlib.Core.List.{List, [], ◌∷◌}
-use Prim.Native.Nat.{ℕ, suc, ◌≤◌, ◌<◌, min}
-use native.Mathlib.Omega.{arith}
+use Prim.Native.Nat.{ℕ, suc}
 use lib.Dec.{ltb}
 use Rattle.geometry.specs.Lists.{first_with, same}
 use Rattle.geometry.proofs.Tests.{chosen, not_chosen}
 use Rattle.texts.specs.Texts.{spelled}
-use Rattle.texts.specs.declared.Numeral.TheVariants as numeral
-use Rattle.typing.specs.declared.Typed.{Typed}
-use Rattle.typing.specs.declared.Typed.TheVariants.{Number}
-use Rattle.typing.specs.Typing.{in_two_bytes, number_of, kinds, kind_of}
-
-module _ (n : ℕ) where
-  pub fits : n ≤ 65535 → in_two_bytes (numeral.Number n) ≡ Number n
-  fits h = let e : min n 65535 ≡ n = omega arith in ap Number e
-
-  pub too-great : 65535 < n → in_two_bytes (numeral.Number n) ≡ Number 65535
-  too-great h = let e : min n 65535 ≡ 65535 = omega arith in ap Number e
+use Rattle.std.specs.Prelude.{Option, Some}
+use Rattle.typing.specs.Typing.{number_of, kinds, kind_of}
 
 -- the words are compared one after another
 module _ (text : List ℕ) where
@@ -35,26 +25,26 @@ module _ (text : List ℕ) where
   unfolding first_with
   nowhere = refl
 
-  by_place : (k : ℕ) → first_with (same text) kinds ≡ k → kind_of text ≡ elim (ltb k 4) [ true ↦ Number (suc k) | false ↦ number_of text ]
+  by_place : (k : ℕ) → first_with (same text) kinds ≡ k → kind_of text ≡ elim (ltb k 4) [ true ↦ Some (suc k) | false ↦ number_of text ]
   unfolding kind_of kinds
-  by_place k e = ap (λ (k : ℕ). elim (ltb k 4) as (λ _. Typed) [ true ↦ Number (suc k) | false ↦ number_of text ]) e
+  by_place k e = ap (λ (k : ℕ). elim (ltb k 4) as (λ _. Option ℕ) [ true ↦ Some (suc k) | false ↦ number_of text ]) e
 
-  pub first : same text (spelled "unblocked") ≡ true → kind_of text ≡ Number 1
+  pub first : same text (spelled "unblocked") ≡ true → kind_of text ≡ Some 1
   unfolding kinds
   first a = by_place 0 (here _ _ a)
 
   module _ (a : same text (spelled "unblocked") ≡ false) where
-    pub second : same text (spelled "blocked") ≡ true → kind_of text ≡ Number 2
+    pub second : same text (spelled "blocked") ≡ true → kind_of text ≡ Some 2
     unfolding kinds
     second b = by_place 1 (later _ _ a 0 (here _ _ b))
 
     module _ (b : same text (spelled "blocked") ≡ false) where
-      pub third : same text (spelled "compressed") ≡ true → kind_of text ≡ Number 3
+      pub third : same text (spelled "compressed") ≡ true → kind_of text ≡ Some 3
       unfolding kinds
       third c = by_place 2 (later _ _ a 1 (later _ _ b 0 (here _ _ c)))
 
       module _ (c : same text (spelled "compressed") ≡ false) where
-        pub fourth : same text (spelled "random") ≡ true → kind_of text ≡ Number 4
+        pub fourth : same text (spelled "random") ≡ true → kind_of text ≡ Some 4
         unfolding kinds
         fourth d = by_place 3 (later _ _ a 2 (later _ _ b 1 (later _ _ c 0 (here _ _ d))))
 

@@ -12,7 +12,7 @@ use Rattle.directory.specs.Entries.{is_free, free_entry, entry_at}
 use Rattle.directory.specs.Rules.{name_good, table_rules, table_good}
 use Rattle.directory.specs.Search.{matches, told, find}
 use Rattle.directory.specs.declared.Entry.{Entry}
-use Rattle.directory.specs.declared.Found.TheVariants.{Nothing}
+use Rattle.std.specs.Prelude.{None}
 use Rattle.directory.proofs.Find.{found_none}
 use Rattle.shapes.specs.Made.{is_named}
 use Rattle.typing.specs.Typing.{is_typed_name, name_of}
@@ -28,7 +28,7 @@ module _ (name : List ℕ) (e : Entry) where
       and_both (eqb (length name) 8) (is_name name) (and_left (eqb (length name) 8) _ m)
       (or-either (is_free e) (is_name e.name) g (λ f. both_ways (is_free e) f u) (λ n. ap is_name (sym s) ∙ n))
 
-pub unknown : (N : ℕ) (table : List Entry) → table_good N table ≡ true → (text : List ℕ) → is_typed_name text ≡ false → find table (name_of text) ≡ told Nothing
+pub unknown : (N : ℕ) (table : List Entry) → table_good N table ≡ true → (text : List ℕ) → is_typed_name text ≡ false → find table (name_of text) ≡ told None
 unfolding table_good table_rules
 unknown N table good text bad =
     found_none table (name_of text) free_entry λ j l.

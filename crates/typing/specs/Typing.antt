@@ -1,14 +1,10 @@
 -- What is typed to describe a file, in ASCII: its name, its kind, a number. Definitions only.
-use Rattle.std.specs.Prelude.{Bool, true, false, ◌&&◌, ◌||◌, List, [], ◌∷◌, map, ℕ, suc, min, eqb, leb, ltb, length}
+use Rattle.std.specs.Prelude.{Bool, true, false, ◌&&◌, ◌||◌, Option, Some, None, List, [], ◌∷◌, map, ℕ, suc, min, eqb, leb, ltb, length}
 use Rattle.geometry.specs.Bytes.{padded}
 use Rattle.geometry.specs.Lists.{every, first_with, same}
 use Rattle.geometry.specs.Sizes.{blank}
 use Rattle.characters.specs.Characters.{ascii_of, ebcdic_of}
 use Rattle.texts.specs.Texts.{spelled, is_digit, number_in}
-use Rattle.texts.specs.declared.Numeral.{Numeral}
-use Rattle.texts.specs.declared.Numeral.TheVariants as numeral
-use Rattle.typing.specs.declared.Typed.{Typed}
-use Rattle.typing.specs.declared.Typed.TheVariants.{Number, Nothing}
 
 -- ---- names
 
@@ -41,11 +37,11 @@ name_of text = padded blank 8 (map typed_code text)
 -- ---- numbers and kinds
 
 -- a number of an entry has two bytes: a greater one is taken for 65,535, which is no kind and no length, and more sectors than any image has
-abbrev pub in_two_bytes : Numeral → Typed
-in_two_bytes (numeral.Number n) = Number (min n 65535)
-in_two_bytes numeral.Nothing = Nothing
+abbrev pub in_two_bytes : Option ℕ → Option ℕ
+in_two_bytes (Some n) = Some (min n 65535)
+in_two_bytes None = None
 
-unfoldable pub number_of : List ℕ → Typed
+unfoldable pub number_of : List ℕ → Option ℕ
 number_of text = in_two_bytes (number_in text)
 
 -- the words of the kinds, from kind 1 on
@@ -53,7 +49,7 @@ unfoldable pub kinds : List (List ℕ)
 kinds = spelled "unblocked" ∷ spelled "blocked" ∷ spelled "compressed" ∷ spelled "random" ∷ []
 
 -- a kind by its word or its number
-unfoldable pub kind_of : List ℕ → Typed
+unfoldable pub kind_of : List ℕ → Option ℕ
 kind_of text =
     let k : ℕ = first_with (same text) kinds in
-    elim (ltb k (length kinds)) [ true ↦ Number (suc k) | false ↦ number_of text ]
+    elim (ltb k (length kinds)) [ true ↦ Some (suc k) | false ↦ number_of text ]

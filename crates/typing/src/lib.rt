@@ -3,19 +3,12 @@
 
 ghost use Rattle.std.specs.Prelude.{◌≡◌, map};
 ghost use Rattle.texts.specs.Texts.{Wrote};
-ghost use Rattle.typing.specs.Typing.{typed_code, name_of, in_two_bytes, number_of, kind_of};
+ghost use Rattle.typing.specs.Typing.{typed_code, name_of, number_of, kind_of};
 
 use characters::{to_ascii, to_ebcdic};
 use geometry::Geometry;
-use moving::{part, same};
-use texts::{Numeral, number_in, put_all, put_byte};
-
-// A number that two bytes hold, or none.
-#[derive(Clone, Copy)]
-pub enum Typed {
-    Number(u16),
-    Nothing,
-}
+use moving::part;
+use texts::{number_in, put_all, put_byte};
 
 // ---- names
 
@@ -31,11 +24,9 @@ fn typed_code(c: u8) -> u8
 fn put_letters(out: &mut [u8], text: &[u8]) -> usize
     ensures { Wrote out.old 0 (map typed_code text.now) out.new result }
 {
-    let mut a: usize = 0;
-    let mut k: usize = 0;
-    while k < text.len() {
-        a = put_byte(out, a, typed_code(text[k]));
-        k += 1;
+    let mut a = 0;
+    for &c in text {
+        a = put_byte(out, a, typed_code(c));
     }
     a
 }
@@ -52,44 +43,30 @@ pub fn put_name(text: &[u8], out: &mut [u8]) -> usize
 
 // ---- numbers and kinds
 
-// A number in two bytes.
-fn in_two_bytes(n: Numeral) -> Typed
-    ensures { result ≡ in_two_bytes n }
-{
-    match n {
-        Numeral::Number(k) => {
-            if k <= 65535 {
-                Typed::Number(k as u16)
-            } else {
-                Typed::Number(65535)
-            }
-        }
-        Numeral::Nothing => Typed::Nothing,
-    }
-}
-
 // The number that a text says, 65,535 for a greater one; none if it says none.
-pub fn number_of(text: &[u8]) -> Typed
+#[tactic(auto, unfolding(crate::specs::Typing::number_of))]
+pub fn number_of(text: &[u8]) -> Option<u16>
     ensures { result ≡ number_of text.now }
 {
-    in_two_bytes(number_in(text))
+    number_in(text).map(|n| n.min(65535) as u16)
 }
 
 // The kind that a text says, by its word or its number.
-pub fn kind_of(text: &[u8]) -> Typed
+// Stays: no match on the words, which was tried and did not close: it is checked byte by byte, in 36 ways that are no equation of texts.
+pub fn kind_of(text: &[u8]) -> Option<u16>
     ensures { result ≡ kind_of text.now }
 {
-    if same(text, b"unblocked") {
-        return Typed::Number(Geometry::UNBLOCKED);
+    if text == b"unblocked".as_slice() {
+        return Some(Geometry::UNBLOCKED);
     }
-    if same(text, b"blocked") {
-        return Typed::Number(Geometry::BLOCKED);
+    if text == b"blocked".as_slice() {
+        return Some(Geometry::BLOCKED);
     }
-    if same(text, b"compressed") {
-        return Typed::Number(Geometry::COMPRESSED);
+    if text == b"compressed".as_slice() {
+        return Some(Geometry::COMPRESSED);
     }
-    if same(text, b"random") {
-        return Typed::Number(Geometry::RANDOM);
+    if text == b"random".as_slice() {
+        return Some(Geometry::RANDOM);
     }
     number_of(text)
 }

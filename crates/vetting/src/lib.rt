@@ -77,20 +77,11 @@ pub fn used_good(e: Entry, n: u32) -> bool
     if 3 < e.flags {
         return false;
     }
-    if Geometry::BLOCKED < e.kind {
-        if e.kind == Geometry::COMPRESSED {
-            return compressed_good(e);
-        }
-        if e.kind == Geometry::RANDOM {
-            return random_good(e);
-        }
-        return false;
+    match e.kind {
+        Geometry::UNBLOCKED => unblocked_good(e),
+        Geometry::BLOCKED => blocked_good(e),
+        Geometry::COMPRESSED => compressed_good(e),
+        Geometry::RANDOM => random_good(e),
+        _ => false,
     }
-    if e.kind == Geometry::BLOCKED {
-        return blocked_good(e);
-    }
-    if e.kind == Geometry::UNBLOCKED {
-        return unblocked_good(e);
-    }
-    false
 }

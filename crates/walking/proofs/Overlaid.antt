@@ -28,13 +28,10 @@ module _ (bytes : List ℕ) (held : ℕ) (over : List ℕ) where
   is_held n = (eqb (length over) sector && eqb n held) && leb (sector * held + sector) (length bytes)
 
   module _ (n : ℕ) where
-    pub size-held : is_held n ≡ true → length over ≡ sector
-    size-held h = eqb-true (length over) sector (and_left _ _ (and_left _ (leb (sector * held + sector) (length bytes)) h))
-
     pub sector-held : is_held n ≡ true → part (overlaid bytes held over) (sector * n) sector ≡ over
     sector-held h =
         let both : eqb (length over) sector && eqb n held ≡ true = and_left _ (leb (sector * held + sector) (length bytes)) h in
-        let size : length over ≡ sector = size-held h in
+        let size : length over ≡ sector = eqb-true (length over) sector (and_left _ _ both) in
         let is : n ≡ held = eqb-true n held (and_right (eqb (length over) sector) (eqb n held) both) in
         let fits : sector * held + sector ≤ length bytes = leb-true _ (length bytes) (and_right (eqb (length over) sector && eqb n held) _ h) in
         rw (overlaid-held size, is) (part-lay-same bytes (sector * held) over sector size fits)

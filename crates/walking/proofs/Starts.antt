@@ -14,15 +14,13 @@ use Rattle.geometry.specs.Sizes.{sector}
 use Rattle.geometry.specs.Places.{byte_of}
 use Rattle.geometry.specs.declared.Place.{Place}
 use Rattle.geometry.proofs.Bytes.{get_d_part, part-part, length-part-min}
-use Rattle.decoding.specs.Decode.{Decoded, good, bad, decode_from, decode, answer, given}
-use Rattle.decoding.specs.declared.Coded.{Coded}
-use Rattle.decoding.specs.declared.Coded.TheVariants.{Good, Bad}
+use Rattle.decoding.specs.Decode.{Decoded, good, bad, decode_from, decode, bad_at, answer, given}
+use Rattle.std.specs.Prelude.{Result, Ok}
+use Rattle.decoding.specs.declared.BadCode.{BadCode}
 use Rattle.decoding.proofs.Reader.{answer-good, answer-bad}
 use Rattle.decoding.proofs.Known.{decode-good, decode-bad}
-use Rattle.packing.specs.Reading.{overlaid, further, goes_on, start_of, Got, lost, got_from, extent_end, read_at, read_behind, led_to, into}
-use Rattle.packing.specs.declared.Led.TheVariants.{To, Lost}
-use Rattle.packing.specs.declared.Led.{Led}
-use Rattle.walking.proofs.Overlaid.{is_held, size-held, sector-held, sector-own}
+use Rattle.packing.specs.Reading.{further, goes_on, start_of, Got, lost, got_from, extent_end, read_at, read_behind, lost_at, led_to, into}
+use Rattle.packing.specs.declared.BadPlace.{BadPlace}
 use Rattle.packing.proofs.One.{Started, started}
 
 -- ---- the sector a place lies in
@@ -43,11 +41,6 @@ module _ (bytes : List ℕ) (p : Place) where
 
   pub goes-seen : p.byte < sector → (seen : List ℕ) → sector_of ≡ seen → (c : ℕ) → c ≡ get_or seen p.byte 0 → leb 1 p.byte && eqb c 128 ≡ goes_on bytes p
   goes-seen h seen same c is = rw (is, ← same) (sym (goes_by h))
-
-  -- and by the byte of an extent that has the same sector
-  pub goes-own : p.byte < sector → (own : List ℕ) → sector_of ≡ part own (sector * p.sector) sector → (c : ℕ) → c ≡ get_or own (byte_of p) 0
-      → leb 1 p.byte && eqb c 128 ≡ goes_on bytes p
-  goes-own h own same c is = goes-seen h (part own (sector * p.sector) sector) same c (is ∙ sym (get_d_part own (sector * p.sector) sector p.byte 0 h))
 
   -- its part from the place's byte on
   part-from : p.byte ≤ sector → part bytes (byte_of p) (sector - p.byte) ≡ drop p.byte sector_of
@@ -114,17 +107,17 @@ module _ (sectors : ℕ) (bytes : List ℕ) (p q : Place) (is : start_of bytes p
 
 -- ---- where the decoder's answer leads
 
-pub leads-good : (q : Place) (d : Decoded) (e : ℕ) → Good e ≡ answer d → To (further q e) ≡ led_to (got_from q d)
+pub leads-good : (q : Place) (d : Decoded) (e : ℕ) → Ok e ≡ answer d → Ok (further q e) ≡ led_to (got_from q d)
 unfolding got_from led_to
 leads-good q d e h = rw (answer-good d e (sym h)).1
 
-pub leads-bad : (q : Place) (d : Decoded) (k : ℕ) → Bad k ≡ answer d → Lost (further q k) ≡ led_to (got_from q d)
+pub leads-bad : (q : Place) (d : Decoded) (k : ℕ) → bad_at k ≡ answer d → lost_at (further q k) ≡ led_to (got_from q d)
 unfolding got_from led_to
 leads-bad q d k h = rw (answer-bad d k (sym h))
 
 -- it stays in the sector
-pub leads-in : (R o : ℕ) (s : List ℕ) (c : Coded) → o ≤ sector → length s ≤ sector → c ≡ answer (decode R (drop o s))
-    → (k : ℕ) → (c ≡ Good k) ⊎ (c ≡ Bad k) → o + k ≤ sector
+pub leads-in : (R o : ℕ) (s : List ℕ) (c : Result ℕ BadCode) → o ≤ sector → length s ≤ sector → c ≡ answer (decode R (drop o s))
+    → (k : ℕ) → (c ≡ Ok k) ⊎ (c ≡ bad_at k) → o + k ≤ sector
 leads-in R o s c b l is k (inl g) =
     let d = answer-good (decode R (drop o s)) k (sym is ∙ g) in
     omega (arith, (decode-good R (drop o s) d.0 k d.1).2, length-drop o s)
@@ -135,26 +128,14 @@ unfolding got_from into given
 into-given q (good xs e) old = refl
 into-given q (bad k) old = refl
 
--- ---- the record behind a place of an extent with a held sector, from its start q on
+-- ---- the record behind a place, from its start q on, in that place's sector
 
-pub same-led : (g h : Got) (r : Led) (new old : List ℕ) → g ≡ h → (r ≡ led_to h) × (new ≡ into h old) → (r ≡ led_to g) × (new ≡ into g old)
+pub same-led : (g h : Got) (r : Result Place BadPlace) (new old : List ℕ) → g ≡ h → (r ≡ led_to h) × (new ≡ into h old) → (r ≡ led_to g) × (new ≡ into g old)
 same-led g h r new old e t = rw e t
 
-module _ (R sectors : ℕ) (bytes : List ℕ) (held : ℕ) (over : List ℕ) (p q : Place) (is : q ≡ start_in sectors (overlaid bytes held over) p) where
-  byte : q.byte ≤ sector
-  byte = rw is (start-byte R sectors (overlaid bytes held over) p)
+module _ (R sectors : ℕ) (bytes : List ℕ) (p q : Place) (is : q ≡ start_in sectors bytes p) (own : List ℕ) (part-is : own ≡ sector_of bytes q) where
+  pub own-size : (q.byte ≤ sector) × (length own ≤ sector)
+  own-size = (rw is (start-byte R sectors bytes p), omega (arith, ap length part-is, length-part-min bytes (sector * q.sector) sector))
 
-  -- which is in the held sector
-  pub held-size : is_held bytes held over q.sector ≡ true → (q.byte ≤ sector) × (length over ≤ sector)
-  held-size h = (byte, omega (arith, size-held bytes held over q.sector h))
-
-  pub read_held : is_held bytes held over q.sector ≡ true → read_behind R sectors (overlaid bytes held over) p ≡ got_from q (decode R (drop q.byte over))
-  read_held h = read-seen R sectors (overlaid bytes held over) p q over is (sector-held bytes held over q.sector h)
-
-  -- or in the extent's own
-  module _ (own : List ℕ) (part-is : own ≡ part bytes (sector * q.sector) sector) where
-    pub own-size : (q.byte ≤ sector) × (length own ≤ sector)
-    own-size = (byte, omega (arith, ap length part-is, length-part-min bytes (sector * q.sector) sector))
-
-    pub read-own : is_held bytes held over q.sector ≡ false → read_behind R sectors (overlaid bytes held over) p ≡ got_from q (decode R (drop q.byte own))
-    read-own h = read-seen R sectors (overlaid bytes held over) p q own is (sector-own bytes held over q.sector h ∙ sym part-is)
+  pub read-own : read_behind R sectors bytes p ≡ got_from q (decode R (drop q.byte own))
+  read-own = read-seen R sectors bytes p q own is (sym part-is)

@@ -1,9 +1,6 @@
--- The number in the last four bytes, 2^32 times, and that in the first four.
-use Rattle.tables.proofs.Numbers.{eight-fours}
-use borrow.Author.Rules.{rules}
+-- The bytes that stand there, taken together.
+use Rattle.finding.proofs.Numbers.{eight-in}
 use Rattle.finding.proofs.wide_at.Goals as goal
 
 pub returns : goal.returns
-returns c =
-    let a = c.args in
-    rw (c.long_at.ensures, c.long_at-2.ensures) (eight-fours a.b.now a.at (search rules))
+returns c = eight-in c.args.b.now c.args.at c.requires _ c.from_le_bytes.ensures

@@ -1,30 +1,17 @@
--- `gaps::lowest_free` meets its contract: no entry passed is free.
-use mathlib.Core.Path.{sym, ◌∙◌}
-use native.Mathlib.Omega.{arith}
-use Rattle.gaps.proofs.Rows.{used-none, used-room, used-on, used-not, used_all, lowest-none}
+-- `gaps::lowest_free` meets its contract: none is free where there is no table.
+use mathlib.Core.Path.{sym, ap, ◌∙◌}
+use Rattle.geometry.specs.Lists.{first_with}
+use Rattle.tables.proofs.Tables.{table-made, table_none}
+use Rattle.gaps.specs.Gaps.{lowest_free}
 use Rattle.gaps.proofs.lowest_free.Goals as goal
 
-pub returns-then-not-has_rows : goal.returns-then-not-has_rows
-returns-then-not-has_rows c =
+pub returns-in-Some : goal.returns-in-Some
+returns-in-Some c =
     let a = c.args in
-    lowest-none a.width a.rows a.b.now (sym c.has_rows.ensures ∙ c.if-not-has_rows.true)
+    c.free_in.ensures ∙ ap lowest_free (table-made c.in-Some.t a.width a.rows a.b.now c.in-Some.ensures)
 
-pub loop-i-init : goal.loop-i-init
-loop-i-init c = used-none _ _ _ (sym c.has_rows.ensures ∙ c.if-not-has_rows.false)
-
-pub is_free-requires : goal.is_free-requires
-is_free-requires c = let r = used-room _ _ _ _ _ c.loop-i.invariant (omega arith) in omega arith
-
-pub returns-then-is_free : goal.returns-then-is_free
-returns-then-is_free c =
-    used-not _ _ _ _ _ c.loop-i.invariant (omega arith) (sym (c.is_free.ensures _) ∙ c.if-is_free.true)
-
-pub overflow_add-at : goal.overflow_add-at
-overflow_add-at c = let r = used-room _ _ _ _ _ c.loop-i.invariant (omega arith) in omega arith
-
-pub loop-i-preserved : goal.loop-i-preserved
-loop-i-preserved c =
-    used-on _ _ _ _ _ c.loop-i.invariant (omega arith) (sym (c.is_free.ensures _) ∙ c.if-is_free.false)
-
-pub returns : goal.returns
-returns c = used_all _ _ _ _ _ c.loop-i.invariant (omega arith)
+pub returns-in-None : goal.returns-in-None
+unfolding lowest_free first_with
+returns-in-None c =
+    let a = c.args in
+    sym (ap lowest_free (table_none a.width a.rows a.b.now c.in-None.ensures))

@@ -1,10 +1,10 @@
 -- `gaps::swept` meets its contract: what is left of the table decides.
-use Prim.Native.Nat.{◌-◌, ◌≤◌}
-use Rattle.gaps.proofs.Rows.{Sweeping}
+use Prim.Native.Nat.{◌≤◌}
+use mathlib.Core.Path.{◌≡◌}
+use lib.ListN.{drop}
+use Rattle.tables.specs.Table.{rows_of}
+use Rattle.gaps.specs.Sweep.{swept}
 use Rattle.gaps.proofs.swept.Given as goal
 
-abbrev pub invariant-loop-at : goal.invariant-loop-at
-invariant-loop-at l = Sweeping l.width l.rows l.b l.n l.p l.at l.q × (l.q ≤ 131070)
-
-abbrev pub decreases-loop-at : goal.decreases-loop-at
-decreases-loop-at l = l.end - l.at
+abbrev pub invariant-loop-i : goal.invariant-loop-i
+invariant-loop-i l = (swept l.n l.p (rows_of l.t) ≡ swept l.n l.q (drop l.i (rows_of l.t))) × (l.q ≤ 131070)

@@ -1,33 +1,35 @@
 -- `held::order` meets its contract: a record skip, a close, and any other order.
-use mathlib.Core.Path.{◌∙◌, ap}
+use mathlib.Core.Path.{ap₂, ◌∙◌}
 use Rattle.directory.specs.Stamp.{stamp_bytes}
+use Rattle.directory.specs.declared.Entry.{Entry}
 use Rattle.steps.specs.Effects.{stamp, Bench}
-use Rattle.held.proofs.Cases.{skips-forward, skips-back, stamps, closes, goes_back}
-use Rattle.blocking.specs.Blocking.{lent, scene, held_do}
+use Rattle.straight.specs.Moving.{scene}
+use Rattle.straight.specs.Moving.{Way, moved_by}
+use Rattle.held.proofs.Cases.{skips, closes, goes_back}
 use borrow.Author.Rules.{rules}
 use Rattle.held.proofs.order.Goals as goal
 
 pub returns-in-RecordForward : goal.returns-in-RecordForward
-returns-in-RecordForward c =
+returns-in-RecordForward g c =
     let a = c.args in
-    rw c.in-RecordForward.is (skips-forward a.i a.e (lent a.image.now a.h a.buffer.now))
-
-pub returns-in-RecordBack : goal.returns-in-RecordBack
-returns-in-RecordBack c =
-    let a = c.args in
-    rw c.in-RecordBack.is (skips-back a.i a.e (lent a.image.now a.h a.buffer.now))
+    (skips g.M.Mover.way a.i (g.M.Mover.entry a.m.now) (g.M.Mover.bench a.m.now) a.o (search rules), g.met.M.Mover.same_itself _)
 
 pub returns-in-RewindOffline : goal.returns-in-RewindOffline
-returns-in-RewindOffline c =
+returns-in-RewindOffline g c =
     let a = c.args in
-    let w : Bench = lent a.image.now a.h a.buffer.now in
-    rw c.in-RewindOffline.is
-    (ap (λ image. lent image c.put_back-back.result a.buffer.now) c.stamp.ensures
-    ∙ stamps a.i a.e (lent _ c.put_back-back.result a.buffer.now)
-    ∙ ap (held_do (scene a.i a.e) (stamp (stamp_bytes a.e.count a.e.flags))) c.put_back-back.ensures
-    ∙ closes a.i a.e w)
+    let m : Way = g.M.Mover.way in
+    let e : Entry = g.M.Mover.entry a.m.now in
+    let p = c.put_back.ensures in
+    let s = c.stamp.ensures in
+    rw c.in-RewindOffline.is (
+      s.0
+          ∙ ap₂ (λ (e : Entry) (w : Bench). moved_by m (scene a.i e) (stamp (stamp_bytes e.count e.flags)) w) (g.met.M.Mover.same_entry _ _ p.1) p.0
+          ∙ closes m a.i e (g.M.Mover.bench a.m.now),
+      g.met.M.Mover.same_on _ _ _ p.1 s.1,
+    )
 
 pub returns-in_default : goal.returns-in_default
-returns-in_default c =
+returns-in_default g c =
     let a = c.args in
-    cc (goes_back a.i a.e (lent a.image.now a.h a.buffer.now) a.o (search rules))
+    let p = c.put_back-in_default.ensures in
+    (p.0 ∙ goes_back g.M.Mover.way a.i (g.M.Mover.entry a.m.now) (g.M.Mover.bench a.m.now) a.o (search rules), p.1)

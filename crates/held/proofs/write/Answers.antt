@@ -1,24 +1,31 @@
 -- `held::write` meets its contract: one way for each kind.
-use mathlib.Core.Path.{◌∙◌, ap}
-use Rattle.steps.specs.Effects.{Bench}
+use mathlib.Core.Path.{◌≡◌, sym, ap, ◌∙◌}
+use Rattle.geometry.specs.Sizes.{blocked, compressed}
+use Rattle.directory.specs.declared.Entry.{Entry}
 use Rattle.held.proofs.Cases as cases
-use Rattle.blocking.specs.Blocking.{lent}
+use borrow.Author.Rules.{rules}
 use Rattle.held.proofs.write.Goals as goal
 
-pub returns-then-e-eq-BLOCKED : goal.returns-then-e-eq-BLOCKED
-returns-then-e-eq-BLOCKED c =
+pub returns-in-2 : goal.returns-in-2
+returns-in-2 g c =
     let a = c.args in
-    let w : Bench = lent a.image.now a.h a.buffer.now in
-    c.write_blocked.ensures ∙ cases.write-blocked a.e a.f a.given.now a.code.now w c.if-e-eq-BLOCKED.true
+    let e : Entry = g.M.Mover.entry a.m.now in
+    let k : e.kind ≡ blocked = ap (λ (e : Entry). e.kind) (sym c.entry-e.ensures) ∙ c.in-2.is in
+    (c.write_blocked.ensures.0 ∙ cases.write-blocked g.M.Mover.way e a.f a.given.now a.code.now (g.M.Mover.bench a.m.now) k, c.write_blocked.ensures.1)
 
-pub returns-then-e-eq-COMPRESSED : goal.returns-then-e-eq-COMPRESSED
-returns-then-e-eq-COMPRESSED c =
+pub returns-in-3 : goal.returns-in-3
+returns-in-3 g c =
     let a = c.args in
-    let w : Bench = lent a.image.now a.h a.buffer.now in
-    c.write_coded.ensures ∙ cases.write-coded a.e a.f a.given.now a.code.now w c.if-e-eq-BLOCKED.false c.if-e-eq-COMPRESSED.true
+    let e : Entry = g.M.Mover.entry a.m.now in
+    let k : e.kind ≡ compressed = ap (λ (e : Entry). e.kind) (sym c.entry-e.ensures) ∙ c.in-3.is in
+    (c.write_coded.ensures.0 ∙ cases.write-coded g.M.Mover.way e a.f a.given.now a.code.now (g.M.Mover.bench a.m.now) k, c.write_coded.ensures.1)
 
-pub returns-else-e-eq-COMPRESSED : goal.returns-else-e-eq-COMPRESSED
-returns-else-e-eq-COMPRESSED c =
+pub returns-in_default : goal.returns-in_default
+returns-in_default g c =
     let a = c.args in
-    let w : Bench = lent a.image.now a.h a.buffer.now in
-    ap (λ image. lent image a.h a.buffer.now) c.store.ensures ∙ cases.write-stored a.e a.f a.given.now a.code.now w c.if-e-eq-BLOCKED.false c.if-e-eq-COMPRESSED.false
+    let b : ¬ (c.entry-e.result.kind ≡ blocked) = search rules in
+    let z : ¬ (c.entry-e.result.kind ≡ compressed) = search rules in (
+      c.store.ensures.0
+          ∙ cases.write-stored g.M.Mover.way (g.M.Mover.entry a.m.now) a.f a.given.now a.code.now (g.M.Mover.bench a.m.now) (rw c.entry-e.ensures at b) (rw c.entry-e.ensures at z),
+      c.store.ensures.1,
+    )

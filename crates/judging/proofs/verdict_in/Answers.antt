@@ -19,5 +19,5 @@ returns c =
     let x = c.find_in-seen.result in
     let z = seen_in a.image.now a.session.now a.i in
     let j = judged a.image.now x (lent_by (own_state (lent_session a.session.now) a.i)) a.i a.q a.given.now c.encode_given-size.result a.buffer.now z c.lent_in-over.result.now
-    c.encode_given-size.ensures.0 c.find_in-seen.ensures (c.lent_in-over.ensures ∙ seen-lent a.image.now a.session.now a.i x c.find_in-seen.ensures) _ _ _ c.next-v.result c.ruling_on-r.ensures c.next-v.ensures in
+    c.encode_given-size.ensures.0 c.find_in-seen.ensures (c.lent_in-over.ensures ∙ seen-lent a.image.now a.session.now a.i x c.find_in-seen.ensures) _ _ _ c.next-v.result (c.ruling_on-r.ensures a.i) c.next-v.ensures in
     (j.0, j.1, c.encode_given-size.ensures.1 ∙ ap (λ (y : Seen). sets a.code.now 0 (code_given y.entry a.given.now)) c.find_in-seen.ensures)

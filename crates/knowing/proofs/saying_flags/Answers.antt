@@ -4,4 +4,4 @@ use Rattle.knowing.proofs.saying_flags.Goals as goal
 
 pub returns : goal.returns
 unfolding saying_flags
-returns c = c.is_flag.ensures.0
+returns c = c.is_flag.ensures

@@ -1,5 +1,5 @@
 -- Behind the first i entries the rest of the table is to be listed.
-use mathlib.Core.Path.{◌≡◌, refl, ◌∙◌}
+use mathlib.Core.Path.{◌≡◌}
 use mathlib.Core.List.{[], ◌∷◌, ◌++◌}
 use Prim.Native.Nat.{◌+◌}
 use native.Mathlib.Omega.{arith}
@@ -12,7 +12,7 @@ use Rattle.listing.proofs.Texts.{lines_more, lines_end}
 use Rattle.listing.proofs.put_lines.Goals as goal
 
 pub loop-i-init : goal.loop-i-init
-loop-i-init c = (λ new b w. w, omega arith, refl)
+loop-i-init c = λ new b w. w
 
 pub loop-i-preserved : goal.loop-i-preserved
 loop-i-preserved c =
@@ -22,10 +22,7 @@ loop-i-preserved c =
     let s : length t ≡ 18 = length-table _ in
     let e : lines_from l.i (drop l.i t) ≡ lines_from l.i (entry_at t l.i ∷ []) ++ lines_from (l.i + 1) (drop (l.i + 1) t) =
     lines_more t l.i free_entry (omega arith) in
-    (leads-on (rw (e, ← c.entry_at-e.ensures) at l.invariant.0) p.ensures, omega arith, p.auto.out ∙ l.invariant.2)
-
-pub shape_of-out : goal.shape_of-out
-shape_of-out c = c.loop-i.invariant.2
+    leads-on (rw (e, ← c.entry_at-e.ensures) at l.invariant) p.ensures
 
 pub returns : goal.returns
 returns c =
@@ -33,4 +30,4 @@ returns c =
     let t = table_of c.args.image.now in
     let s : length t ≡ 18 = length-table _ in
     let e : lines_from l.i (drop l.i t) ≡ [] = lines_end t l.i (omega arith) in
-    leads-end (rw e at l.invariant.0)
+    leads-end (rw e at l.invariant)

@@ -6,4 +6,4 @@ use Rattle.lleuadrys.proofs.lleuadrys_delete.Goals as goal
 pub returns : goal.returns
 returns c =
     let h = c.edit.ensures in
-    (c.number.ensures ∙ ap number_of h.0, h.1, h.2)
+    (c.from.ensures ∙ ap number_of h.0, h.1, h.2)

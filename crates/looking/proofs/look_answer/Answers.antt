@@ -5,4 +5,4 @@ use Rattle.looking.proofs.look_answer.Goals as goal
 pub returns : goal.returns
 returns c =
     let a = c.args in
-    answered a.image.now a.session.now a.i a.g _ c.look_in-seen.ensures.0
+    answered a.image.now a.session.now a.i a.g _ c.look_in.ensures.0

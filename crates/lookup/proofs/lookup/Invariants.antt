@@ -2,8 +2,8 @@
 use mathlib.Core.Path.{◌≡◌}
 use mathlib.Core.Bool.{false}
 use mathlib.Core.List.{[]}
-use Prim.Native.Nat.{ℕ, ◌-◌, ◌<◌}
-use lib.ListN.{length, get_or}
+use Prim.Native.Nat.{ℕ, ◌<◌}
+use lib.ListN.{get_or}
 use Rattle.directory.specs.declared.Entry.{Entry}
 use Rattle.directory.specs.Search.{matches}
 use Rattle.lookup.proofs.lookup.Given as goal
@@ -14,6 +14,3 @@ blank = record { name = []; kind = 0; length = 0; first = 0; sectors = 0; count 
 
 abbrev pub invariant-loop-i : goal.invariant-loop-i
 invariant-loop-i l = (j : ℕ) → j < l.i → matches l.name (get_or l.entries j blank) ≡ false
-
-abbrev pub decreases-loop-i : goal.decreases-loop-i
-decreases-loop-i l = length l.entries - l.i

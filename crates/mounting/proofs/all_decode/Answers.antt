@@ -1,32 +1,41 @@
--- What is left of the directory decides.
-use mathlib.Core.Path.{◌≡◌, refl, sym, ap, ◌∙◌}
+-- The chain tests the entries 0 to 17, which are the whole table.
+use mathlib.Core.Path.{◌≡◌, refl, sym, ◌∙◌}
+use mathlib.Core.Bool.{Bool, true, false, false≢true}
+use mathlib.Core.List.{List}
+use Prim.Native.Nat.{ℕ, ◌<◌}
 use native.Mathlib.Omega.{arith}
-use lib.ListN.{length}
-use Rattle.geometry.proofs.Left.{every-on, every-off, every-end}
-use Rattle.directory.specs.Entries.{free_entry, table_of}
+use borrow.Author.Rules.{rules}
+use borrow.Author.Tests.{tests}
+use lib.ListN.{length, get_or}
+use Rattle.std.specs.Bool.{MatchBool}
+use Rattle.std.specs.List.{AllWithin, HoldsAt, range_with_len}
+use Rattle.std.proofs.lemmas.Iterator.{cases_from_all, YieldsList-from_range}
+use Rattle.std.proofs.lemmas.List.FromFn.{length-range_with_len, get_or-range_with_len}
+use Rattle.geometry.specs.Lists.{every}
+use Rattle.geometry.proofs.Tests.{either, every-get_or, every-from}
+use Rattle.directory.specs.Entries.{entry_at, free_entry, table_of}
+use Rattle.directory.specs.declared.Entry.{Entry}
 use Rattle.directory.proofs.Table.{length-table}
 use Rattle.mounting.specs.Mounting.{count_decodes}
 use Rattle.mounting.proofs.all_decode.Goals as goal
 
-pub loop-i-init : goal.loop-i-init
-loop-i-init c = (refl, omega arith)
+abbrev numbers : List ℕ
+numbers = range_with_len 0 18
 
-pub returns-then-not-count_decodes : goal.returns-then-not-count_decodes
-returns-then-not-count_decodes c =
-    let a = c.args in
-    let n : length (table_of a.image.now) ≡ 18 = length-table a.image.now in
-    let bad = ap (count_decodes a.image.now) (sym c.entry_of-e.ensures) ∙ sym c.count_decodes.ensures ∙ c.if-not-count_decodes.true in
-    sym (c.loop-i.invariant.0 ∙ every-off (count_decodes a.image.now) (table_of a.image.now) c.loop-i.i free_entry (omega arith) bad)
+is-number : (i : ℕ) → i < 18 → get_or numbers i 0 ≡ i
+is-number i h = omega (arith, get_or-range_with_len 0 18 i 0 h)
 
-pub loop-i-preserved : goal.loop-i-preserved
-loop-i-preserved c =
-    let a = c.args in
-    let n : length (table_of a.image.now) ≡ 18 = length-table a.image.now in
-    let ok = ap (count_decodes a.image.now) (sym c.entry_of-e.ensures) ∙ sym c.count_decodes.ensures ∙ c.if-not-count_decodes.false in
-    (c.loop-i.invariant.0 ∙ every-on (count_decodes a.image.now) (table_of a.image.now) c.loop-i.i free_entry (omega arith) ok, omega arith)
+all-told : (p : Entry → Bool) (xs : List Entry) (r : Bool) → length xs ≡ 18
+    → MatchBool r (AllWithin (λ i. p (entry_at xs i) ≡ true) numbers 0 (length numbers)) ((k : ℕ) × (k < length numbers) × HoldsAt (λ i. p (entry_at xs i) ≡ false) numbers k)
+    → r ≡ every p xs
+all-told p xs true n h = sym (every-from p xs free_entry (λ i l. rw (is-number i (omega arith)) at (h i 0 (omega arith) (omega (arith, length-range_with_len 0 18)))))
+all-told p xs false n (k, l, h) =
+    let few : k < 18 = omega (arith, length-range_with_len 0 18) in
+    let bad : p (entry_at xs k) ≡ false = rw (is-number k few) at (h 0) in
+    either (every p xs) (λ (t : every p xs ≡ true). absurd (false≢true (sym bad ∙ every-get_or p xs k free_entry t (omega arith)))) (λ (f : every p xs ≡ false). sym f)
 
 pub returns : goal.returns
 returns c =
-    let a = c.args in
-    let n : length (table_of a.image.now) ≡ 18 = length-table a.image.now in
-    sym (c.loop-i.invariant.0 ∙ every-end (count_decodes a.image.now) (table_of a.image.now) c.loop-i.i (omega arith))
+    let image = c.args.image.now in
+    all-told (count_decodes image) (table_of image) _ (length-table image)
+    (cases_from_all _ _ _ (λ i. count_decodes image (entry_at (table_of image) i) ≡ true) (λ i. count_decodes image (entry_at (table_of image) i) ≡ false) c.all.ensures.ran (YieldsList-from_range 0 18 18 refl refl) (λ x q k. search (rules, tests)) (λ x q k. search (rules, tests)))

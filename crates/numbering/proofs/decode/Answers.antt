@@ -1,17 +1,15 @@
 -- By the answer of the decoding.
+use mathlib.Core.Path.{ap, ◌∙◌}
 use lib.ListN.{length}
+use Rattle.std.specs.Prelude.{Result}
+use Rattle.std.specs.Result.{result_unwrap_or}
 use Rattle.decoding.specs.Decode.{decode}
-use Rattle.numbering.proofs.Codes.{good-size, bad-size}
+use Rattle.decoding.specs.declared.BadCode.{BadCode}
+use Rattle.numbering.proofs.Codes.{answer-size}
 use Rattle.numbering.proofs.decode.Goals as goal
 
-pub returns-in-Good : goal.returns-in-Good
-returns-in-Good c =
+pub returns : goal.returns
+returns c =
     let a = c.args in
     let d = c.decode.ensures in
-    (good-size (decode (length a.text.now) a.code.now) _ _ d.0 c.in-Good.is, d.1)
-
-pub returns-in-Bad : goal.returns-in-Bad
-returns-in-Bad c =
-    let a = c.args in
-    let d = c.decode.ensures in
-    (bad-size (decode (length a.text.now) a.code.now) _ _ d.0 c.in-Bad.is, d.1)
+    (c.unwrap_or.ensures ∙ ap (λ (r : Result _ BadCode). result_unwrap_or r 0) d.0 ∙ answer-size (decode (length a.text.now) a.code.now), d.1)

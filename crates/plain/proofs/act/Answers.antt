@@ -1,28 +1,16 @@
--- `plain::act` meets its contract: one way for each request that moves bytes, one for the others.
-use Rattle.plain.specs.Plain.{acted_with}
-use Rattle.plain.proofs.Acts.{granule-stored, ordered, idles}
+-- `plain::act` meets its contract: what is moved straight is what is done in the image.
+use mathlib.Core.Path.{◌≡◌, ap, ◌∙◌}
+use Rattle.steps.specs.Effects.{Bench}
+use Rattle.sessions.specs.Session.{idle, fresh}
+use Rattle.straight.specs.Moving.{bench}
 use borrow.Author.Rules.{rules}
+use Rattle.plain.specs.Plain.{acted_with}
+use Rattle.plain.proofs.Acts.{acted}
 use Rattle.plain.proofs.act.Goals as goal
 
-pub returns-in-Write : goal.returns-in-Write
-unfolding acted_with
-returns-in-Write c = rw c.in-Write.is c.write.ensures
-
-pub returns-in-GranuleWrite : goal.returns-in-GranuleWrite
-returns-in-GranuleWrite c =
+pub returns : goal.returns
+returns c =
     let a = c.args in
-    rw (c.in-GranuleWrite.is, c.store.ensures) (granule-stored a.i a.e a.f a.given.now a.code.now a.image.now _)
-
-pub returns-in-RewindOffline : goal.returns-in-RewindOffline
-unfolding acted_with
-returns-in-RewindOffline c = rw (c.in-Position.is, c.in-RewindOffline.is) c.stamp.ensures
-
-pub returns-in_default-o : goal.returns-in_default-o
-returns-in_default-o c =
-    let a = c.args in
-    rw c.in-Position.is (ordered a.i a.e a.f a.given.now a.code.now a.image.now c.in-Position.o (search rules))
-
-pub returns-in_default : goal.returns-in_default
-returns-in_default c =
-    let a = c.args in
-    idles a.i a.e a.f a.given.now a.code.now a.image.now a.q (search rules)
+    let p : c.act.new.m.image.now ≡ acted_with a.q a.i a.e a.f a.given.now a.code.now a.image.now =
+    ap (λ (w : Bench). w.image) c.act.ensures.0 ∙ acted a.i a.e a.f a.given.now a.code.now 0 (bench a.image.now (fresh idle)) a.q in
+    search rules

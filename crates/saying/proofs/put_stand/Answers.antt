@@ -13,4 +13,4 @@ unfolding spaced
 returns c =
     let a = c.args in
     rw (stands a.standing a.position c.if-standing-eq0.false)
-    (word-then (decimal a.position) 32 c.put_number-a.ensures c.put_number.ensures)
+    (word-then (decimal a.position) 32 c.put_number-a.ensures (rw c.from.ensures at c.put_number.ensures))

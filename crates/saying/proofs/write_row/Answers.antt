@@ -11,5 +11,5 @@ returns c =
     let a = c.args in
     rw (before (decimal a.p.sum) a.p.standing a.p.position)
     (word-then (decimal a.n) 32 c.put_number-b.ensures
-    (word-then (decimal a.p.number) 32 c.put_number-c.ensures
+    (word-then (decimal a.p.number) 32 (rw c.from.ensures at c.put_number-c.ensures)
     (word-then (decimal a.p.sum) 32 c.put_number-d.ensures c.put_stand.ensures)))

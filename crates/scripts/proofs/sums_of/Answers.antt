@@ -1,31 +1,33 @@
--- `scripts::sums_of` meets its contract: behind the first i words the sums of the rest are to be added.
+-- Behind each word the sums of the rest are to be added.
 use native.Mathlib.Omega.{arith}
 use borrow.Author.Rules.{rules}
-use Rattle.scripts.specs.Sums.{total, sum_of, sums_of}
-use Rattle.scripts.proofs.Adding.{next, none, added, ended, behind, behind-none}
+use Rattle.std.proofs.Common.{◌≡◌, ◌∙◌}
+use Rattle.std.specs.Slice.Iter.{chunks_rest}
+use Rattle.scripts.specs.Sums.{words_of, running, sums_of}
+use Rattle.scripts.proofs.Adding.{next, none, added, ended, begun, behind, behind-none}
 use Rattle.scripts.proofs.sums_of.Goals as goal
 
-pub loop-i-init : goal.loop-i-init
-unfolding total sum_of
-loop-i-init c = search rules
+pub loop-word-init : goal.loop-word-init
+loop-word-init c =
+    let all : chunks_rest c.into_iter-word-iterator.result ≡ c.args.s.now = search rules in
+    (search rules, tt, search rules, omega arith, omega arith, rw all (begun (words_of c.args.s.now)), rw all (begun (running 0 (words_of c.args.s.now))))
 
-pub loop-i-preserved : goal.loop-i-preserved
-loop-i-preserved c =
-    let l = c.loop-i in
-    let s = c.args.s.now in
-    let e = next s l.i (omega arith) in
-    let w = c.word_at.ensures in
-    let k = l.invariant in
+pub loop-word-preserved : goal.loop-word-preserved
+loop-word-preserved c =
+    let k = c.loop-word.invariant in
+    let steps = c.in-Some.ensures.steps in
+    let e = next _ c.in-Some.word.now _ steps.1.0 (rw k.2 at steps.1.1) steps.1.2 in
+    let w = c.from.ensures ∙ c.word_at.ensures in
     let a = rw (e, ← w, added) at k.5 in
     let b = rw (e, ← w, behind, added) at k.6 in
-    (omega arith, omega arith, omega arith, omega arith, omega arith, a, b)
+    (search rules, tt, steps.0 ∙ k.2, omega arith, omega arith, a, b)
 
 pub returns : goal.returns
 unfolding sums_of
 returns c =
-    let l = c.loop-i in
-    let s = c.args.s.now in
-    let e = none s l.i (omega arith) in
-    let a = rw (e, ended l.a l.invariant.0) at l.invariant.5 in
-    let b = rw (e, behind-none, ended l.b l.invariant.1) at l.invariant.6 in
+    let l = c.loop-word in
+    let k = l.invariant in
+    let e = none _ c.in-None.ensures.steps.1.0 in
+    let a = rw (e, ended l.a k.3) at k.5 in
+    let b = rw (e, behind-none, ended l.b k.4) at k.6 in
     rw (sums_of, ← a, ← b)

@@ -1,18 +1,22 @@
 -- `shapes::longest` meets its contract: one way for each branch.
-use borrow.Author.Tests.{eq-eqb, ne_eqb}
+use Prim.Native.Nat.{ℕ}
+use mathlib.Core.Path.{◌≡◌, sym, ap}
+use native.Mathlib.Omega.{arith}
+use borrow.Author.Tests.{ne_eqb}
 use Rattle.directory.specs.Rules.{longest}
 use Rattle.shapes.proofs.longest.Goals as goal
 
-pub returns-then-kind-eq-BLOCKED : goal.returns-then-kind-eq-BLOCKED
+pub returns-in-2 : goal.returns-in-2
 unfolding longest
-returns-then-kind-eq-BLOCKED c = rw (eq-eqb _ 2 c.if-kind-eq-BLOCKED.true, longest)
+returns-in-2 c = ap longest (sym c.in-2.is)
 
-pub returns-then-kind-eq-COMPRESSED : goal.returns-then-kind-eq-COMPRESSED
+pub returns-in-3 : goal.returns-in-3
 unfolding longest
-returns-then-kind-eq-COMPRESSED c =
-    rw (ne_eqb _ 2 c.if-kind-eq-BLOCKED.false, eq-eqb _ 3 c.if-kind-eq-COMPRESSED.true, longest)
+returns-in-3 c = ap longest (sym c.in-3.is)
 
-pub returns-else-kind-eq-COMPRESSED : goal.returns-else-kind-eq-COMPRESSED
+pub returns-in_default : goal.returns-in_default
 unfolding longest
-returns-else-kind-eq-COMPRESSED c =
-    rw (ne_eqb _ 2 c.if-kind-eq-BLOCKED.false, ne_eqb _ 3 c.if-kind-eq-COMPRESSED.false, longest)
+returns-in_default c = other c.args.kind (λ e. omega arith) (λ e. omega arith)
+  where
+    other : (k : ℕ) → ¬ (k ≡ 2) → ¬ (k ≡ 3) → 3600 ≡ longest k
+    other k h n = rw (ne_eqb k 2 h, ne_eqb k 3 n, longest)

@@ -1,25 +1,17 @@
 -- `showing::next` meets its contract: the record is read into the front of the room, and printed there.
-use mathlib.Core.Path.{refl, sym, ◌∙◌}
-use mathlib.Core.List.{[]}
+use mathlib.Core.Path.{sym, ◌∙◌}
 use lib.Seq.{length-take-le}
-use Rattle.requests.specs.Codes.{codes, asked_for}
-use Rattle.requests.specs.declared.Request.TheVariants.{Read}
-use Rattle.asking.proofs.Asked.{told-by}
 use Rattle.showing.proofs.Read.{room-is, shows}
 use Rattle.showing.proofs.next.Goals as goal
 
 pub slice_bounds-request-end-2 : goal.slice_bounds-request-end-2
-slice_bounds-request-end-2 c = room-is c.args.length c.args.out.now _ c.room_for-n.ensures
+slice_bounds-request-end-2 c = room-is _ _ _ c.room_for-n.ensures
 
 pub slice_bounds-request-end-3 : goal.slice_bounds-request-end-3
-slice_bounds-request-end-3 c = sym (length-take-le _ c.args.out.now (room-is c.args.length c.args.out.now _ c.room_for-n.ensures))
+slice_bounds-request-end-3 c = sym (length-take-le _ c.args.out.now (room-is _ _ _ c.room_for-n.ensures))
 
 pub returns : goal.returns
-unfolding asked_for codes
 returns c =
-    let a = c.args in
     let r = c.room_for-n in
-    let q = c.request-a in
-    shows a.image.now a.session.now a.entry a.length a.out.now r.result r.ensures q.result _ _ _
-    (told-by a.image.now a.session.now a.entry [] _ Read (asked_for 2 0) refl _ _ _ _ q.ensures)
-    (q.auto.buffer ∙ length-take-le r.result a.out.now (room-is a.length a.out.now r.result r.ensures)) _ _ c.put_printed-size.ensures
+    let q = c.request-answer in
+    shows _ _ _ _ _ _ r.ensures _ _ _ _ q.ensures (q.auto.buffer ∙ length-take-le r.result c.args.out.now (room-is _ _ _ r.ensures)) _ _ c.put_printed-size.ensures

@@ -1,27 +1,13 @@
 -- `showing::open_sequential` meets its contract: a random file stops it, and another is opened.
-use mathlib.Core.Path.{refl, sym, ◌∙◌}
-use mathlib.Core.List.{[]}
-use Rattle.requests.specs.Codes.{codes, asked_for}
-use Rattle.requests.specs.declared.Request.TheVariants.{Open}
-use Rattle.asking.proofs.Asked.{told-by}
-use Rattle.showing.proofs.Opened.{left-stopped, random-stops, left_open, left-shut}
+use mathlib.Core.Path.{sym, ◌∙◌}
+use Rattle.showing.proofs.Opening.{random-stops, opens, shut}
 use Rattle.showing.proofs.open_sequential.Goals as goal
 
-pub returns-then-field_in : goal.returns-then-field_in
-returns-then-field_in c =
-    let a = c.args in
-    left-stopped _ 7 _ _ _ _ (random-stops a.image.now a.session.now a.i (sym c.field_in.ensures ∙ c.if-field_in.true))
+pub returns-then-field_in-clause-leaves : goal.returns-then-field_in-clause-leaves
+returns-then-field_in-clause-leaves c = sym (random-stops _ _ _ (sym c.field_in.ensures ∙ c.if-field_in.true))
 
-pub returns-then-n-eq0 : goal.returns-then-n-eq0
-unfolding asked_for codes
-returns-then-n-eq0 c =
-    let a = c.args in
-    let t = told-by a.image.now a.session.now a.i [] [] Open (asked_for 1 0) refl _ _ _ _ c.request-n.ensures in
-    left_open a.image.now a.session.now a.i _ (λ h. c.if-field_in.false (c.field_in.ensures ∙ h)) c.field_in-size.ensures _ _ _ _ t _ _ c.if-n-eq0.true
+pub returns-in-Done-clause-leaves : goal.returns-in-Done-clause-leaves
+returns-in-Done-clause-leaves c = opens _ _ _ _ (λ h. c.if-field_in.false (c.field_in.ensures ∙ h)) c.field_in-length.ensures _ _ _ _ c.request.ensures c.in-Done.is
 
-pub returns-else-n-eq0 : goal.returns-else-n-eq0
-unfolding asked_for codes
-returns-else-n-eq0 c =
-    let a = c.args in
-    let t = told-by a.image.now a.session.now a.i [] [] Open (asked_for 1 0) refl _ _ _ _ c.request-n.ensures in
-    left-shut a.image.now a.session.now a.i _ (λ h. c.if-field_in.false (c.field_in.ensures ∙ h)) c.field_in-size.ensures _ _ _ _ t _ _ c.if-n-eq0.false
+pub returns-in_default-clause-leaves : goal.returns-in_default-clause-leaves
+returns-in_default-clause-leaves c = shut _ _ _ _ (λ h. c.if-field_in.false (c.field_in.ensures ∙ h)) c.field_in-length.ensures _ _ _ _ c.request.ensures c.in_default.not-Done

@@ -6,4 +6,4 @@ use Rattle.showing.proofs.put_answer.Goals as goal
 
 pub returns : goal.returns
 unfolding answer_line spelled
-returns c = then c.put_all-a.ensures c.put_number.ensures
+returns c = then c.put_all-a.ensures (rw (c.from-2.ensures, c.from.ensures) at c.put_number.ensures)

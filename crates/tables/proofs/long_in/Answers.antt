@@ -1,14 +1,14 @@
--- `tables::long_in` meets its contract: the four bytes, turned, are the two words.
-use Prim.Native.Nat.{ℕ, ◌<◌}
-use mathlib.Core.Path.{◌∙◌}
+-- `tables::long_in` meets its contract: the code is the definition.
+use Prim.Native.Nat.{◌+◌}
+use mathlib.Core.Path.{◌≡◌}
 use native.Mathlib.Omega.{arith}
-use lib.ListN.{get_or}
-use Rattle.tables.proofs.Numbers.{turned-four}
-use borrow.Author.Rules.{rules}
+use Rattle.geometry.specs.Bytes.{word_at}
+use Rattle.tables.specs.Numbers.{long_at}
 use Rattle.tables.proofs.long_in.Goals as goal
 
 pub returns : goal.returns
+unfolding long_at word_at
 returns c =
     let a = c.args in
-    let g : (k : ℕ) → get_or a.b.now k 0 < 256 = λ (k : ℕ). omega (arith, c.type_inv.b k) in
-    c.turned_long.ensures ∙ rw c.four_in.ensures (turned-four a.b.now a.at g (search rules))
+    let e : (a.at + 2) + 1 ≡ a.at + 3 = omega arith in
+    rw e (omega (arith, c.from_be_bytes.ensures), omega (arith, c.type_inv.b (a.at + 2), c.type_inv.b (a.at + 3)))

@@ -1,23 +1,19 @@
 -- `tables::table_good` meets its contract: where there is room for a table, its rules decide.
-use mathlib.Core.Path.{◌≡◌, sym, ap, ◌∙◌}
-use mathlib.Core.Bool.{Bool, true, ◌&&◌}
+use mathlib.Core.Path.{sym, ap, ◌∙◌}
+use mathlib.Core.Bool.{Bool, ◌&&◌}
 use Rattle.directory.specs.Rules.{table_good}
-use Rattle.tables.specs.Tables.{has_rows, entries_in}
-use Rattle.tables.proofs.Widths.{rows-wide, rows_fit}
+use Rattle.tables.specs.Tables.{entries_in}
+use Rattle.tables.proofs.Tables.{table-made, table_is}
 use Rattle.tables.proofs.table_good.Goals as goal
 
-pub rows_good-requires : goal.rows_good-requires
-rows_good-requires c =
+pub returns-in-Some : goal.returns-in-Some
+returns-in-Some c =
     let a = c.args in
-    let t : has_rows a.width a.rows a.b.now ≡ true = sym c.has_rows.ensures ∙ c.if-has_rows.true in
-    (rows-wide a.width a.rows a.b.now t, rows_fit a.width a.rows a.b.now t)
+    let h = c.in-Some.ensures in
+    c.is_good.ensures ∙ ap (table_good a.sectors) (table-made c.in-Some.t a.width a.rows a.b.now h ∙ table_is a.width a.rows a.b.now h.0)
+    ∙ ap (λ (x : Bool). x && table_good a.sectors (entries_in a.width a.rows a.b.now)) (sym h.0)
 
-pub returns-then-has_rows : goal.returns-then-has_rows
-returns-then-has_rows c =
+pub returns-in-None : goal.returns-in-None
+returns-in-None c =
     let a = c.args in
-    c.rows_good.ensures ∙ ap (λ (h : Bool). h && table_good a.sectors (entries_in a.width a.rows a.b.now)) (sym c.if-has_rows.true ∙ c.has_rows.ensures)
-
-pub returns-else-has_rows : goal.returns-else-has_rows
-returns-else-has_rows c =
-    let a = c.args in
-    ap (λ (h : Bool). h && table_good a.sectors (entries_in a.width a.rows a.b.now)) (sym c.if-has_rows.false ∙ c.has_rows.ensures)
+    ap (λ (x : Bool). x && table_good a.sectors (entries_in a.width a.rows a.b.now)) (sym c.in-None.ensures)

@@ -1,31 +1,25 @@
--- `texts::number_in` meets its contract: r is what the first k digits say.
-use mathlib.Core.Path.{◌≡◌, refl, sym, ap, ◌∙◌}
-use Prim.Native.Nat.{ℕ}
+-- `texts::number_in` meets its contract: the digits from the index on say, behind n, what all of them say.
+use mathlib.Core.Path.{sym, ◌∙◌}
 use native.Mathlib.Omega.{arith}
-use lib.ListN.{length, take, get_or}
-use lib.Seq.{take-length}
-use Rattle.texts.specs.declared.Numeral.{Numeral}
-use Rattle.texts.specs.declared.Numeral.TheVariants.{Number}
-use Rattle.texts.specs.Texts.{with_digit, with_digits}
-use Rattle.texts.proofs.Reading.{digits_more, no_number, some_number}
+use borrow.Author.Rules.{rules}
+use Rattle.std.specs.Prelude.{Some, None}
+use Rattle.texts.proofs.Reading.{digits_next, digits_end, none-behind, one-to-ten}
 use Rattle.texts.proofs.number_in.Goals as goal
 
-pub returns-then-text : goal.returns-then-text
-returns-then-text c = sym (no_number c.args.text.now c.if-text.true)
-
-pub loop-k-init : goal.loop-k-init
-unfolding with_digits
-loop-k-init c = (refl, omega arith)
-
-pub loop-k-preserved : goal.loop-k-preserved
-loop-k-preserved c =
-    let l = c.loop-k in
+pub returns-in_err-n : goal.returns-in_err-n
+returns-in_err-n c =
+    let l = c.loop-c in
     let xs = c.args.text.now in
-    (c.with_digit-r.ensures ∙ ap (λ (r : Numeral). with_digit r (get_or xs l.k 0)) l.invariant.0 ∙ sym (digits_more (Number 0) xs l.k (omega arith)), omega arith)
+    let e : _ = digits_next l.n xs l.c-index None (omega arith) (sym c.longer.ensures ∙ c.in_err-n.was) in
+    c.from_residual.ensures ∙ sym (e ∙ none-behind _) ∙ l.invariant ∙ sym (one-to-ten xs (search rules) c.if-text-gt10.false)
+
+pub loop-c-preserved : goal.loop-c-preserved
+loop-c-preserved c =
+    let l = c.loop-c in
+    sym (digits_next l.n c.args.text.now l.c-index (Some c.in_ok-n.n) (omega arith) (sym c.longer.ensures ∙ c.in_ok-n.was)) ∙ l.invariant
 
 pub returns : goal.returns
 returns c =
-    let l = c.loop-k in
+    let l = c.loop-c in
     let xs = c.args.text.now in
-    let e : l.k ≡ length xs = omega arith in
-    l.invariant.0 ∙ ap (with_digits (Number 0)) (ap (λ (k : ℕ). take k xs) e ∙ take-length xs) ∙ sym (some_number xs c.if-text.false)
+    sym (digits_end l.n xs l.c-index (omega arith)) ∙ l.invariant ∙ sym (one-to-ten xs (search rules) c.if-text-gt10.false)

@@ -1,13 +1,8 @@
--- `texts::number_in` meets its contract: r is what the first k digits say.
+-- `texts::number_in` meets its contract: the digits from the index on say, behind n, what all of them say.
 use mathlib.Core.Path.{◌≡◌}
-use Prim.Native.Nat.{◌≤◌, ◌-◌}
-use lib.ListN.{length, take}
-use Rattle.texts.specs.declared.Numeral.TheVariants.{Number}
+use Rattle.std.specs.Prelude.{Some, drop}
 use Rattle.texts.specs.Texts.{with_digits}
 use Rattle.texts.proofs.number_in.Given as goal
 
-abbrev pub invariant-loop-k : goal.invariant-loop-k
-invariant-loop-k l = (l.r ≡ with_digits (Number 0) (take l.k l.text)) × (l.k ≤ length l.text)
-
-abbrev pub decreases-loop-k : goal.decreases-loop-k
-decreases-loop-k l = length l.text - l.k
+abbrev pub invariant-loop-c : goal.invariant-loop-c
+invariant-loop-c l = with_digits (Some l.n) (drop l.c-index l.text) ≡ with_digits (Some 0) l.text

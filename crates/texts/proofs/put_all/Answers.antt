@@ -1,5 +1,5 @@
--- `texts::put_all` meets its contract: behind the first k bytes the rest is to be put.
-use mathlib.Core.Path.{◌≡◌, refl, ◌∙◌}
+-- `texts::put_all` meets its contract: from the index on the rest is to be put.
+use mathlib.Core.Path.{◌≡◌}
 use mathlib.Core.List.{[], ◌∷◌, ◌++◌}
 use Prim.Native.Nat.{◌+◌}
 use native.Mathlib.Omega.{arith}
@@ -9,23 +9,19 @@ use lib.Seq.{drop-cons}
 use Rattle.texts.proofs.Writing.{leads-on, leads-end}
 use Rattle.texts.proofs.put_all.Goals as goal
 
-pub loop-k-init : goal.loop-k-init
-loop-k-init c = (λ new b w. w, omega arith, refl)
+pub loop-c-init : goal.loop-c-init
+loop-c-init c = λ new b w. w
 
-pub loop-k-preserved : goal.loop-k-preserved
-loop-k-preserved c =
-    let l = c.loop-k in
-    let p = c.put_byte-a in
+pub loop-c-preserved : goal.loop-c-preserved
+loop-c-preserved c =
+    let l = c.loop-c in
     let xs = c.args.xs.now in
-    let e : drop l.k xs ≡ (get_or xs l.k 0 ∷ []) ++ drop (l.k + 1) xs = rw (drop-cons xs l.k 0 (omega arith), add-one) in
-    (leads-on (rw e at l.invariant.0) p.ensures, omega arith, p.auto.out ∙ l.invariant.2)
-
-pub shape_of-out : goal.shape_of-out
-shape_of-out c = c.loop-k.invariant.2
+    let e : drop l.c-index xs ≡ (get_or xs l.c-index 0 ∷ []) ++ drop (l.c-index + 1) xs = rw (drop-cons xs l.c-index 0 (omega arith), add-one) in
+    leads-on (rw e at l.invariant) c.put_byte-a.ensures
 
 pub returns : goal.returns
 returns c =
-    let l = c.loop-k in
+    let l = c.loop-c in
     let xs = c.args.xs.now in
-    let e : drop l.k xs ≡ [] = drop_of_length-le xs {i = l.k} (omega arith) in
-    leads-end (rw e at l.invariant.0)
+    let e : drop l.c-index xs ≡ [] = drop_of_length-le xs {i = l.c-index} (omega arith) in
+    leads-end (rw e at l.invariant)

@@ -17,38 +17,32 @@ returns-then-e-gt3 c =
     let a = c.args in
     sym (used-flagged a.n a.e (sym c.extent_inside.ensures ∙ c.if-not-extent_inside.false) (lt-leb _ _ c.if-e-gt3.true))
 
-pub returns-then-e-eq-COMPRESSED : goal.returns-then-e-eq-COMPRESSED
+pub returns-in-1 : goal.returns-in-1
 unfolding flags_known
-returns-then-e-eq-COMPRESSED c =
-    let a = c.args in
-    c.compressed_good.ensures ∙ sym (used-kind a.n a.e (sym c.extent_inside.ensures ∙ c.if-not-extent_inside.false) (le-leb _ _ c.if-e-gt3.false) (omega arith) (omega arith))
-
-pub returns-then-e-eq-RANDOM : goal.returns-then-e-eq-RANDOM
-unfolding flags_known
-returns-then-e-eq-RANDOM c =
-    let a = c.args in
-    c.random_good.ensures ∙ sym (used-kind a.n a.e (sym c.extent_inside.ensures ∙ c.if-not-extent_inside.false) (le-leb _ _ c.if-e-gt3.false) (omega arith) (omega arith))
-
-pub returns-then-e-gt-BLOCKED : goal.returns-then-e-gt-BLOCKED
-unfolding flags_known
-returns-then-e-gt-BLOCKED c =
-    let a = c.args in
-    sym (used-other a.n a.e (sym c.extent_inside.ensures ∙ c.if-not-extent_inside.false) (le-leb _ _ c.if-e-gt3.false) (λ z. omega arith) (λ z. omega arith) c.if-e-eq-COMPRESSED.false c.if-e-eq-RANDOM.false)
-
-pub returns-then-e-eq-BLOCKED : goal.returns-then-e-eq-BLOCKED
-unfolding flags_known
-returns-then-e-eq-BLOCKED c =
-    let a = c.args in
-    c.blocked_good.ensures ∙ sym (used-kind a.n a.e (sym c.extent_inside.ensures ∙ c.if-not-extent_inside.false) (le-leb _ _ c.if-e-gt3.false) (omega arith) (omega arith))
-
-pub returns-then-e-eq-UNBLOCKED : goal.returns-then-e-eq-UNBLOCKED
-unfolding flags_known
-returns-then-e-eq-UNBLOCKED c =
+returns-in-1 c =
     let a = c.args in
     c.unblocked_good.ensures ∙ sym (used-kind a.n a.e (sym c.extent_inside.ensures ∙ c.if-not-extent_inside.false) (le-leb _ _ c.if-e-gt3.false) (omega arith) (omega arith))
 
-pub returns : goal.returns
+pub returns-in-2 : goal.returns-in-2
 unfolding flags_known
-returns c =
+returns-in-2 c =
     let a = c.args in
-    sym (used-other a.n a.e (sym c.extent_inside.ensures ∙ c.if-not-extent_inside.false) (le-leb _ _ c.if-e-gt3.false) c.if-e-eq-UNBLOCKED.false c.if-e-eq-BLOCKED.false (λ z. omega arith) (λ z. omega arith))
+    c.blocked_good.ensures ∙ sym (used-kind a.n a.e (sym c.extent_inside.ensures ∙ c.if-not-extent_inside.false) (le-leb _ _ c.if-e-gt3.false) (omega arith) (omega arith))
+
+pub returns-in-3 : goal.returns-in-3
+unfolding flags_known
+returns-in-3 c =
+    let a = c.args in
+    c.compressed_good.ensures ∙ sym (used-kind a.n a.e (sym c.extent_inside.ensures ∙ c.if-not-extent_inside.false) (le-leb _ _ c.if-e-gt3.false) (omega arith) (omega arith))
+
+pub returns-in-4 : goal.returns-in-4
+unfolding flags_known
+returns-in-4 c =
+    let a = c.args in
+    c.random_good.ensures ∙ sym (used-kind a.n a.e (sym c.extent_inside.ensures ∙ c.if-not-extent_inside.false) (le-leb _ _ c.if-e-gt3.false) (omega arith) (omega arith))
+
+pub returns-in_default : goal.returns-in_default
+unfolding flags_known
+returns-in_default c =
+    let a = c.args in
+    sym (used-other a.n a.e (sym c.extent_inside.ensures ∙ c.if-not-extent_inside.false) (le-leb _ _ c.if-e-gt3.false) (λ z. omega arith) (λ z. omega arith) (λ z. omega arith) (λ z. omega arith))

@@ -1,7 +1,0 @@
--- The calls answer for the tests one after another, in the order of the list.
-use Rattle.requests.specs.Judge.{first_of, or_else}
-use Rattle.answering.proofs.at_end.Goals as goal
-
-pub returns : goal.returns
-unfolding first_of or_else
-returns c = rw (c.meet.ensures, c.refuse-over.ensures)

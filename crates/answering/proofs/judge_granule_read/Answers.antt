@@ -1,7 +1,0 @@
--- The calls answer for the tests one after another, in the order of the list.
-use Rattle.requests.specs.Judge.{judge, tests, first_of, or_else}
-use Rattle.answering.proofs.judge_granule_read.Goals as goal
-
-pub returns : goal.returns
-unfolding judge tests first_of or_else
-returns c = rw (c.granular.ensures, c.refuse-small.ensures, c.within-room.ensures)

@@ -1,6 +1,0 @@
--- `play_io::play_rows` ends: the number of the row grows to a bound.
-use Rattle.std.proofs.Common.{◌-◌}
-use Rattle.play_io.proofs.play_rows.Given as goal
-
-abbrev pub decreases-loop-k : goal.decreases-loop-k
-decreases-loop-k g l = l.most - l.k
