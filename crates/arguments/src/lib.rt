@@ -1,5 +1,5 @@
-// What the programs share: the files that their arguments name, and the line that tells an error. What a file gives and what is printed,
-// no contract can say.
+// What the programs share: the files that their arguments name, the line that tells an error, and the directory listing printed. What a file gives and what is
+// printed, no contract can say.
 #![tactic(auto)]
 
 ghost use Rattle.std.specs.Prelude.{◌≡◌, IfSome, take};
@@ -198,6 +198,13 @@ pub fn writable(rt: &HostRuntime, i: usize) -> bool {
 }
 
 // ---- images
+
+// Prints the listing of an image. A listing has at most 1,596 bytes (`short`, in listing's proofs).
+pub fn print_listing(rt: &impl Print, image: &[u8]) {
+    let mut out = [0u8; 1600];
+    let size = listing::write_listing(image, &mut out);
+    let _ = rt.write_all(&out[..size]);
+}
 
 // Reads the image that argument i names, in room for 4,096 sectors. How many bytes it has; none if it cannot be read whole, and then that is told.
 pub fn read_image(rt: &HostRuntime, i: usize, room: &mut [u8]) -> Option<usize>

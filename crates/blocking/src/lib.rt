@@ -8,7 +8,9 @@ ghost use Rattle.geometry.specs.Bytes.{part};
 ghost use Rattle.geometry.specs.Sizes.{sector};
 ghost use Rattle.sessions.specs.Session.{has_buffer};
 ghost use Rattle.steps.specs.Effects.{sector_at, putting_back, loaded, taking};
-ghost use Rattle.blocking.specs.Blocking.{Kept, bench_of, is_there, held_way};
+ghost use Rattle.steps.specs.Effects as Effects;
+ghost use Rattle.straight.specs.Moving.{scene};
+ghost use Rattle.blocking.specs.Blocking.{Kept, lent, bench_of, is_there, held_do, held_way};
 
 use directory::{Entry, stamp};
 use geometry::Geometry;
@@ -47,23 +49,31 @@ fn is_there(e: Entry, k: usize, n: usize) -> bool
 
 // ---- the buffer
 
-impl<'a> Held<'a> {
-    // A changed buffer goes back to its sector; one that is not changed is not written.
-    fn lay_back(&mut self)
-        ensures { (bench_of self.new ≡ putting_back self.old.entry (bench_of self.old)) × Kept self.old self.new }
-    {
-        let h = self.hold;
-        if h.holds & h.changed {
-            let at = sector_at(self.entry, h.held);
-            let buffer: &mut [u8] = self.buffer;
-            lay(self.image, at, buffer);
-            self.hold = Holding {
-                changed: false,
-                ..h
-            };
-        }
+// A changed buffer goes back to its sector; one that is not changed is not written.
+fn lay_back(image: &mut [u8], e: Entry, h: Holding, buffer: &[u8]) -> Holding
+    ensures { lent image.new result buffer.now ≡ putting_back e (lent image.old h buffer.now) }
+{
+    if h.holds & h.changed {
+        lay(image, sector_at(e, h.held), buffer);
+        return Holding {
+            changed: false,
+            ..h
+        };
     }
+    h
+}
 
+// The buffer of a file that has one goes back.
+pub fn put_back(image: &mut [u8], e: Entry, h: Holding, buffer: &[u8]) -> Holding
+    ensures { lent image.new result buffer.now ≡ held_do (scene 0 e) Effects.put_back (lent image.old h buffer.now) }
+{
+    if (buffer.len() == Geometry::SECTOR) & has_buffer(e) {
+        return lay_back(image, e, h, buffer);
+    }
+    h
+}
+
+impl<'a> Held<'a> {
     // Sector k of the extent comes into the buffer, whatever that held.
     fn load(&mut self, k: u32)
         requires { (sector_at self.old.entry k + sector ≤ length self.old.image.now) × (length self.old.buffer.now ≡ sector) }
@@ -88,7 +98,8 @@ impl<'a> Held<'a> {
         if h.holds & (h.held == k) {
             return;
         }
-        self.lay_back();
+        let buffer: &mut [u8] = self.buffer;
+        self.hold = lay_back(self.image, self.entry, self.hold, buffer);
         self.load(k);
     }
 }
@@ -136,12 +147,12 @@ impl<'a> Mover for Held<'a> {
 
     // The buffer of a file that has one goes back.
     fn put_back(&mut self) {
-        if (self.buffer.len() == Geometry::SECTOR) & has_buffer(self.entry) {
-            self.lay_back();
-        }
+        let buffer: &mut [u8] = self.buffer;
+        self.hold = put_back(self.image, self.entry, self.hold, buffer);
     }
 
-    // Stays: as `Straight` has it, and `stamp` and `entry` too: a default method would need a method that lends the image, whose clause is longer than these lines.
+    // Stays: `store`, `stamp` and `entry` are `Straight`'s word for word; as default methods they would need one more that lends the image, with a clause longer
+    // than they are.
     fn store(&mut self, k: u32, given: &[u8]) {
         store(self.image, self.entry, k, given);
     }

@@ -12,6 +12,7 @@ use requests::Request;
 use sessions::{Holding, OpenFile};
 
 // A request on entry i, with what its file holds; k is the sector that a record read of a compressed file lies in.
+// Stays: beside `held::act`, for its clause (`held_all`, `effects_with`).
 pub fn act(
     image: &mut [u8],
     i: usize,

@@ -49,6 +49,7 @@ pub fn go(file: &mut Opened, at: Option<u64>) {
 }
 
 // Two words as a number, high word first.
+// Stays: two words that lie apart, so no array of four bytes.
 pub fn number(high: u16, low: u16) -> u32
     ensures { result ≡ high * 65536 + low }
 {

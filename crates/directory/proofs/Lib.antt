@@ -6,3 +6,4 @@ pub mod Good
 pub mod Stamped
 pub mod Restamp
 pub mod Find
+pub mod Fields

@@ -1,8 +1,8 @@
 // The directory: document 01's "Sizes and the directory".
 #![tactic(auto)]
 
-ghost use Rattle.std.specs.Prelude.{◌≡◌, ◌++◌};
-ghost use Rattle.geometry.specs.Bytes.{padded, word};
+ghost use Rattle.std.specs.Prelude.{◌≡◌};
+ghost use Rattle.geometry.specs.Bytes.{padded};
 ghost use Rattle.geometry.specs.Bytes as Bytes;
 ghost use Rattle.directory.specs.Entries.{entry_from, entry_bytes, one_word, free_entry, table_of, entry_at, is_marked, is_protected};
 ghost use Rattle.directory.specs.Search.{matches};
@@ -56,54 +56,25 @@ pub fn entry_from(b: &[u8]) -> Entry
     }
 }
 
-// A name and six words, as 20 bytes.
-fn twenty_bytes(
-    name: [u8; 8],
-    kind: u16,
-    length: u16,
-    first: u16,
-    sectors: u16,
-    count: u16,
-    flags: u16,
-) -> [u8; 20]
-    ensures { result ≡ name ++ (word kind ++ (word length ++ (word first ++ (word sectors ++ (word count ++ word flags))))) }
-{
-    [
-        name[0],
-        name[1],
-        name[2],
-        name[3],
-        name[4],
-        name[5],
-        name[6],
-        name[7],
-        (kind / 256) as u8,
-        (kind % 256) as u8,
-        (length / 256) as u8,
-        (length % 256) as u8,
-        (first / 256) as u8,
-        (first % 256) as u8,
-        (sectors / 256) as u8,
-        (sectors % 256) as u8,
-        (count / 256) as u8,
-        (count % 256) as u8,
-        (flags / 256) as u8,
-        (flags % 256) as u8,
-    ]
-}
-
 // The 20 bytes of an entry, which have room for the last 16 bits of its count.
 pub fn entry_bytes(e: Entry) -> [u8; 20]
     ensures { result ≡ entry_bytes (one_word e) }
 {
-    let name = e.name;
-    let count = (e.count % 65536) as u16;
-    twenty_bytes(name, e.kind, e.length, e.first, e.sectors, count, e.flags)
+    let mut b = [0; 20];
+    lay(&mut b, 0, &e.name);
+    lay(&mut b, 8, &e.kind.to_be_bytes());
+    lay(&mut b, 10, &e.length.to_be_bytes());
+    lay(&mut b, 12, &e.first.to_be_bytes());
+    lay(&mut b, 14, &e.sectors.to_be_bytes());
+    lay(&mut b, 16, &((e.count % 65536) as u16).to_be_bytes());
+    lay(&mut b, 18, &e.flags.to_be_bytes());
+    b
 }
 
 // ---- the table
 
 // An entry of 20 zero bytes.
+// Stays: a function, since its clause names `free_entry`; the clause of a derived Default would name no definition.
 pub fn free_entry() -> Entry
     ensures { result ≡ free_entry }
 {
@@ -162,13 +133,9 @@ pub fn is_named(e: Entry, name: &[u8]) -> bool
 fn stamp_bytes(count: u32, flags: u16) -> [u8; 4]
     ensures { result ≡ stamp_bytes count flags }
 {
-    let c = count % 65536;
-    [
-        (c / 256) as u8,
-        (c % 256) as u8,
-        (flags / 256) as u8,
-        (flags % 256) as u8,
-    ]
+    let [a, b] = ((count % 65536) as u16).to_be_bytes();
+    let [c, d] = flags.to_be_bytes();
+    [a, b, c, d]
 }
 
 // Writes count and flags to bytes 16 to 19 of entry i, if there is such an entry.

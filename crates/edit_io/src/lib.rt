@@ -10,7 +10,9 @@ use typing::{kind_of, number_of, put_name};
 // ---- what is printed
 
 // Prints the words of an answer's number.
+// Stays: as `print_listing`, in a room of another size.
 pub fn print_words(rt: &impl Print, number: u16) {
+    // Stays: a room of fixed size with its length, since nothing is allocated.
     let mut words = [0u8; 64];
     let n = put_words(number, &mut words);
     let _ = rt.write_all(&words[..n]);

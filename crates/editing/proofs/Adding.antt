@@ -96,6 +96,12 @@ module _ (image b : List ℕ) (ok : buffered_legal image (lent_session b) ≡ tr
   table : s.table ≡ t
   table = lent-table b (legal-told image b ok)
 
+  many : length s.table ≡ entries
+  many = ap (λ (s : BufferedSession). length s.table) (session-is (has_buffers b) b (legal-told image b ok)) ∙ length-entries two_words_wide entries b
+
+  rows : length t ≡ entries
+  rows = ap (λ (t : List Entry). length t) (sym table) ∙ many
+
   module _ (k l m : ℕ) (name : List ℕ) (i before : ℕ) where
     abbrev found : EditFacts
     found = record {
@@ -136,17 +142,17 @@ module _ (image b : List ℕ) (ok : buffered_legal image (lent_session b) ≡ tr
             pub in_use_lem : q ≡ true → Left NameInUse
             in_use_lem h = refuses NameInUse (name-in-use k l m found refl (sym r-is ∙ r-no) (sym a-is ∙ a-yes) (sym f-is ∙ f-yes) (sym q-is ∙ h))
 
-            module _ (q-no : q ≡ false) (n : ℕ) (n-is : n ≡ lowest_free t) where
-              pub none_free : entries ≤ n → Left NoEntry
+            module _ (q-no : q ≡ false) where
+              pub none_free : lowest_free t ≡ length t → Left NoEntry
               none_free h =
-                  refuses NoEntry (no-entry k l m found refl (sym r-is ∙ r-no) (sym a-is ∙ a-yes) (sym f-is ∙ f-yes) (sym q-is ∙ q-no) (le-ltb (lowest_free t) entries (omega (arith, n-is))))
+                  refuses NoEntry (no-entry k l m found refl (sym r-is ∙ r-no) (sym a-is ∙ a-yes) (sym f-is ∙ f-yes) (sym q-is ∙ q-no) (le-ltb (lowest_free t) entries (omega (arith, h, rows))))
 
-              module _ (n-in : n < entries) (M : ℕ) (M-is : M ≡ N) (p : ℕ) (p-gap : p ≡ lowest_gap (is_taken t) M m) where
+              module _ (n : ℕ) (n-is : (lowest_free t ≡ n) × (n < length t)) (M : ℕ) (M-is : M ≡ N) (p : ℕ) (p-gap : p ≡ lowest_gap (is_taken t) M m) where
                 p-is : p ≡ lowest_gap (is_taken t) N m
                 p-is = p-gap ∙ ap (λ (M : ℕ). lowest_gap (is_taken t) M m) M-is
 
                 free : ltb (lowest_free t) entries ≡ true
-                free = lt-ltb (lowest_free t) entries (omega (arith, n-is))
+                free = lt-ltb (lowest_free t) entries (omega (arith, n-is.0, n-is.1, rows))
 
                 pub no_room : M ≤ p → Left NoGap
                 no_room h =
@@ -162,9 +168,6 @@ module _ (image b : List ℕ) (ok : buffered_legal image (lent_session b) ≡ tr
                       ap (judge_edit (Add k l m)) are-found
                       ∙ adds k l m found refl (sym r-is ∙ r-no) (sym a-is ∙ a-yes) (sym f-is ∙ f-yes) (sym q-is ∙ q-no) free (lt-ltb (lowest_gap (is_taken t) N m) N (omega (arith, p-is)))
 
-                  many : length s.table ≡ entries
-                  many = ap (λ (s : BufferedSession). length s.table) (session-is (has_buffers b) b (legal-told image b ok)) ∙ length-entries two_words_wide entries b
-
                   fits-so : entry_fits (edited_entry (Add k l m) N s.table name) ≡ true
                   unfolding edit_answer_by bare
                   fits-so = made-fits image (bare s) (buffered_legal image s) (λ h. bare-legal image s h) many i (Add k l m) name done
@@ -173,7 +176,7 @@ module _ (image b : List ℕ) (ok : buffered_legal image (lent_session b) ≡ tr
                       → Handed (edited_in image b i (Add k l m) name) Done image' b' before n
                   unfolding edited_number edited_entry told_of
                   added image' b' x y =
-                      let z : lowest_free s.table ≡ n = ap lowest_free table ∙ sym n-is in
+                      let z : lowest_free s.table ≡ n = ap lowest_free table ∙ n-is.0 in
                       let g : lowest_gap (is_taken s.table) N m ≡ p = ap (λ (t : List Entry). lowest_gap (is_taken t) N m) table ∙ sym p-is in
                       let w = done-in image b i (Add k l m) name (legal-told image b ok) done fits-so before in
                       rw (x, y) (rw (z, g) at w)

@@ -14,7 +14,7 @@ ghost use Rattle.requests.specs.declared.Edit.TheVariants.{Add, Delete};
 ghost use Rattle.sessions.specs.Session.{bare, file_of, buffered_legal};
 ghost use Rattle.steps.specs.Edit.{is_taken_name};
 ghost use Rattle.storing.specs.Stored.{has_buffers, is_session, lent_session};
-ghost use Rattle.editing.specs.Editing.{edited_in, Handed};
+ghost use Rattle.editing.specs.Editing.{edited_in, Handed, Added, Deleted};
 
 use directory::{Entry, free_entry};
 use finding::find_in;
@@ -54,17 +54,8 @@ fn put_both(image: &mut [u8], session: &mut [u8], n: usize, e: Entry)
     put_entry(session, Width::TWO, Geometry::ENTRIES, n, e);
 }
 
-// The eight bytes of a name.
-fn own_name(name: &[u8]) -> [u8; 8]
-    requires { ListN.length name.now ≡ 8 }
-    ensures { (result ≡ name.now) × (every is_byte name.now ≡ true) }
-{
-    [
-        name[0], name[1], name[2], name[3], name[4], name[5], name[6], name[7],
-    ]
-}
-
 // Lays the entry of a file that is added.
+// Stays: three numbers apart, as `Edit::Add` and the clause of `lleuadrys_add` (`Add kind length sectors`) have them.
 fn put_file(
     image: &mut [u8],
     session: &mut [u8],
@@ -80,7 +71,7 @@ fn put_file(
         × (session.new ≡ lay_entry two_words_wide entries session.old n (file_made kind length sectors name.now first))
         × (every is_byte name.now ≡ true) }
 {
-    let own = own_name(name);
+    let own = <[u8; 8]>::try_from(name).unwrap();
     let e = Entry {
         name: own,
         kind: kind,
@@ -95,7 +86,8 @@ fn put_file(
 
 // ---- the two edits, on a session that is legal
 
-// ADD.
+// ADD: the number of the entry that is added.
+// Stays: three numbers apart, as `Edit::Add` and the clause of `lleuadrys_add` (`Add kind length sectors`) have them.
 fn add(
     image: &mut [u8],
     session: &mut [u8],
@@ -103,53 +95,56 @@ fn add(
     length: u16,
     sectors: u16,
     name: &[u8],
-    at: &mut usize,
-) -> Answer
+) -> Result<usize, Refusal>
     requires { buffered_legal image.old (lent_session session.old) ≡ true }
-    ensures { (i : ℕ) → Handed (edited_in image.old session.old i (Add kind length sectors) name.now)
-        result image.new session.new at.old at.new }
+    ensures { (i : ℕ) → Added (edited_in image.old session.old i (Add kind length sectors) name.now)
+        result image.new session.new }
 {
     if says_refused(session) {
-        return Answer::Refused(Refusal::BadImage);
+        return Err(Refusal::BadImage);
     }
     if !is_named(name) {
-        return Answer::Refused(Refusal::BadName);
+        return Err(Refusal::BadName);
     }
     if !shape_good(kind, length, sectors) {
-        return Answer::Refused(Refusal::BadShape);
+        return Err(Refusal::BadShape);
     }
     if is_taken(session, name) {
-        return Answer::Refused(Refusal::NameInUse);
+        return Err(Refusal::NameInUse);
     }
-    let n = lowest_free(session, Width::TWO, Geometry::ENTRIES);
-    if Geometry::ENTRIES <= n {
-        return Answer::Refused(Refusal::NoEntry);
-    }
+    let Some(n) = lowest_free(session, Width::TWO, Geometry::ENTRIES) else {
+        return Err(Refusal::NoEntry);
+    };
     let all = Geometry::sectors_of(image) as u32;
     let first = lowest_gap(session, Width::TWO, Geometry::ENTRIES, all, sectors);
     if all <= first {
-        return Answer::Refused(Refusal::NoGap);
+        return Err(Refusal::NoGap);
     }
     put_file(image, session, n, kind, length, sectors, name, first);
-    *at = n;
-    Answer::Done
+    Ok(n)
 }
 
 // DELETE, of an entry of which is known whether it is used and whether its file is open.
-fn delete(image: &mut [u8], session: &mut [u8], i: usize, used: bool, opened: bool) -> Answer
+fn delete(
+    image: &mut [u8],
+    session: &mut [u8],
+    i: usize,
+    used: bool,
+    opened: bool,
+) -> Result<(), Refusal>
     requires { (buffered_legal image.old (lent_session session.old) ≡ true)
         × ((used ≡ not (is_free (entry_at (lent_session session.old).table i))) × (opened ≡ (file_of (bare (lent_session session.old)).files i).used)) }
-    ensures { (name : List ℕ) (at : ℕ) → Handed (edited_in image.old session.old i Delete name)
-        result image.new session.new at at }
+    ensures { (name : List ℕ) → Deleted (edited_in image.old session.old i Delete name)
+        result image.new session.new }
 {
     if !used {
-        return Answer::Refused(Refusal::NotThere);
+        return Err(Refusal::NotThere);
     }
     if opened {
-        return Answer::Refused(Refusal::AlreadyOpen);
+        return Err(Refusal::AlreadyOpen);
     }
     put_both(image, session, i, free_entry());
-    Answer::Done
+    Ok(())
 }
 
 // An edit on the session that the lent bytes are: ADD adds a file of that name, and its entry's number goes into at; DELETE deletes the file of entry i.
@@ -173,11 +168,20 @@ pub fn edit(
             kind,
             length,
             sectors,
-        } => add(image, session, kind, length, sectors, name, at),
+        } => match add(image, session, kind, length, sectors, name) {
+            Ok(n) => {
+                *at = n;
+                Answer::Done
+            }
+            Err(y) => Answer::Refused(y),
+        },
         Edit::Delete => {
             let e = seen.entry;
             let f = seen.file;
-            delete(image, session, i, e.kind != Geometry::FREE, f.used)
+            match delete(image, session, i, e.kind != Geometry::FREE, f.used) {
+                Ok(()) => Answer::Done,
+                Err(y) => Answer::Refused(y),
+            }
         }
     }
 }

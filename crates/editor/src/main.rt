@@ -46,7 +46,7 @@ fn mount(rt: &HostRuntime, room: &mut [u8], session: &mut [u8]) -> Option<usize>
 }
 
 // What a call answers: the entry where its number is 0, or that number.
-// Stays: the calls have the C interface, which puts the entry where it is told and answers a number.
+// Stays: `lleuadrys_add`, `lleuadrys_delete` and `lleuadrys_find` have the C interface: a number, and a place lent for the entry.
 fn answered(number: u16, entry: usize) -> Result<usize, u16> {
     match number {
         0 => Ok(entry),
@@ -130,6 +130,7 @@ fn edit(rt: &HostRuntime, room: &mut [u8; 1474560], session: &mut [u8; Form::SES
 }
 
 fn main(rt: HostRuntime) {
+    // Stays: a room of fixed size with its length, since nothing is allocated.
     let mut room = [0u8; 1474560];
     let mut session = [0u8; Form::SESSION];
     edit(&rt, &mut room, &mut session);

@@ -21,6 +21,7 @@ use storing::{Form, has_buffers};
 
 // In a session with buffers, on the buffer of the file's state, which is made fresh first if it is not in use; in one with none, straight in the image. k is the
 // sector of the file's next place.
+// Stays: image and session side by side, as every call of `lleuadrys` is lent them.
 fn act(
     image: &mut [u8],
     session: &mut [u8],
@@ -105,6 +106,7 @@ pub fn request(
     ensures { after_in result image.new session.new buffer.new
         ≡ requested image.old session.old i q given.now buffer.old }
 {
+    // Stays: a room of fixed size with its length, since nothing is allocated.
     let mut code = [0u8; Geometry::LONGEST_CODE];
     request_in(image, session, i, q, given, &mut code, buffer)
 }

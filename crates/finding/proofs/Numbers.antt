@@ -1,10 +1,10 @@
--- The number in four or eight bytes, as std takes them together: each byte counts 256 times the one before it.
+-- The number in four bytes, as std takes them together: each byte counts 256 times the one before it.
 use mathlib.Core.Path.{◌≡◌}
 use mathlib.Core.List.{List, [], ◌∷◌}
 use Prim.Native.Nat.{ℕ, ◌+◌, ◌≤◌}
 use native.Mathlib.Omega.{arith}
 use lib.ListN.{length, get_or}
-use Rattle.std.specs.Int.{from_le_bytes, w32, w64}
+use Rattle.std.specs.Int.{from_le_bytes, w32}
 use Rattle.geometry.specs.Bytes.{part}
 use Rattle.tables.specs.Numbers.{number_in}
 use Rattle.storing.proofs.Numbers.{written}
@@ -14,9 +14,3 @@ module _ (b : List ℕ) (at : ℕ) where
       → n ≡ number_in (part b at 4)
   unfolding number_in
   four-in h n e = rw (written b at 3 h) (omega (arith, e))
-
-  pub eight-in : at + 8 ≤ length b → (n : ℕ)
-      → n ≡ from_le_bytes w64 (get_or b at 0 ∷ get_or b (at + 1) 0 ∷ get_or b (at + 2) 0 ∷ get_or b (at + 3) 0 ∷ get_or b (at + 4) 0 ∷ get_or b (at + 5) 0 ∷ get_or b (at + 6) 0 ∷ get_or b (at + 7) 0 ∷ [])
-      → n ≡ number_in (part b at 8)
-  unfolding number_in
-  eight-in h n e = rw (written b at 7 h) (omega (arith, e))

@@ -38,9 +38,9 @@ use Rattle.directory.specs.Entries.{is_free}
 use Rattle.tables.specs.Rows.{row_in}
 use Rattle.tables.proofs.Rows.{length-row, get_or-row}
 use Rattle.storing.specs.Numbers.{is_set, is_flag, flag_of}
-use Rattle.storing.specs.Stored.{files_at, width, size_of, has_buffers, place_in, file_in, file_flags, held_in, held_flags, state_in, state_flags, hold_of, no_hold, is_session, states_in, unlawful, lent_session}
+use Rattle.storing.specs.Stored.{files_at, width, size_of, has_buffers, place_in, file_in, file_flags, held_in, held_flags, state_in, state_flags, hold_of, no_hold, is_session, table_in, states_in, unlawful, lent_session}
 use Rattle.storing.proofs.Read.{width-least, width-most, session-size, session-flags, session-is, session-none, bare-state}
-use Rattle.finding.specs.Lent.{if_used, in_use, state_at, seen_of}
+use Rattle.finding.specs.Lent.{if_used, in_use, state_at, seen_of, seen_in}
 use Rattle.finding.specs.Whole.{whole_in, IsFirst}
 
 -- ---- one state
@@ -254,13 +254,24 @@ module _ (t : List Entry) (x : BufferedFile) (u : Bool) (pu : u ≡ x.file.used)
 -- ---- what is seen of a session
 
 module _ (s : BufferedSession) (i : ℕ) where
-  pub seen-is : (image : List ℕ) (l m : Bool) (n k : ℕ) (h : Holding) (e : Entry) (f : OpenFile)
+  pub seen-of : (image : List ℕ) (l m : Bool) (n k : ℕ) (h : Holding) (e : Entry) (f : OpenFile)
       → l ≡ legal image (bare s) → m ≡ every (held_good s.table) s.files
       → n ≡ open_files (bare s).files → k ≡ slot_of (bare s).files i → h ≡ hold_of (state_at s.files k)
       → e ≡ entry_at s.table i → f ≡ file_of (bare s).files i
       → record { lawful = l && m; opened = n; slot = k; entry = e; file = f; hold = h } ≡ seen_of image s i
   unfolding seen_of buffered_legal
-  seen-is image l m n k h e f pl pm pn pk ph pe pf = rw (pl, pm, pn, ph, pk, pe, pf)
+  seen-of image l m n k h e f pl pm pn pk ph pe pf = rw (pl, pm, pn, ph, pk, pe, pf)
+
+-- the same of the session that bytes are
+module _ (image b : List ℕ) (u : Bool) (told : u ≡ has_buffers b) (i : ℕ) where
+  pub seen-is : is_session u b ≡ true → (l m : Bool) (n k : ℕ) (h : Holding) (e : Entry) (f : OpenFile)
+      → l ≡ legal image (bare (whole_in u b)) → m ≡ every (held_good (table_in b)) (states_in u b)
+      → n ≡ open_files (bare (whole_in u b)).files → k ≡ slot_of (bare (whole_in u b)).files i → h ≡ hold_of (state_at (states_in u b) k)
+      → e ≡ entry_at (table_in b) i → f ≡ file_of (bare (whole_in u b)).files i
+      → record { lawful = l && m; opened = n; slot = k; entry = e; file = f; hold = h } ≡ seen_in image b i
+  seen-is t l m n k h e f pl pm pn pk ph pe pf =
+      seen-of (whole_in u b) i image l m n k h e f pl pm pn pk ph pe pf
+      ∙ ap (λ (s : BufferedSession). seen_of image s i) (whole-is u b told t)
 
 -- past the last state
 module _ (xs : List BufferedFile) (k : ℕ) (h : length xs ≤ k) where

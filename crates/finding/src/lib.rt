@@ -40,6 +40,7 @@ pub struct Seen {
 // ---- numbers, low byte first
 
 // The number in the four bytes at a place.
+// Stays: apart from `tables`, whose numbers have the high byte first, and asking for the bytes that it reads, which a state has by its type.
 fn long_at(b: &[u8], at: usize) -> u32
     requires { at + 4 ≤ length b.now }
     ensures { result ≡ number_in (Bytes.part b.now at 4) }
@@ -52,16 +53,8 @@ fn wide_at(b: &[u8], at: usize) -> usize
     requires { at + 8 ≤ length b.now }
     ensures { result ≡ number_in (Bytes.part b.now at 8) }
 {
-    usize::from_le_bytes([
-        b[at],
-        b[at + 1],
-        b[at + 2],
-        b[at + 3],
-        b[at + 4],
-        b[at + 5],
-        b[at + 6],
-        b[at + 7],
-    ])
+    let eight = <[u8; 8]>::try_from(&b[at..at + 8]).unwrap();
+    usize::from_le_bytes(eight)
 }
 
 fn is_set(b: &[u8], at: usize) -> bool
@@ -87,6 +80,7 @@ fn place_at(b: &[u8], at: usize) -> Place
 #[derive(Drop)]
 struct State<'a> {
     bytes: &'a [u8],
+    // Stays: a truth value, since the definitions `width` and `state_in` (storing) have two cases of one.
     buffers: bool,
 }
 
@@ -144,6 +138,7 @@ impl State<'_> {
     }
 
     // Its file; the idle one where it is not in use.
+    // Stays: two functions, this and `used_hold`; one for both would be given the reading and the value in its place, and be no plainer.
     fn used_file(&self) -> OpenFile
         ensures { result ≡ if_used self.now.file }
     {
@@ -184,6 +179,7 @@ impl State<'_> {
 #[derive(Drop)]
 struct LentSession<'a> {
     bytes: &'a [u8],
+    // Stays: as in `State`; `is_session` and `states_in` have the same two cases.
     buffers: bool,
 }
 
@@ -217,6 +213,7 @@ impl<'a> LentSession<'a> {
     fn states(&self) -> usize
         ensures { (result ≡ length self.now.files) × (result ≡ 4) }
     {
+        // For the proof, which has what a value holds where a field of it is named.
         let _ = &self.bytes;
         Geometry::MOST_OPEN
     }
@@ -375,6 +372,7 @@ impl<'a> LentSession<'a> {
     }
 
     // The file of state k; idle where that is not in use, or there is none.
+    // Stays: two functions, this and `hold`, as `used_file` and `used_hold` are.
     fn file(&self, k: usize) -> OpenFile
         ensures { result ≡ if_used (get_or self.now.files k (fresh idle)).file }
     {

@@ -14,6 +14,7 @@ use sessions::{OpenFile, idle};
 use steps::Verdict;
 
 // The place before the first record.
+// Stays: a function, since its clause names `origin`; the clause of a derived Default would name no definition.
 pub fn start() -> Place
     ensures { result ≡ origin }
 {

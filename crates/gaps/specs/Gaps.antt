@@ -1,5 +1,5 @@
 -- Document 02, item 1: "ADD .. picks the lowest entry and the lowest gap that holds the extent". Definitions only.
-use Rattle.std.specs.Prelude.{Bool, ◌&&◌, not, List, ℕ, ◌+◌, leb, ltb}
+use Rattle.std.specs.Prelude.{◌≡◌, Bool, ◌&&◌, not, List, ℕ, ◌+◌, ◌<◌, Option, MatchOption, leb, ltb, length}
 use Rattle.geometry.specs.Lists.{every, first_with, numbers_from}
 use Rattle.directory.specs.declared.Entry.{Entry}
 use Rattle.directory.specs.Entries.{is_free}
@@ -7,6 +7,10 @@ use Rattle.directory.specs.Entries.{is_free}
 -- "the lowest entry": the number of the lowest free one; the table's length where there is none
 unfoldable pub lowest_free : List Entry → ℕ
 lowest_free table = first_with is_free table
+
+-- that number as an option: none where none is free
+abbrev pub IsLowest : Option ℕ → List Entry → Type 0
+IsLowest o table = MatchOption o (lowest_free table ≡ length table) (λ n. (lowest_free table ≡ n) × (n < length table))
 
 -- sector k lies in the extent of a used entry
 unfoldable pub used_by : Entry → ℕ → Bool

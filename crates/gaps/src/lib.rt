@@ -6,7 +6,7 @@ ghost use Rattle.geometry.specs.Lists.{every};
 ghost use Rattle.directory.specs.Entries.{is_free, entry_at};
 ghost use Rattle.tables.specs.Tables.{table_in};
 ghost use Rattle.tables.specs.Table.{rows_of};
-ghost use Rattle.gaps.specs.Gaps.{lowest_free, is_taken, lowest_gap};
+ghost use Rattle.gaps.specs.Gaps.{IsLowest, is_taken, lowest_gap};
 ghost use Rattle.gaps.specs.Sweep as Sweep;
 
 use geometry::Geometry;
@@ -21,27 +21,24 @@ fn is_free(t: &Table, i: usize) -> bool
     t.entry(i).kind == Geometry::FREE
 }
 
-// The number of a table's lowest free entry; how many entries it has where none is free.
-fn free_in(t: &Table) -> usize
-    ensures { result ≡ lowest_free (rows_of t.now) }
+// The number of a table's lowest free entry, if one is free.
+fn free_in(t: &Table) -> Option<usize>
+    ensures { IsLowest result (rows_of t.now) }
 {
     for i in 0..t.rows {
         if is_free(t, i) {
-            return i;
+            return Some(i);
         }
     }
-    t.rows
+    None
 }
 
 // The same of the table that bytes hold.
-// Stays: the clause names the number of entries where none is free (specs/Gaps.antt, lowest_free), so no option.
-pub fn lowest_free(b: &[u8], width: usize, rows: usize) -> usize
-    ensures { result ≡ lowest_free (table_in width rows b.now) }
+pub fn lowest_free(b: &[u8], width: usize, rows: usize) -> Option<usize>
+    ensures { IsLowest result (table_in width rows b.now) }
 {
-    match Table::of(b, width, rows) {
-        Some(t) => free_in(&t),
-        None => 0,
-    }
+    let t = Table::of(b, width, rows)?;
+    free_in(&t)
 }
 
 // Whether no entry of a table is used.
@@ -70,8 +67,8 @@ pub fn none_used(b: &[u8], width: usize, rows: usize) -> bool
 
 // The sector behind the extent of entry i of a table, where it is used and has one of the n sectors from p on; else p. That it is used is asked
 // for last: few extents are in the way.
-fn behind(t: &Table, i: usize, n: u32, p: u32) -> u32
-    requires { (n ≤ 65535) × (p ≤ 131070) }
+fn behind(t: &Table, i: usize, n: u16, p: u32) -> u32
+    requires { p ≤ 131070 }
     ensures { (result ≡ Sweep.behind n p (entry_at (rows_of t.now) i)) × (result ≤ 131070) }
 {
     let e = t.entry(i);
@@ -80,7 +77,7 @@ fn behind(t: &Table, i: usize, n: u32, p: u32) -> u32
     if end <= p {
         return p;
     }
-    if p + n <= first {
+    if p + (n as u32) <= first {
         return p;
     }
     if end == first {
@@ -96,8 +93,8 @@ fn behind(t: &Table, i: usize, n: u32, p: u32) -> u32
 }
 
 // The same over a table's entries, one after the other.
-fn swept(t: &Table, n: u32, p: u32) -> u32
-    requires { (n ≤ 65535) × (p ≤ 131070) }
+fn swept(t: &Table, n: u16, p: u32) -> u32
+    requires { p ≤ 131070 }
     ensures { (result ≡ Sweep.swept n p (rows_of t.now)) × (result ≤ 131070) }
 {
     let mut q = p;
@@ -108,12 +105,12 @@ fn swept(t: &Table, n: u32, p: u32) -> u32
 }
 
 // The lowest sector from which on n sectors lie within the image and in no extent of a table: where nothing is in the way any more.
-fn gap_in(t: &Table, sectors: u32, n: u32) -> u32
-    requires { n ≤ 65535 }
+fn gap_in(t: &Table, sectors: u32, n: u16) -> u32
     ensures { result ≡ lowest_gap (is_taken (rows_of t.now)) sectors n }
 {
     let mut p: u32 = 1;
-    while p + n <= sectors {
+    // Stays: no index is counted; p goes on until nothing is in its way.
+    while p + (n as u32) <= sectors {
         let q = swept(t, n, p);
         if q == p {
             return p;
@@ -124,19 +121,19 @@ fn gap_in(t: &Table, sectors: u32, n: u32) -> u32
 }
 
 // The first sector of the lowest gap that holds n sectors, in an image of so many; their number where there is none.
-// Stays: the clause names the number of sectors where there is none (specs/Gaps.antt, lowest_gap), so no option.
+// Stays: a number; for n = 0 the loop may end at the number of sectors, which is no gap: an option takes one more test behind it, the one in `add`.
 pub fn lowest_gap(b: &[u8], width: usize, rows: usize, sectors: u32, n: u16) -> u32
     ensures { result ≡ lowest_gap (is_taken (table_in width rows b.now)) sectors n }
 {
     match Table::of(b, width, rows) {
-        Some(t) => gap_in(&t, sectors, n as u32),
+        Some(t) => gap_in(&t, sectors, n),
         None => {
             let none = Table {
                 bytes: b,
                 width: Width::ONE,
                 rows: 0,
             };
-            gap_in(&none, sectors, n as u32)
+            gap_in(&none, sectors, n)
         }
     }
 }

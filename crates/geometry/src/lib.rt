@@ -64,6 +64,7 @@ impl Geometry {
     // A blank in EBCDIC.
     pub const BLANK: u8 = 0x40;
     // The kinds of entries.
+    // Stays: numbers, since the bytes of an entry hold any (`entry_from`), and the public functions that take a kind are promised for all.
     pub const FREE: u16 = 0;
 
     pub const UNBLOCKED: u16 = 1;

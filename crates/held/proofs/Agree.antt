@@ -12,8 +12,9 @@ use Rattle.geometry.specs.Sizes.{sector, entries, blocked, compressed}
 use Rattle.geometry.proofs.Bytes.{length-lay, length_part}
 use Rattle.geometry.proofs.Tests.{either, and_both}
 use Rattle.directory.specs.Entries.{is_kind}
+use Rattle.directory.specs.Stamp.{stamp_bytes}
 use Rattle.packing.specs.Placing.{changes}
-use Rattle.steps.specs.Effects.{Effect, hold, change, store, stamp, put_back, store_effect, blocked_effect, sector_at, plain_do, Bench, putting_back, loaded, taking, working, buffered_do, buffered_all}
+use Rattle.steps.specs.Effects.{Effect, hold, change, store, stamp, put_back, store_effect, blocked_effect, effects, sector_at, plain_do, Bench, putting_back, loaded, taking, working, buffered_do, buffered_all}
 use Rattle.steps.specs.Next.{Scene}
 use Rattle.steps.proofs.Buffer.{back-cases}
 use Rattle.steps.proofs.Frame.{Unstamped, choice, all-changes}
@@ -24,7 +25,11 @@ use Rattle.blocking.specs.Blocking.{is_there, can_do, held_do, held_way}
 use Rattle.blocking.proofs.Cases.{length-put, whole-put, take-held, take-other}
 use Rattle.straight.specs.Moving.{scene, Way, moved_by, all_moved_by}
 use Rattle.straight.proofs.Moved.{moved-same}
+use Rattle.straight.specs.Straight.{writing}
+use Rattle.requests.specs.declared.Order.TheVariants.{RewindOffline}
+use Rattle.requests.specs.declared.Request.TheVariants.{Position}
 use Rattle.held.specs.Held.{held_all, read_with, write_with}
+use Rattle.held.proofs.Cases.{write-blocked-by, closes-by}
 
 -- ---- image and buffer keep their lengths
 
@@ -115,3 +120,15 @@ held-moved c (put_back ∷ xs) w = held-moved c xs _
 
 pub held_same : (c : Scene) (xs : List Effect) (w : Bench) → held_all (scene c.number c.entry) xs w ≡ held_all c xs w
 held_same c xs w = sym (held-moved (scene c.number c.entry) xs w) ∙ moved-same held_way c c.number xs (inl refl) w ∙ held-moved c xs w
+
+-- a blocked record is one change of its sector, with zeros up to that sector's end
+pub write-blocked : (e : Entry) (f : OpenFile) (given code : List ℕ) (w : Bench) → e.kind ≡ blocked
+    → held_do (scene 0 e) (blocked_effect (writing e f given)) w ≡ held_all (scene 0 e) (write_with e f given code) w
+unfolding moved_by blocked_effect
+write-blocked e f given code w k = write-blocked-by held_way e f given code w k ∙ held-moved (scene 0 e) (write_with e f given code) w
+
+-- a close puts the buffer back and writes count and flags
+pub closes : (i : ℕ) (e : Entry) (w : Bench)
+    → held_do (scene i e) (stamp (stamp_bytes e.count e.flags)) (held_do (scene 0 e) put_back w) ≡ held_all (scene i e) (effects (Position RewindOffline) (scene i e)) w
+unfolding moved_by held_do can_do buffered_do
+closes i e w = closes-by held_way i e w ∙ held-moved (scene i e) (effects (Position RewindOffline) (scene i e)) w

@@ -85,9 +85,9 @@ module _ (m : Way) (e : Entry) (p : Place) (code : List ℕ) (w : Bench) where
   coded-both h k = rw (h, lt-leb _ _ k, changes)
 
 module _ (m : Way) (e : Entry) (f : OpenFile) (given code : List ℕ) (w : Bench) where
-  pub write-blocked : e.kind ≡ blocked → moved_by m (scene 0 e) (blocked_effect (writing e f given)) w ≡ all_moved_by m (scene 0 e) (write_with e f given code) w
+  pub write-blocked-by : e.kind ≡ blocked → moved_by m (scene 0 e) (blocked_effect (writing e f given)) w ≡ all_moved_by m (scene 0 e) (write_with e f given code) w
   unfolding all_moved_by write_with
-  write-blocked k = rw (eq-eqb e.kind blocked k, write_with)
+  write-blocked-by k = rw (eq-eqb e.kind blocked k, write_with)
 
   pub write-coded : e.kind ≡ compressed
       → all_moved_by m (scene 0 e) (map change (changes f.here code)) w ≡ all_moved_by m (scene 0 e) (write_with e f given code) w
@@ -119,10 +119,10 @@ module _ (m : Way) (i : ℕ) (e : Entry) (w : Bench) where
   skips FileForward h = absurd (miss skip 5 tt h)
   skips FileBack h = absurd (miss skip 6 tt h)
 
-  pub closes : moved_by m (scene i e) (stamp (stamp_bytes e.count e.flags)) (m e put_back w)
+  pub closes-by : moved_by m (scene i e) (stamp (stamp_bytes e.count e.flags)) (m e put_back w)
       ≡ all_moved_by m (scene i e) (effects (Position RewindOffline) (scene i e)) w
   unfolding all_moved_by moved_by effects
-  closes = refl
+  closes-by = refl
 
   pub goes_back : (o : Order) → OneOf back (tag_of order.the_type o) → m e put_back w ≡ all_moved_by m (scene i e) (effects (Position o) (scene i e)) w
   unfolding all_moved_by moved_by effects

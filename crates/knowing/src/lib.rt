@@ -27,6 +27,7 @@ fn file_flags(b: &[u8], at: usize) -> bool
 }
 
 // The same, with what a state with a buffer holds.
+// Stays: a truth value chooses, since the definitions `state_flags` and `width` (storing) have two cases of one.
 fn state_flags(b: &[u8], buffers: bool, at: usize) -> bool
     requires { at + width buffers ≤ length b.now }
     ensures { (result ≡ state_flags buffers b.now at) × (every is_byte b.now ≡ true) }
@@ -47,6 +48,7 @@ fn saying_flags(b: &[u8], at: usize) -> bool
 }
 
 // Whether bytes are a session, with buffers or with none.
+// Stays: with buffers or with none, as the definition is_session has it.
 pub fn is_session(b: &[u8], buffers: bool) -> bool
     ensures { result ≡ is_session buffers b.now }
 {

@@ -2,12 +2,12 @@
 // What cannot be opened or read is an image of no bytes, which is bad.
 #![tactic(auto)]
 
-use arguments::{arg_count, open_read, read_full};
-use list_io::print_listing;
+use arguments::{arg_count, open_read, print_listing, read_full};
 use std::io::Read;
 
 // Lists the image that is read. The buffer has room for more than the 180 sectors of an image that is listed.
 fn list(rt: &impl Print, from: &mut impl Read) {
+    // Stays: a room of fixed size with its length, since nothing is allocated.
     let mut image = [0u8; 65536];
     let n = read_full(from, &mut image);
     print_listing(rt, &image[..n]);

@@ -2,9 +2,8 @@
 // many bytes. What it must print is what the second program, written from document 01 alone, says of each image.
 #![tactic(auto)]
 
-use arguments::{Opened, open_read, read_full};
+use arguments::{Opened, open_read, print_listing, read_full};
 use case_io::{MOST, print_case};
-use list_io::print_listing;
 
 // Lists the image that the next bytes of a file are, as many as there is room for.
 fn list_into(rt: &impl Print, file: &mut Opened, room: &mut [u8]) {
@@ -14,6 +13,7 @@ fn list_into(rt: &impl Print, file: &mut Opened, room: &mut [u8]) {
 
 // Lists the image that the next n bytes of a file are. The buffer has room for each image of the cases.
 fn list_next(rt: &impl Print, file: &mut Opened, n: usize) {
+    // Stays: a room of fixed size with its length, since nothing is allocated.
     let mut image = [0u8; 65536];
     if n <= image.len() {
         list_into(rt, file, &mut image[..n]);

@@ -14,6 +14,7 @@ use geometry::Geometry;
 use texts::{put_all, put_byte, put_number};
 
 // Where the first blank stands, if there is one.
+// Stays: where the first blank stands, which `names::is_blank` does not ask.
 fn blank_in(x: &[u8]) -> Option<usize>
     ensures { result ≡ position (λ c. c == Geometry.BLANK) x.now }
 {

@@ -45,6 +45,7 @@ fn look_in(image: &[u8], session: &[u8], i: usize, g: u32) -> Looked
 
 // The part of the image that is granule g of entry i, and the byte that it begins at goes into at; an empty part, and at as it was, where the
 // look is refused.
+// Stays: a part and a place, the form of docs/FORMS.md; `look_place` says what `at` is where the look is refused.
 pub fn look<'a>(image: &'a [u8], session: &[u8], i: usize, g: u32, at: &mut usize) -> &'a [u8]
     ensures shows { result.now ≡ look_in image.now session.now i g }
     ensures places { at.new ≡ look_place image.now session.now i g at.old }

@@ -1,17 +1,9 @@
 // The movers of bytes: bytes and words read, parts, and bytes laid over others. What does not fit is not laid, and past the end there are zeros.
 #![tactic(auto)]
 
-ghost use Rattle.std.specs.Prelude.{◌≡◌, ◌+◌, ◌*◌, ◌/◌, ◌%◌, ◌≤◌, min, leb, length, get_or, set, replicate};
-ghost use Rattle.geometry.specs.Lists as Lists;
+ghost use Rattle.std.specs.Prelude.{◌≡◌, ◌+◌, leb, length, get_or, set, replicate};
 ghost use Rattle.geometry.specs.Bytes.{word_at, padded};
 ghost use Rattle.geometry.specs.Bytes as Bytes;
-
-// The lesser of two numbers.
-pub fn least(a: usize, b: usize) -> usize
-    ensures { result ≡ min a b }
-{
-    a.min(b)
-}
 
 // Whether n bytes from byte at on lie within len bytes.
 fn fits(at: usize, n: usize, len: usize) -> bool
@@ -39,13 +31,6 @@ pub fn word_at(s: &[u8], at: usize) -> u16
     }
 }
 
-// A word with its two bytes the other way round.
-pub fn turned(x: u16) -> u16
-    ensures { result ≡ 256 * (x % 256) + x / 256 }
-{
-    x.swap_bytes()
-}
-
 // The n bytes from byte at on, as far as there are any.
 #[tactic(auto, unfolding(geometry::specs::Bytes::part))]
 pub fn part(s: &[u8], at: usize, n: usize) -> &[u8]
@@ -53,14 +38,6 @@ pub fn part(s: &[u8], at: usize, n: usize) -> &[u8]
 {
     let rest = &s[at.min(s.len())..];
     &rest[..n.min(rest.len())]
-}
-
-// Whether a and b hold the same bytes.
-#[tactic(auto, using(geometry::proofs::Tests::equal_same))]
-pub fn same(a: &[u8], b: &[u8]) -> bool
-    ensures { result ≡ Lists.same a.now b.now }
-{
-    a == b
 }
 
 // Puts b at a place, if there is such a place.

@@ -50,12 +50,6 @@ rest_by_end o n x = go o (ltb m (length x)) refl
     go (Some k) false q e h = absurd cc
 
 -- no bytes are no name
-pub none-named : (x : List ℕ) → length x ≡ 0 → is_name x ≡ false
-unfolding is_name
-none-named [] h = refl
-none-named (c ∷ x) h = absurd (omega arith)
-
--- no bytes are no name
 pub name-none : (x : List ℕ) → length x ≡ 0 → is_name x ≡ false
 unfolding is_name
 name-none [] h = refl

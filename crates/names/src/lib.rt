@@ -1,31 +1,37 @@
 // A name: document 01's "Sizes and the directory".
 #![tactic(auto)]
 
-ghost use Rattle.std.specs.Prelude.{◌≡◌, ◌||◌, ◌==◌, not, length, unwrap_or};
+ghost use Rattle.std.specs.Prelude.{◌≡◌, ◌&&◌, ◌||◌, ◌/◌, ◌%◌, ◌^◌, ◌==◌, leb, not, length, unwrap_or};
 ghost use Rattle.std.specs.List.{position, list_all};
 ghost use Rattle.names.specs.Names.{capital, digit, is_name};
 
 use geometry::Geometry;
 
-// Whether c is a capital letter: a set of the bytes from C0 on has it, one bit for each. Bits 1 to 9 stand for C1 to C9, which are A to I,
-// bits 17 to 25 for D1 to D9, J to R, and bits 34 to 41 for E2 to E9, S to Z.
+// Sets of the bytes from C0 on, one bit for each. Bits 1 to 9 stand for C1 to C9, which are A to I, bits 17 to 25 for D1 to D9, J to R,
+// bits 34 to 41 for E2 to E9, S to Z, and bits 48 to 57 for F0 to F9, the digits.
+const CAPITALS: u64 = 0x000003FC03FE03FE;
+
+const CAPITALS_AND_DIGITS: u64 = 0x03FF03FC03FE03FE;
+
+// Whether a set has c.
+fn is_in(set: u64, c: u8) -> bool
+    ensures { result ≡ (leb 192 c && ((set / 2 ^ (c % 64)) % 2 == 1)) }
+{
+    0xC0 <= c && (set >> (c % 64)) % 2 == 1
+}
+
+// Whether c is a capital letter.
 fn is_capital(c: u8) -> bool
     ensures { result ≡ capital c }
 {
-    if c < 0xC0 {
-        return false;
-    }
-    (0x000003FC03FE03FEu64 >> (c % 64)) % 2 == 1
+    is_in(CAPITALS, c)
 }
 
-// Whether c is a capital letter or a digit: in this set bits 48 to 57 stand for F0 to F9, the digits.
+// Whether c is a capital letter or a digit.
 fn is_capital_or_digit(c: u8) -> bool
     ensures { result ≡ (capital c || digit c) }
 {
-    if c < 0xC0 {
-        return false;
-    }
-    (0x03FF03FC03FE03FEu64 >> (c % 64)) % 2 == 1
+    is_in(CAPITALS_AND_DIGITS, c)
 }
 
 // The place of the first byte that is no capital or digit, if there is one.

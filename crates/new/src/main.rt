@@ -93,11 +93,13 @@ fn make_in(rt: &HostRuntime, room: &mut [u8; 1474560]) {
     make(rt, room.get_mut(..size).unwrap_or(&mut []));
 }
 
+// Stays: as other programs begin. One function for their counts and usages would be longer than these lines, since a usage is a format.
 fn main(rt: HostRuntime) {
     if arg_count(&rt) != 3 {
         let _ = eprintln!(rt; "usage: new OUT SECTORS");
         return;
     }
+    // Stays: a room of fixed size with its length, since nothing is allocated.
     let mut room = [0u8; 1474560];
     make_in(&rt, &mut room);
 }

@@ -1,6 +1,6 @@
 -- Numbers for C, case by case: the answer to a code that names no request, and what decoding gives.
 use mathlib.Core.Path.{◌≡◌, refl}
-use Prim.Native.Nat.{ℕ, ◌≤◌}
+use Prim.Native.Nat.{◌≤◌}
 use Rattle.std.specs.Result.{result_unwrap_or}
 use borrow.Author.Tests.{le-leb}
 use Rattle.decoding.specs.Decode.{Decoded, good, bad, answer}

@@ -8,11 +8,11 @@ ghost use Rattle.coding.specs.Encode as Encode;
 ghost use Rattle.requests.specs.Numbers.{number_of};
 ghost use Rattle.numbering.specs.Codes.{unknown_number, standing, record_at, code_size};
 
-use moving::least;
 use requests::{Answer, Refusal};
 use sessions::Spot;
 
 // The answer to a code that names no request, where a look gives that answer.
+// Stays: a refusal told by its number, since the definition (unknown_number) has it so.
 #[tactic(auto, unfolding(crate::specs::Codes::unknown_number))]
 pub fn unknown(look: Answer) -> Answer
     ensures { number_of result ≡ unknown_number look }
@@ -53,5 +53,5 @@ pub fn encode(text: &[u8], code: &mut [u8]) -> usize
     ensures { (result ≡ min (length (Encode.encode text.now)) (length code.old)) × (code.new ≡ sets code.old 0 (Encode.encode text.now)) }
 {
     let n = coding::encode(text, code);
-    least(n, code.len())
+    n.min(code.len())
 }

@@ -10,6 +10,7 @@ use sessions::OpenFile;
 use straight::Straight;
 
 // A request on entry i. Nothing is held, so no sector is told that a record read lies in.
+// Stays: beside `held::act`, for its clause (`acted_with`).
 pub fn act(image: &mut [u8], i: usize, e: Entry, f: OpenFile, q: Request, given: &[u8], code: &[u8])
     ensures { image.new ≡ acted_with q i e f given.now code.now image.old }
 {

@@ -81,6 +81,7 @@ fn main(rt: HostRuntime) {
         let _ = eprintln!(rt; "usage: play plain|buffered IMAGE SCRIPT BYTES OUT");
         return;
     }
+    // Stays: a room of fixed size with its length, since nothing is allocated.
     let mut room = [0u8; 1474560];
     play_by_name(&rt, &mut room);
 }

@@ -110,7 +110,7 @@ fn play_case(
 
 // Plays the cases.
 fn play_all(rt: &impl Print, f: &mut Files, whole: &mut [u8], room: &mut [u8]) {
-    // Stays: the room of an image is on the stack and has the length of the last whole one beside it, since no memory is allocated.
+    // Stays: a value of room and length would be 65,536 bytes that `read_whole` takes and gives back; the room is lent, and its length handed on.
     let mut n = 0;
     for k in 1..MOST {
         let Some(h) = read_header(&mut f.cases) else {

@@ -47,6 +47,7 @@ pub fn play(
     image: &mut [u8],
     session: &mut [u8],
 ) -> bool {
+    // Stays: a room of fixed size with its length, since nothing is allocated.
     let mut buffer = [0u8; 65536];
     script.each_row(rt, most, |k, row, given| {
         play_row(rt, k, image, session, row, given, &mut buffer)

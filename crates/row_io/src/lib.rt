@@ -73,6 +73,7 @@ impl Script {
     ) -> bool
         requires { F.IsAlwaysCallable visit }
     {
+        // Stays: a room of fixed size with its length, since nothing is allocated.
         let mut given = [0u8; 65536];
         for k in 0..most {
             match self.next(&mut given) {
@@ -99,6 +100,7 @@ impl Script {
 pub fn print_line<F: FnOnce(&mut [u8; 96]) -> usize>(rt: &impl Print, put: F)
     requires { F.IsAlwaysCallable put }
 {
+    // Stays: a room of fixed size with its length, since nothing is allocated.
     let mut line = [0u8; 96];
     let n = put(&mut line);
     let _ = rt.write_all(part(&line, 0, n));

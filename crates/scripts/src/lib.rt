@@ -68,6 +68,7 @@ fn is_misshapen(bytes: &[u8]) -> bool
 }
 
 // The number of a row's granule, in two words.
+// Stays: two words that lie apart, so no array of four bytes.
 fn granule_in(bytes: &[u8]) -> u32
     ensures { result ≡ granule_in bytes.now }
 {

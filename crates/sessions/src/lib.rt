@@ -25,6 +25,7 @@ pub struct OpenFile {
 #[derive(Drop)]
 pub struct BufferedFile {
     pub file: OpenFile,
+    // Stays: no option, as in `Holding`.
     pub holds: bool,
     pub held: u32,
     pub changed: bool,
@@ -72,6 +73,7 @@ pub struct Spot {
 // ---- states
 
 // A state that is not in use.
+// Stays: a function, since its clause names `idle`; the clause of a derived Default would name no definition.
 pub fn idle() -> OpenFile
     ensures { result ≡ idle }
 {
@@ -87,6 +89,7 @@ pub fn idle() -> OpenFile
 }
 
 // An open file with a fresh buffer, which holds nothing yet.
+// Stays: as `idle`; its clause names `fresh`, and it is given the file.
 pub fn fresh(f: OpenFile) -> BufferedFile
     ensures { result ≡ fresh f }
 {

@@ -2,9 +2,9 @@
 // why there is none, and which files there are where none has the name, goes to standard error.
 #![tactic(auto)]
 
-use arguments::{Opened, arg_count, open_read, read_full, said};
+use arguments::{Opened, arg_count, open_read, print_listing, read_full, said};
 use edit_io::print_words;
-use list_io::print_listing;
+use requests::{Answer, Refusal};
 
 // The numbers of its arguments.
 const IMAGE: usize = 1;
@@ -23,21 +23,22 @@ fn tell_words(err: &impl Print, number: u16) {
     let _ = println!(err);
 }
 
-// Tells what the number that was printed, if one was, means here.
-fn tell_why(err: &impl Print, printed: Option<u16>, image: &[u8]) {
-    // Stays: the numbers of the pass listing are those of the C interface.
+// Tells what the answer that was printed, if one was, means here.
+fn tell_why(err: &impl Print, printed: Option<Answer>, image: &[u8]) {
     match printed {
         None => {}
-        Some(7) => tell(
+        Some(Answer::Refused(Refusal::WrongSequence)) => tell(
             err,
             "that file is random: it has granules, and no records to show as lines",
         ),
-        Some(8) => {
+        Some(Answer::Refused(Refusal::NotThere)) => {
             tell(err, "no file has that name; these are there:");
             print_listing(err, image);
         }
-        Some(11) => tell(err, "this is no image that can be listed"),
-        Some(number) => tell_words(err, number),
+        Some(Answer::Refused(Refusal::BadImage)) => {
+            tell(err, "this is no image that can be listed")
+        }
+        Some(a) => tell_words(err, u16::from(a)),
     }
 }
 
@@ -50,6 +51,7 @@ fn show_typed(rt: &HostRuntime, image: &mut [u8]) {
 // Shows a file of the image that a file gives. The buffer has room for more than the 180 sectors of an image that is listed. What cannot be opened or read is an
 // image of no bytes, which is bad.
 fn show_from(rt: &HostRuntime, file: &mut Opened) {
+    // Stays: a room of fixed size with its length, since nothing is allocated.
     let mut image = [0u8; 65536];
     let n = read_full(file, &mut image);
     show_typed(rt, &mut image[..n]);

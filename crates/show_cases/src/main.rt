@@ -8,6 +8,7 @@ use moving::part;
 
 // Shows the file of the name that stands next, of n bytes.
 fn show_named(rt: &impl Print, file: &mut Opened, n: usize, image: &mut [u8]) {
+    // Stays: a room of fixed size with its length, since nothing is allocated.
     let mut name = [0u8; 4096];
     let m = read_next(file, n, &mut name);
     show_io::show(rt, image, &name[..m]);
@@ -30,7 +31,7 @@ fn show_in(rt: &impl Print, file: &mut Opened, h: Header, whole: &[u8], room: &m
 
 // Shows the cases.
 fn show_all(rt: &impl Print, file: &mut Opened, whole: &mut [u8], room: &mut [u8]) {
-    // Stays: the room of an image is on the stack and has the length of the last whole one beside it, since no memory is allocated.
+    // Stays: a value of room and length would be 65,536 bytes that `read_whole` takes and gives back; the room is lent, and its length handed on.
     let mut n = 0;
     for k in 1..MOST {
         let Some(h) = read_header(file) else {

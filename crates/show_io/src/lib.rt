@@ -11,16 +11,12 @@ fn print_piece(rt: &impl Print, size: usize, line: &[u8]) {
     let _ = rt.write_all(part(line, 0, size));
 }
 
-// The number that the last piece printed; none if it printed nothing.
-fn told(p: Piece) -> Option<u16> {
-    if p.size == 0 {
-        None
-    } else {
-        Some(u16::from(p.answer))
-    }
+// The answer that the last piece printed; none if it printed nothing.
+fn told(p: Piece) -> Option<Answer> {
+    if p.size == 0 { None } else { Some(p.answer) }
 }
 
-// Prints what each read prints, from the first record on. The number that was printed, if one was. A proved loop has to end, so it counts the reads up to
+// Prints what each read prints, from the first record on. The answer that was printed, if one was. A proved loop has to end, so it counts the reads up to
 // a number that no file needs.
 fn print_lines(
     rt: &impl Print,
@@ -28,7 +24,7 @@ fn print_lines(
     session: &mut [u8],
     file: Opened,
     line: &mut [u8],
-) -> Option<u16> {
+) -> Option<Answer> {
     for _ in 0..65536 {
         let p = next(image, session, file, line);
         print_piece(rt, p.size, line);
@@ -39,25 +35,26 @@ fn print_lines(
     None
 }
 
-// Prints the listing of the file of that name, as it is typed, on a session and room for a line. The number that was printed, if one was.
+// Prints the listing of the file of that name, as it is typed, on a session and room for a line. The answer that was printed, if one was.
 fn print_listing(
     rt: &impl Print,
     image: &mut [u8],
     session: &mut [u8],
     typed: &[u8],
     line: &mut [u8],
-) -> Option<u16> {
+) -> Option<Answer> {
     let head = begin(image, session, typed, line);
     print_piece(rt, head.size, line);
     match head.opened {
         Ok(file) => print_lines(rt, image, session, file, line),
-        Err(a) => Some(u16::from(a)),
+        Err(a) => Some(a),
     }
 }
 
-// Prints the listing of the file of that name, as it is typed. The number that was printed, if one was.
-pub fn show(rt: &impl Print, image: &mut [u8], typed: &[u8]) -> Option<u16> {
+// Prints the listing of the file of that name, as it is typed. The answer whose number was printed, if one was.
+pub fn show(rt: &impl Print, image: &mut [u8], typed: &[u8]) -> Option<Answer> {
     let mut session = [0u8; Form::SESSION];
+    // Stays: a room of fixed size with its length, since nothing is allocated.
     let mut line = [0u8; Piece::LONGEST];
     print_listing(rt, image, &mut session, typed, &mut line)
 }

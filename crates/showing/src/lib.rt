@@ -86,6 +86,7 @@ fn put_printed(out: &mut [u8], n: usize, answer: Answer) -> usize
 fn find_typed(session: &[u8], typed: &[u8]) -> Result<usize, Refusal>
     ensures { told_of result ≡ found session.now (name_of typed.now) }
 {
+    // Stays: a room of fixed size with its length, since nothing is allocated.
     let mut name = [0u8; 9];
     let n = put_name(typed, &mut name);
     find_named(session, part(&name, 0, n))

@@ -47,6 +47,7 @@ fn hold_bytes(h: Holding) -> [u8; 6]
 // ---- a state of a session
 
 // Where state k begins.
+// Stays: a truth value chooses the width, since the definition `width` (storing) has two cases of one.
 fn state_place(buffers: bool, k: usize) -> usize
     requires { k < most_open }
     ensures { (result ≡ files_at + width buffers * k) × (result ≤ 1584) }

@@ -41,6 +41,7 @@ pub fn has_buffers(b: &[u8]) -> bool
 }
 
 // The bytes of an open-file state there.
+// Stays: a truth value chooses, since the definition `width` has two cases of one.
 pub fn state_width(buffers: bool) -> usize
     ensures { (result ≡ width buffers) × (result ≤ held_width) }
 {
@@ -48,6 +49,7 @@ pub fn state_width(buffers: bool) -> usize
 }
 
 // A buffer that holds nothing.
+// Stays: a function, since its clause names `no_hold`; the clause of a derived Default would name no definition.
 pub fn no_hold() -> Holding
     ensures { result ≡ no_hold }
 {

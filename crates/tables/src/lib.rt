@@ -18,6 +18,7 @@ use names::is_name;
 use vetting::used_good;
 
 // The widths of an entry in bytes.
+// Stays: numbers, since the public functions take any width and are promised for all; `has_rows` is false of others.
 #[derive(Drop)]
 pub struct Width {}
 
@@ -31,20 +32,13 @@ impl Width {
 // ---- numbers where they lie
 
 // The eight bytes at a place.
+#[tactic(auto, unfolding(geometry::specs::Bytes::part))]
+// Stays: each of these asks for as many bytes behind its place as it reads; what a table has of them its type says.
 fn eight_bytes(b: &[u8], at: usize) -> [u8; 8]
     requires { at + 8 ≤ length b.now }
     ensures { result ≡ part b.now at 8 }
 {
-    [
-        b[at],
-        b[at + 1],
-        b[at + 2],
-        b[at + 3],
-        b[at + 4],
-        b[at + 5],
-        b[at + 6],
-        b[at + 7],
-    ]
+    <[u8; 8]>::try_from(&b[at..at + 8]).unwrap()
 }
 
 // The eight bytes as one number, the first counting least, to be compared with others or with zero.
@@ -118,6 +112,7 @@ impl<'a> Table<'a> {
     // ---- an entry
 
     // Where entry i begins.
+    // Stays: each method asks for an entry that there is. A row as a value of its own would have its bytes cut out for each look at it.
     fn place(&self, i: usize) -> usize
         requires { i < self.now.rows }
         ensures { (result ≡ self.now.width * i) × (result + self.now.width ≤ length self.now.bytes.now) }
@@ -126,6 +121,7 @@ impl<'a> Table<'a> {
     }
 
     // The word k bytes behind.
+    // Stays: a word, two words and eight bytes apart. Each is a type of its own, and a function over the size would need one more for each.
     fn word(&self, i: usize, k: usize) -> u16
         requires { (i < self.now.rows) × (k + 2 ≤ self.now.width) }
         ensures { result ≡ word_at self.now.bytes.now (self.now.width * i + k) }

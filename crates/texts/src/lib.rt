@@ -1,4 +1,5 @@
 // Text put into bytes that are lent, piece by piece: what the programs print is made of these. And numbers read from text.
+// Stays: lent bytes and a place apart, not a type with methods: `Wrote old at xs new end`, which each public function here promises, has them so.
 #![tactic(auto)]
 
 ghost use Rattle.std.specs.Prelude.{◌≡◌, [], ◌∷◌, ◌++◌, ◌+◌, ◌%◌};

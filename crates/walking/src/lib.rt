@@ -81,6 +81,7 @@ fn read_at(sector: &[u8], q: Place, out: &mut [u8]) -> Result<Place, BadPlace>
 }
 
 // Passes over the record of that length that starts at the place q; sector is that place's.
+// Stays: `read_at` has document 01's form by its name (docs/FORMS.md), and reads into a buffer; this one needs none. `read_behind` and `skip_behind` likewise.
 fn skip_at(sector: &[u8], q: Place, length: u16) -> Result<Place, BadPlace>
     requires { (q.byte ≤ Sizes.sector) × (ListN.length sector.now ≤ Sizes.sector) }
     ensures { result ≡ led_to (got_from q (Decode.decode length (drop q.byte sector.now))) }

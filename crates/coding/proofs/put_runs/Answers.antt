@@ -22,9 +22,9 @@ run : (x : List ℕ) (gap : Bool) (i n : ℕ) → i < length x → gap_at x i �
 run x gap i n h is all = let s = run-size x i h gap is in record { is = is; all = all; size = (omega arith, omega arith, omega arith) }
 
 -- a blank run is one blank, or the scan was left at its end
-blank-run : (c : Joined-n-eq2) → Run c.args.x.now true c.loop-i.i c.if-n-eq2.n
+blank-run : (c : Joined-n-eq2) → Run c.args.kept.text.now true c.loop-i.i c.if-n-eq2.n
 blank-run c =
-    let x = c.args.x.now in
+    let x = c.args.kept.text.now in
     let i = c.loop-i.i in
     let e : c.if-n-eq2.n ≡ run_length 127 true (Before x i) (drop i x) =
     elim c.if-n-eq2.branch [
@@ -34,9 +34,9 @@ blank-run c =
     ] in
     run x true i _ (omega arith) (seen-some x i (omega arith) (omega arith)) e
 
-character-run : (c : After-put_characters-n) → Run c.args.x.now false c.loop-i.i c.put_characters-n.result
+character-run : (c : After-put_characters-n) → Run c.args.kept.text.now false c.loop-i.i c.put_characters-n.result
 character-run c =
-    let x = c.args.x.now in
+    let x = c.args.kept.text.now in
     run x false c.loop-i.i _ (omega arith) (seen_none x c.loop-i.i (omega arith) (omega arith)) c.put_characters-n.ensures.0
 
 pub loop-i-init : goal.loop-i-init
@@ -44,20 +44,20 @@ loop-i-init c = (omega arith, omega arith, refl, omega arith, refl)
 
 -- ---- a run of blanks
 pub first_blanks-n-requires : goal.first_blanks-n-requires
-first_blanks-n-requires c = (omega arith, c.requires)
+first_blanks-n-requires c = omega arith
 
 pub run-init : goal.run-init
 run-init c =
     let seen = c.first_blanks-n.ensures in
-    let m = seen-two c.args.x.now c.loop-i.i (omega arith) c.requires (omega arith) in
+    let m = seen-two c.args.kept.text.now c.loop-i.i (omega arith) c.args.kept.kept (omega arith) in
     (omega arith, m.0, m.1, m.2)
 
 pub run-preserved : goal.run-preserved
 run-preserved c =
-    let x = c.args.x.now in
+    let x = c.args.kept.text.now in
     let i = c.loop-i.i in
     let j = i + c.run.k in
-    let m = gap_more x i c.run.k c.requires (omega arith) (omega arith) (gap-second (Before x j) (get_or x j 0) (drop (j + 1) x) c.run.invariant.2 c.if-x-i-ne-BLANK.false) c.run.invariant.3 in
+    let m = gap_more x i c.run.k c.args.kept.kept (omega arith) (omega arith) (gap-second (Before x j) (get_or x j 0) (drop (j + 1) x) c.run.invariant.2 c.if-x-i-ne-BLANK.false) c.run.invariant.3 in
     (omega arith, m.0, m.1, m.2)
 
 pub overflow_add-n : goal.overflow_add-n
@@ -80,12 +80,12 @@ loop-i-preserved-then-n-gt0 c =
     let l = c.loop-i in
     let r = blank-run (goal.at.loop-i-preserved-then-n-gt0 c).Joined-n-eq2 in
     let p = c.put in
-    let t = turn_gap c.args.x.now l.out l.i l.at _ _ (omega arith) l.invariant.1 l.invariant.3 l.invariant.4 c.if-n-eq2.n p.new.out r.is r.all p.ensures in
+    let t = turn_gap c.args.kept.text.now l.out l.i l.at _ _ (omega arith) l.invariant.1 l.invariant.3 l.invariant.4 c.if-n-eq2.n p.new.out r.is r.all p.ensures in
     (t.0, t.1, p.auto.out ∙ l.invariant.2, t.2, t.3)
 
 -- ---- a run of characters
 pub put_characters-n-requires : goal.put_characters-n-requires
-put_characters-n-requires c = (omega arith, seen_none c.args.x.now c.loop-i.i (omega arith) (omega arith), c.requires, omega arith)
+put_characters-n-requires c = (omega arith, seen_none c.args.kept.text.now c.loop-i.i (omega arith) (omega arith), omega arith)
 
 pub overflow_cast-n-else-n-gt0 : goal.overflow_cast-n-else-n-gt0
 overflow_cast-n-else-n-gt0 c = let s = (character-run (goal.at.overflow_cast-n-else-n-gt0 c).After-put_characters-n).size in omega arith
@@ -108,7 +108,7 @@ loop-i-preserved c =
     let r = character-run (goal.at.loop-i-preserved c).After-put_characters-n in
     let m = c.put_characters-n in
     let p = c.put-else-n-gt0 in
-    let t = turn-characters c.args.x.now l.out l.i l.at _ _ (omega arith) l.invariant.1 l.invariant.3 l.invariant.4 m.result m.new.out p.new.out r.is m.ensures.0 m.ensures.1 p.ensures in
+    let t = turn-characters c.args.kept.text.now l.out l.i l.at _ _ (omega arith) l.invariant.1 l.invariant.3 l.invariant.4 m.result m.new.out p.new.out r.is m.ensures.0 m.ensures.1 p.ensures in
     (t.0, t.1, p.auto.out ∙ m.auto.out ∙ l.invariant.2, t.2, t.3)
 
 -- ---- the end
@@ -117,7 +117,7 @@ shape_of-out c = c.put-2.auto.out ∙ c.loop-i.invariant.2
 
 pub returns : goal.returns
 returns c =
-    let x = c.args.x.now in
+    let x = c.args.kept.text.now in
     let past : length x ≤ c.loop-i.i = omega arith in
     let e = rest_end x c.loop-i.i past in
     (rw e at c.loop-i.invariant.3, c.put-2.ensures ∙ rw e at c.loop-i.invariant.4)

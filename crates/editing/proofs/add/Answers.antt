@@ -17,7 +17,7 @@ shape_of-session-then-says_refused c = refl
 pub returns-then-says_refused : goal.returns-then-says_refused
 returns-then-says_refused c =
     let a = c.args in
-    λ i. from-refused a.image.now a.session.now c.requires a.kind a.length a.sectors a.name.now i a.at.now _ c.says_refused.ensures c.if-says_refused.true
+    λ i before. from-refused a.image.now a.session.now c.requires a.kind a.length a.sectors a.name.now i before _ c.says_refused.ensures c.if-says_refused.true
 
 pub shape_of-session-then-not-is_named : goal.shape_of-session-then-not-is_named
 shape_of-session-then-not-is_named c = refl
@@ -25,7 +25,7 @@ shape_of-session-then-not-is_named c = refl
 pub returns-then-not-is_named : goal.returns-then-not-is_named
 returns-then-not-is_named c =
     let a = c.args in
-    λ i. unnamed a.image.now a.session.now c.requires a.kind a.length a.sectors a.name.now i a.at.now _ c.says_refused.ensures c.if-says_refused.false _ c.is_named.ensures c.if-not-is_named.true
+    λ i before. unnamed a.image.now a.session.now c.requires a.kind a.length a.sectors a.name.now i before _ c.says_refused.ensures c.if-says_refused.false _ c.is_named.ensures c.if-not-is_named.true
 
 pub shape_of-session-then-not-shape_good : goal.shape_of-session-then-not-shape_good
 shape_of-session-then-not-shape_good c = refl
@@ -33,7 +33,7 @@ shape_of-session-then-not-shape_good c = refl
 pub returns-then-not-shape_good : goal.returns-then-not-shape_good
 returns-then-not-shape_good c =
     let a = c.args in
-    λ i. misshapen a.image.now a.session.now c.requires a.kind a.length a.sectors a.name.now i a.at.now _ c.says_refused.ensures c.if-says_refused.false _ c.is_named.ensures c.if-not-is_named.false _ c.shape_good.ensures c.if-not-shape_good.true
+    λ i before. misshapen a.image.now a.session.now c.requires a.kind a.length a.sectors a.name.now i before _ c.says_refused.ensures c.if-says_refused.false _ c.is_named.ensures c.if-not-is_named.false _ c.shape_good.ensures c.if-not-shape_good.true
 
 pub shape_of-session-then-is_taken : goal.shape_of-session-then-is_taken
 shape_of-session-then-is_taken c = refl
@@ -41,15 +41,12 @@ shape_of-session-then-is_taken c = refl
 pub returns-then-is_taken : goal.returns-then-is_taken
 returns-then-is_taken c =
     let a = c.args in
-    λ i. in_use_lem a.image.now a.session.now c.requires a.kind a.length a.sectors a.name.now i a.at.now _ c.says_refused.ensures c.if-says_refused.false _ c.is_named.ensures c.if-not-is_named.false _ c.shape_good.ensures c.if-not-shape_good.false _ c.is_taken.ensures c.if-is_taken.true
+    λ i before. in_use_lem a.image.now a.session.now c.requires a.kind a.length a.sectors a.name.now i before _ c.says_refused.ensures c.if-says_refused.false _ c.is_named.ensures c.if-not-is_named.false _ c.shape_good.ensures c.if-not-shape_good.false _ c.is_taken.ensures c.if-is_taken.true
 
-pub shape_of-session-then-n-ge-ENTRIES : goal.shape_of-session-then-n-ge-ENTRIES
-shape_of-session-then-n-ge-ENTRIES c = refl
-
-pub returns-then-n-ge-ENTRIES : goal.returns-then-n-ge-ENTRIES
-returns-then-n-ge-ENTRIES c =
+pub returns-in_default : goal.returns-in_default
+returns-in_default c =
     let a = c.args in
-    λ i. none_free a.image.now a.session.now c.requires a.kind a.length a.sectors a.name.now i a.at.now _ c.says_refused.ensures c.if-says_refused.false _ c.is_named.ensures c.if-not-is_named.false _ c.shape_good.ensures c.if-not-shape_good.false _ c.is_taken.ensures c.if-is_taken.false _ c.lowest_free-n.ensures (omega (arith, c.if-n-ge-ENTRIES.true))
+    λ i before. none_free a.image.now a.session.now c.requires a.kind a.length a.sectors a.name.now i before _ c.says_refused.ensures c.if-says_refused.false _ c.is_named.ensures c.if-not-is_named.false _ c.shape_good.ensures c.if-not-shape_good.false _ c.is_taken.ensures c.if-is_taken.false c.in_default.ensures
 
 pub overflow_cast-all : goal.overflow_cast-all
 overflow_cast-all c =
@@ -65,15 +62,16 @@ shape_of-session-then-all-first c = refl
 pub returns-then-all-first : goal.returns-then-all-first
 returns-then-all-first c =
     let a = c.args in
-    λ i. no_room a.image.now a.session.now c.requires a.kind a.length a.sectors a.name.now i a.at.now _ c.says_refused.ensures c.if-says_refused.false _ c.is_named.ensures c.if-not-is_named.false _ c.shape_good.ensures c.if-not-shape_good.false _ c.is_taken.ensures c.if-is_taken.false _ c.lowest_free-n.ensures (omega (arith, c.if-n-ge-ENTRIES.false)) _ c.sectors_of-all.ensures _ c.lowest_gap-first.ensures (omega (arith, c.if-all-first.true))
+    λ i before. no_room a.image.now a.session.now c.requires a.kind a.length a.sectors a.name.now i before _ c.says_refused.ensures c.if-says_refused.false _ c.is_named.ensures c.if-not-is_named.false _ c.shape_good.ensures c.if-not-shape_good.false _ c.is_taken.ensures c.if-is_taken.false _ c.in-Some.ensures _ c.sectors_of-all.ensures _ c.lowest_gap-first.ensures (omega (arith, c.if-all-first.true))
 
 pub put_file-requires : goal.put_file-requires
 put_file-requires c =
     let a = c.args in
     let i : ℕ = 0 in
-    (eight a.image.now a.session.now c.requires a.kind a.length a.sectors a.name.now i a.at.now _ c.says_refused.ensures c.if-says_refused.false _ c.is_named.ensures c.if-not-is_named.false _ c.shape_good.ensures c.if-not-shape_good.false _ c.is_taken.ensures c.if-is_taken.false _ c.lowest_free-n.ensures (omega (arith, c.if-n-ge-ENTRIES.false)) _ c.sectors_of-all.ensures _ c.lowest_gap-first.ensures, omega (arith, few a.image.now a.session.now c.requires, c.if-all-first.false, c.sectors_of-all.ensures))
+    let before : ℕ = 0 in
+    (eight a.image.now a.session.now c.requires a.kind a.length a.sectors a.name.now i before _ c.says_refused.ensures c.if-says_refused.false _ c.is_named.ensures c.if-not-is_named.false _ c.shape_good.ensures c.if-not-shape_good.false _ c.is_taken.ensures c.if-is_taken.false _ c.in-Some.ensures _ c.sectors_of-all.ensures _ c.lowest_gap-first.ensures, omega (arith, few a.image.now a.session.now c.requires, c.if-all-first.false, c.sectors_of-all.ensures))
 
 pub returns : goal.returns
 returns c =
     let a = c.args in
-    λ i. added a.image.now a.session.now c.requires a.kind a.length a.sectors a.name.now i a.at.now _ c.says_refused.ensures c.if-says_refused.false _ c.is_named.ensures c.if-not-is_named.false _ c.shape_good.ensures c.if-not-shape_good.false _ c.is_taken.ensures c.if-is_taken.false _ c.lowest_free-n.ensures (omega (arith, c.if-n-ge-ENTRIES.false)) _ c.sectors_of-all.ensures _ c.lowest_gap-first.ensures (omega (arith, c.if-all-first.false)) c.put_file.ensures.2 _ _ c.put_file.ensures.0 c.put_file.ensures.1
+    λ i before. added a.image.now a.session.now c.requires a.kind a.length a.sectors a.name.now i before _ c.says_refused.ensures c.if-says_refused.false _ c.is_named.ensures c.if-not-is_named.false _ c.shape_good.ensures c.if-not-shape_good.false _ c.is_taken.ensures c.if-is_taken.false _ c.in-Some.ensures _ c.sectors_of-all.ensures _ c.lowest_gap-first.ensures (omega (arith, c.if-all-first.false)) c.put_file.ensures.2 _ _ c.put_file.ensures.0 c.put_file.ensures.1

@@ -25,12 +25,22 @@ delete-requires c =
     let a = c.args in
     (sym (seen-lawful a.image.now a.session.now a.i c.find_in-seen.result c.find_in-seen.ensures) ∙ not-false _ c.if-not-seen.false, (seen-used a.image.now a.session.now a.i c.find_in-seen.result c.find_in-seen.ensures, seen-open a.image.now a.session.now a.i c.find_in-seen.result c.find_in-seen.ensures))
 
-pub returns-in-Add : goal.returns-in-Add
-returns-in-Add c =
+pub returns-in-Ok : goal.returns-in-Ok
+returns-in-Ok c =
     let a = c.args in
-    handed-as a.image.now a.session.now a.i a.x _ a.name.now c.in-Add.is _ _ _ _ _ (c.add.ensures a.i)
+    handed-as a.image.now a.session.now a.i a.x _ a.name.now c.in-Add.is _ _ _ _ _ (c.in-Ok.ensures a.i a.at.now)
 
-pub returns-in-Delete : goal.returns-in-Delete
-returns-in-Delete c =
+pub returns-in-Err : goal.returns-in-Err
+returns-in-Err c =
     let a = c.args in
-    handed-as a.image.now a.session.now a.i a.x _ a.name.now c.in-Delete.is _ _ _ _ _ (c.delete.ensures a.name.now a.at.now)
+    handed-as a.image.now a.session.now a.i a.x _ a.name.now c.in-Add.is _ _ _ _ _ (c.in-Err.ensures a.i a.at.now)
+
+pub returns-in-Ok-delete : goal.returns-in-Ok-delete
+returns-in-Ok-delete c =
+    let a = c.args in
+    handed-as a.image.now a.session.now a.i a.x _ a.name.now c.in-Delete.is _ _ _ _ _ (c.in-Ok-delete.ensures a.name.now a.at.now)
+
+pub returns-in-Err-delete : goal.returns-in-Err-delete
+returns-in-Err-delete c =
+    let a = c.args in
+    handed-as a.image.now a.session.now a.i a.x _ a.name.now c.in-Delete.is _ _ _ _ _ (c.in-Err-delete.ensures a.name.now a.at.now)

@@ -1,6 +1,13 @@
 -- The bytes that stand there, taken together.
-use Rattle.finding.proofs.Numbers.{eight-in}
+use mathlib.Core.Path.{◌≡◌, ap, ◌∙◌}
+use borrow.Author.Rules.{rules}
+use Rattle.std.specs.Int.{from_le_bytes, w64}
+use Rattle.geometry.specs.Bytes.{part}
+use Rattle.tables.proofs.Numbers.{from_le-part}
 use Rattle.finding.proofs.wide_at.Goals as goal
 
 pub returns : goal.returns
-returns c = eight-in c.args.b.now c.args.at c.requires _ c.from_le_bytes.ensures
+unfolding part
+returns c =
+    let e : c.unwrap-eight.result ≡ part c.args.b.now c.args.at 8 = search rules in
+    c.from_le_bytes.ensures ∙ ap (from_le_bytes w64) e ∙ from_le-part c.args.b.now c.args.at c.requires

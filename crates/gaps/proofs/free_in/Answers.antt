@@ -14,7 +14,8 @@ unfolding lowest_free
 returns-then-is_free c =
     let t = c.args.t.now in
     let h = sym c.is_free.ensures ∙ c.if-is_free.true in
-    sym (first-is is_free (rows_of t) c.loop-i.i free_entry (omega (arith, length-entries t.width t.rows t.bytes.now)) c.loop-i.invariant (λ l. h))
+    let n = length-entries t.width t.rows t.bytes.now in
+    (first-is is_free (rows_of t) c.loop-i.i free_entry (omega arith) c.loop-i.invariant (λ l. h), omega arith)
 
 pub loop-i-preserved : goal.loop-i-preserved
 loop-i-preserved c =
@@ -25,4 +26,4 @@ unfolding lowest_free
 returns c =
     let t = c.args.t.now in
     let n = length-entries t.width t.rows t.bytes.now in
-    sym (first-is is_free (rows_of t) t.rows free_entry (omega arith) (λ k l. c.loop-i.invariant k (omega arith)) (λ l. absurd (omega arith)))
+    first-is is_free (rows_of t) t.rows free_entry (omega arith) (λ k l. c.loop-i.invariant k (omega arith)) (λ l. absurd (omega arith)) ∙ sym n

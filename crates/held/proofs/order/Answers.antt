@@ -5,7 +5,7 @@ use Rattle.directory.specs.declared.Entry.{Entry}
 use Rattle.steps.specs.Effects.{stamp, Bench}
 use Rattle.straight.specs.Moving.{scene}
 use Rattle.straight.specs.Moving.{Way, moved_by}
-use Rattle.held.proofs.Cases.{skips, closes, goes_back}
+use Rattle.held.proofs.Cases.{skips, closes-by, goes_back}
 use borrow.Author.Rules.{rules}
 use Rattle.held.proofs.order.Goals as goal
 
@@ -24,7 +24,7 @@ returns-in-RewindOffline g c =
     rw c.in-RewindOffline.is (
       s.0
           ∙ ap₂ (λ (e : Entry) (w : Bench). moved_by m (scene a.i e) (stamp (stamp_bytes e.count e.flags)) w) (g.met.M.Mover.same_entry _ _ p.1) p.0
-          ∙ closes m a.i e (g.M.Mover.bench a.m.now),
+          ∙ closes-by m a.i e (g.M.Mover.bench a.m.now),
       g.met.M.Mover.same_on _ _ _ p.1 s.1,
     )
 

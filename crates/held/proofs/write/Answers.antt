@@ -11,7 +11,7 @@ returns-in-2 g c =
     let a = c.args in
     let e : Entry = g.M.Mover.entry a.m.now in
     let k : e.kind ≡ blocked = ap (λ (e : Entry). e.kind) (sym c.entry-e.ensures) ∙ c.in-2.is in
-    (c.write_blocked.ensures.0 ∙ cases.write-blocked g.M.Mover.way e a.f a.given.now a.code.now (g.M.Mover.bench a.m.now) k, c.write_blocked.ensures.1)
+    (c.write_blocked.ensures.0 ∙ cases.write-blocked-by g.M.Mover.way e a.f a.given.now a.code.now (g.M.Mover.bench a.m.now) k, c.write_blocked.ensures.1)
 
 pub returns-in-3 : goal.returns-in-3
 returns-in-3 g c =

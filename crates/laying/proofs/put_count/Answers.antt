@@ -8,7 +8,8 @@ use Rattle.geometry.specs.Bytes.{lay, word}
 use Rattle.tables.specs.Numbers.{long}
 use Rattle.tables.specs.Tables.{count_of}
 use Rattle.tables.proofs.Laid.{counts-one, counts-two}
-use Rattle.laying.proofs.Fields.{word-bytes, long-bytes, behind}
+use Rattle.directory.proofs.Fields.{word-bytes, behind}
+use Rattle.laying.proofs.Fields.{long-bytes}
 use Rattle.laying.proofs.put_count.Goals as goal
 
 pub returns-then-width-eq-ONE : goal.returns-then-width-eq-ONE

@@ -6,7 +6,7 @@ use lib.ListN.{length}
 use Rattle.geometry.specs.Bytes.{lay}
 use Rattle.tables.specs.Tables.{entry_of}
 use Rattle.tables.proofs.Laid.{length-entry, length-counts}
-use Rattle.laying.proofs.Fields.{word-bytes, fields}
+use Rattle.directory.proofs.Fields.{word-bytes, fields}
 use Rattle.laying.proofs.put_row.Goals as goal
 
 pub returns : goal.returns

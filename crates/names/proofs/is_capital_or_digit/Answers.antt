@@ -1,10 +1,8 @@
 -- `names::is_capital_or_digit` meets its contract: the set of 36 bits is that of the capitals and digits.
-use Rattle.names.proofs.Sets.{both_below, both-above}
+use mathlib.Core.Path.{◌∙◌}
 use borrow.Author.Rules.{rules}
+use Rattle.names.proofs.Sets.{capitals-and-digits}
 use Rattle.names.proofs.is_capital_or_digit.Goals as goal
 
-pub returns-then-c-lt192 : goal.returns-then-c-lt192
-returns-then-c-lt192 c = both_below c.args.c (search rules) c.if-c-lt192.true
-
 pub returns : goal.returns
-returns c = both-above c.args.c (search rules) c.if-c-lt192.false
+returns c = c.is_in.ensures ∙ capitals-and-digits c.args.c (search rules)

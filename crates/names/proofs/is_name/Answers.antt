@@ -3,11 +3,11 @@ use mathlib.Core.Path.{sym, ap, ◌∙◌}
 use native.Mathlib.Omega.{arith}
 use Rattle.std.proofs.lemmas.Slice.{between_to_end}
 use Rattle.names.specs.Names.{is_name}
-use Rattle.names.proofs.Names.{blanks, rest_by_end, none-named}
+use Rattle.names.proofs.Names.{blanks, rest_by_end, name-none}
 use Rattle.names.proofs.is_name.Goals as goal
 
 pub returns-in_default : goal.returns-in_default
-returns-in_default c = sym (none-named c.args.x.now c.in_default.ensures.cases)
+returns-in_default c = sym (name-none c.args.x.now c.in_default.ensures.cases)
 
 pub returns-then-is_capital : goal.returns-then-is_capital
 unfolding is_name

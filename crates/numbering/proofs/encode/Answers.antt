@@ -11,4 +11,4 @@ returns c =
     let a = c.args in
     let e = c.encode-n.ensures in
     let room : length c.encode-n.new.out ≡ length a.code.now = ap length e.1 ∙ length-sets a.code.now 0 (encode a.text.now) in
-    (c.least.ensures ∙ ap (λ (n : ℕ). min n (length c.encode-n.new.out)) e.0 ∙ ap (λ (n : ℕ). min (length (encode a.text.now)) n) room, e.1)
+    (c.min.ensures ∙ ap (λ (n : ℕ). min n (length c.encode-n.new.out)) e.0 ∙ ap (λ (n : ℕ). min (length (encode a.text.now)) n) room, e.1)
