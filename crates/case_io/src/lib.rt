@@ -68,6 +68,13 @@ pub fn print_case(rt: &impl Print, k: u64) {
     let _ = println!(rt; "CASE {k}");
 }
 
+// Prints the line of the engine that plays: whether it is the one with buffers.
+// Stays: a truth value, since there are two lines.
+pub fn print_engine(rt: &impl Print, buffered: bool) {
+    let name = if buffered { "BUFFERED" } else { "PLAIN" };
+    let _ = println!(rt; "{name}");
+}
+
 // The header that stands next; none at the file's end.
 pub fn read_header(file: &mut Opened) -> Option<Header> {
     let mut words = [0u8; 16];

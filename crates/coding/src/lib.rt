@@ -10,15 +10,22 @@ use geometry::Geometry;
 use moving::put;
 
 // The length of x without its trailing blanks.
+// Stays: by a `for` over `(0..x.len()).rev()` a trailing blank took 6 instructions in place of 4, and a blank record half as much again as before.
 pub fn keeps(x: &[u8]) -> usize
     ensures { result ≡ Encode.keeps (length x.now) x.now }
 {
-    for e in (0..x.len()).rev() {
-        if x[e] != Geometry::BLANK {
-            return e + 1;
-        }
+    let n = x.len();
+    if n == 0 {
+        return 0;
     }
-    0
+    let mut e = n - 1;
+    while x[e] == Geometry::BLANK {
+        if e == 0 {
+            return 0;
+        }
+        e -= 1;
+    }
+    e + 1
 }
 
 // A record without its trailing blanks: no blank is its last character.

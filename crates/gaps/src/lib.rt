@@ -65,8 +65,8 @@ pub fn none_used(b: &[u8], width: usize, rows: usize) -> bool
 
 // ---- sectors
 
-// The sector behind the extent of entry i of a table, where it is used and has one of the n sectors from p on; else p. That it is used is asked
-// for last: few extents are in the way.
+// The sector behind the extent of entry i of a table, where it is used and has one of the n sectors from p on; else p. An extent of no sector, which all free
+// entries of a good table have, is asked for first, and last that the entry is used: few extents are in the way.
 fn behind(t: &Table, i: usize, n: u16, p: u32) -> u32
     requires { p ≤ 131070 }
     ensures { (result ≡ Sweep.behind n p (entry_at (rows_of t.now) i)) × (result ≤ 131070) }
@@ -74,13 +74,13 @@ fn behind(t: &Table, i: usize, n: u16, p: u32) -> u32
     let e = t.entry(i);
     let first = e.first as u32;
     let end = first + (e.sectors as u32);
+    if end == first {
+        return p;
+    }
     if end <= p {
         return p;
     }
     if p + (n as u32) <= first {
-        return p;
-    }
-    if end == first {
         return p;
     }
     if n == 0 {

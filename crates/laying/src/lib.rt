@@ -1,13 +1,13 @@
 // Entries laid in a table in lent bytes, of 20 bytes each or of 22: one entry, the count and flags of one, and a whole table in another width.
 #![tactic(auto)]
 
-ghost use Rattle.std.specs.Prelude.{◌≡◌, true, false, ◌&&◌, ◌++◌, ◌+◌, ◌-◌, ◌*◌, ◌≤◌, ltb, length, MatchOption};
+ghost use Rattle.std.specs.Prelude.{◌≡◌, true, false, ◌&&◌, [], ◌∷◌, ◌++◌, ◌+◌, ◌-◌, ◌*◌, ◌≤◌, ltb, length, MatchOption};
 ghost use Rattle.geometry.specs.Bytes as Bytes;
 ghost use Rattle.tables.specs.Rows.{row_of};
 ghost use Rattle.tables.specs.Table.{rows_of};
 ghost use Rattle.tables.specs.Tables.{Wide, has_rows, entry_of, count_of, lay_entry, lay_counts, copied};
 
-use directory::Entry;
+use directory::{Entry, entry_bytes};
 use moving::lay;
 use tables::{Table, Width, has_rows};
 
@@ -47,17 +47,74 @@ pub fn put_counts(b: &mut [u8], width: usize, rows: usize, i: usize, count: u32,
 
 // ---- an entry
 
-// Lays an entry over the bytes from byte at on, field by field.
+// The two bytes of a word, the high one first. The word is turned, so that one which was read high byte first is laid as it was read, and an entry's bytes at once.
+#[derive(Drop)]
+struct Pair {
+    high: u8,
+    low: u8,
+}
+
+fn two_bytes(x: u16) -> Pair
+    ensures { (result.high ∷ result.low ∷ []) ≡ Bytes.word x }
+{
+    let t = x.swap_bytes();
+    Pair {
+        high: (t % 256) as u8,
+        low: (t / 256) as u8,
+    }
+}
+
+// A name and seven words, as 22 bytes.
+fn twenty_two_bytes(
+    name: [u8; 8],
+    kind: u16,
+    length: u16,
+    first: u16,
+    sectors: u16,
+    high: u16,
+    low: u16,
+    flags: u16,
+) -> [u8; 22]
+    ensures { result ≡ name ++ (Bytes.word kind ++ (Bytes.word length ++ (Bytes.word first ++ (Bytes.word sectors ++ (Bytes.word high ++ (Bytes.word low ++ Bytes.word flags)))))) }
+{
+    let k = two_bytes(kind);
+    let l = two_bytes(length);
+    let f = two_bytes(first);
+    let s = two_bytes(sectors);
+    let h = two_bytes(high);
+    let w = two_bytes(low);
+    let g = two_bytes(flags);
+    [
+        name[0], name[1], name[2], name[3], name[4], name[5], name[6], name[7], k.high, k.low,
+        l.high, l.low, f.high, f.low, s.high, s.low, h.high, h.low, w.high, w.low, g.high, g.low,
+    ]
+}
+
+// The 22 bytes of an entry.
+fn wide_bytes(e: Entry) -> [u8; 22]
+    ensures { result ≡ entry_of 22 e }
+{
+    let name = e.name;
+    let high = (e.count / 65536) as u16;
+    let low = (e.count % 65536) as u16;
+    twenty_two_bytes(
+        name, e.kind, e.length, e.first, e.sectors, high, low, e.flags,
+    )
+}
+
+// Lays an entry over the bytes from byte at on.
+// Stays: all its bytes at once. Laid field by field, the 18 entries of a mounting took some 2,200 instructions more, and an image of four files 2.9 times as many.
 fn put_row(b: &mut [u8], width: usize, at: usize, e: Entry)
     requires { Wide width × (at + width ≤ length b.old) }
     ensures { (b.new ≡ Bytes.lay b.old at (entry_of width e)) × (length (entry_of width e) ≡ width) }
 {
-    lay(b, at, &e.name);
-    lay(b, at + 8, &e.kind.to_be_bytes());
-    lay(b, at + 10, &e.length.to_be_bytes());
-    lay(b, at + 12, &e.first.to_be_bytes());
-    lay(b, at + 14, &e.sectors.to_be_bytes());
-    put_count(b, width, at + 16, e.count, e.flags);
+    if width == Width::ONE {
+        let x = entry_bytes(e);
+        lay(b, at, &x);
+    } else {
+        let x = wide_bytes(e);
+        lay(b, at, &x);
+    }
 }
 
 // Lays an entry over entry i of the table that bytes hold, if there is one of that number.

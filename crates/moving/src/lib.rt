@@ -1,7 +1,7 @@
 // The movers of bytes: bytes and words read, parts, and bytes laid over others. What does not fit is not laid, and past the end there are zeros.
 #![tactic(auto)]
 
-ghost use Rattle.std.specs.Prelude.{◌≡◌, ◌+◌, leb, length, get_or, set, replicate};
+ghost use Rattle.std.specs.Prelude.{◌≡◌, ◌+◌, ◌≤◌, leb, length, get_or, set, replicate};
 ghost use Rattle.geometry.specs.Bytes.{word_at, padded};
 ghost use Rattle.geometry.specs.Bytes as Bytes;
 
@@ -49,13 +49,53 @@ pub fn put(out: &mut [u8], at: usize, b: u8)
     }
 }
 
+// Lays the bytes xs, which fit, over those from byte at on, byte by byte.
+// Stays: no `copy_from_slice` of a length that is not fixed, which needs `memmove` from outside; C is told that memcpy and memset are enough.
+fn lay_bytes(out: &mut [u8], at: usize, xs: &[u8])
+    requires { at + length xs.now ≤ length out.old }
+    ensures { out.new ≡ Bytes.lay out.old at xs.now }
+{
+    let mut i = 0;
+    while i < xs.len() {
+        out[at + i] = xs[i];
+        i += 1;
+    }
+}
+
+// Lays the 32 bytes of xs from byte i on over those from byte at + i on. All of them are read before one is written, so that they can be moved at once.
+fn lay_piece(out: &mut [u8], at: usize, xs: &[u8], i: usize)
+    requires { (i + 32 ≤ length xs.now) × (at + length xs.now ≤ length out.old) }
+    ensures { out.new ≡ Bytes.lay out.old (at + i) (Bytes.part xs.now i 32) }
+{
+    let mut piece = [0u8; 32];
+    lay_bytes(&mut piece, 0, &xs[i..i + 32]);
+    lay_bytes(out, at + i, &piece);
+}
+
+// Lays the bytes xs, 32 or more, which fit, over those from byte at on, 32 a turn. The last turn lays the last 32, some of which may be laid already.
+// Stays: i steps by pieces, of which the last overlaps the one before it.
+fn lay_pieces(out: &mut [u8], at: usize, xs: &[u8])
+    requires { (32 ≤ length xs.now) × (at + length xs.now ≤ length out.old) }
+    ensures { out.new ≡ Bytes.lay out.old at xs.now }
+{
+    let mut i = 0;
+    while i < xs.len() {
+        let from = i.min(xs.len() - 32);
+        lay_piece(out, at, xs, from);
+        i = from + 32;
+    }
+}
+
 // Lays the bytes xs over those from byte at on, if they fit there.
-#[tactic(auto, unfolding(geometry::specs::Bytes::lay))]
 pub fn lay(out: &mut [u8], at: usize, xs: &[u8])
     ensures { out.new ≡ Bytes.lay out.old at xs.now }
 {
     if fits(at, xs.len(), out.len()) {
-        out[at..at + xs.len()].copy_from_slice(xs);
+        if xs.len() < 32 {
+            lay_bytes(out, at, xs);
+        } else {
+            lay_pieces(out, at, xs);
+        }
     }
 }
 

@@ -1,8 +1,7 @@
 // A name: document 01's "Sizes and the directory".
 #![tactic(auto)]
 
-ghost use Rattle.std.specs.Prelude.{◌≡◌, ◌&&◌, ◌||◌, ◌/◌, ◌%◌, ◌^◌, ◌==◌, leb, not, length, unwrap_or};
-ghost use Rattle.std.specs.List.{position, list_all};
+ghost use Rattle.std.specs.Prelude.{◌≡◌, ◌&&◌, ◌||◌, ◌/◌, ◌%◌, ◌^◌, ◌==◌, leb};
 ghost use Rattle.names.specs.Names.{capital, digit, is_name};
 
 use geometry::Geometry;
@@ -17,7 +16,10 @@ const CAPITALS_AND_DIGITS: u64 = 0x03FF03FC03FE03FE;
 fn is_in(set: u64, c: u8) -> bool
     ensures { result ≡ (leb 192 c && ((set / 2 ^ (c % 64)) % 2 == 1)) }
 {
-    0xC0 <= c && (set >> (c % 64)) % 2 == 1
+    if c < 0xC0 {
+        return false;
+    }
+    (set >> (c % 64)) % 2 == 1
 }
 
 // Whether c is a capital letter.
@@ -34,27 +36,33 @@ fn is_capital_or_digit(c: u8) -> bool
     is_in(CAPITALS_AND_DIGITS, c)
 }
 
-// The place of the first byte that is no capital or digit, if there is one.
-fn word_end(x: &[u8]) -> Option<usize>
-    ensures { result ≡ position (λ c. not (capital c || digit c)) x.now }
-{
-    x.iter().position(|c| !is_capital_or_digit(*c))
-}
-
-// Whether x is blanks alone.
-fn is_blank(x: &[u8]) -> bool
-    ensures { result ≡ list_all (λ c. c == Geometry.BLANK) x.now }
-{
-    x.iter().all(|c| *c == Geometry::BLANK)
-}
-
 // Whether x is a capital letter followed by capitals or digits, then only blanks: behind the first blank no more capitals or digits.
+// Stays: one pass with a flag, its index counted by hand. By `position` and `all` a name of eight bytes took 74 instructions in place of 40, and so a look
+// at a granule, in a directory of 18 files, 1.25 times the old one's; a refused request missed 1.2 times C.
+#[inline(always)]
 pub fn is_name(x: &[u8]) -> bool
     ensures { result ≡ is_name x.now }
 {
-    let Some((first, rest)) = x.split_first() else {
+    if x.len() == 0 {
         return false;
-    };
-    let end = word_end(rest).unwrap_or(rest.len());
-    is_capital(*first) && is_blank(&rest[end..])
+    }
+    let mut ended = false;
+    let mut k: usize = 1;
+    while k < x.len() {
+        let c = x[k];
+        if ended {
+            if c != Geometry::BLANK {
+                return false;
+            }
+        } else {
+            if !is_capital_or_digit(c) {
+                if c != Geometry::BLANK {
+                    return false;
+                }
+                ended = true;
+            }
+        }
+        k += 1;
+    }
+    is_capital(x[0])
 }

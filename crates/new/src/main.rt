@@ -88,9 +88,14 @@ fn make(rt: &HostRuntime, image: &mut [u8]) {
 }
 
 // Makes the image in the first bytes of a room for 4,096 sectors; in no bytes at all if more are asked for.
-fn make_in(rt: &HostRuntime, room: &mut [u8; 1474560]) {
+// Stays: no `get_mut(..size).unwrap_or(&mut [])`, for which the compiler clears the whole room a second time.
+fn make_in(rt: &HostRuntime, room: &mut [u8]) {
     let size = Geometry::SECTOR * sectors(rt) as usize;
-    make(rt, room.get_mut(..size).unwrap_or(&mut []));
+    if size <= room.len() {
+        make(rt, &mut room[..size]);
+    } else {
+        make(rt, &mut room[..0]);
+    }
 }
 
 // Stays: as other programs begin. One function for their counts and usages would be longer than these lines, since a usage is a format.

@@ -6,8 +6,8 @@ ghost use Rattle.std.specs.Prelude.{◌<◌};
 
 use arguments::{Opened, open_read};
 use case_io::{
-    Header, MOST, PATCH, ROW, go, make_image, patch, place, print_case, read_header, read_whole,
-    skip,
+    Header, MOST, PATCH, ROW, go, make_image, patch, place, print_case, print_engine, read_header,
+    read_whole, skip,
 };
 use moving::part;
 use row_io::Script;
@@ -30,6 +30,9 @@ fn open_cases(rt: &HostRuntime, i: usize) -> Files {
         },
     }
 }
+
+// Closes it.
+fn close_cases(_: Files) {}
 
 // Goes to a case's rows, and to the bytes that are given behind them. The patches of the sessions stand next in the file of the cases.
 fn find_rows(f: &mut Files, h: Header) {
@@ -82,9 +85,9 @@ fn play_with<const SESSION: usize>(
 // Plays a case with both. Behind the second engine's patches stand the rows, and the bytes given.
 fn play_both(rt: &impl Print, f: &mut Files, h: Header, whole: &[u8], image: &mut [u8]) {
     let at = place(&mut f.cases);
-    let _ = println!(rt; "PLAIN");
+    print_engine(rt, false);
     play_with::<{ Form::SESSION }>(rt, f, at, h, 0, h.plain, whole, image);
-    let _ = println!(rt; "BUFFERED");
+    print_engine(rt, true);
     play_with::<{ Form::BUFFERED }>(rt, f, at, h, h.plain, h.buffered, whole, image);
     skip(&mut f.cases, ROW * u32::from(h.rows));
     skip(&mut f.cases, h.given);
@@ -125,4 +128,5 @@ fn main(rt: HostRuntime) {
     let mut whole = [0u8; 65536];
     let mut room = [0u8; 65536];
     play_all(&rt, &mut f, &mut whole, &mut room);
+    close_cases(f);
 }

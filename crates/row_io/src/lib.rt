@@ -11,6 +11,20 @@ use scripts::{Fault, Row};
 // The bytes of a row.
 const ROW: usize = 16;
 
+// What is done with each row of a script. A trait, and no closure: to call one that is lent takes a `requires`.
+pub trait Visit {
+    // Row k, with the bytes that it uses up.
+    fn visit(&mut self, k: u32, row: Row, given: &[u8]);
+}
+
+// Nothing is done with it.
+#[derive(Drop)]
+struct Pass {}
+
+impl Visit for Pass {
+    fn visit(&mut self, _: u32, _: Row, _: &[u8]) {}
+}
+
 // A script in files: its rows, and the bytes that they use up one after another.
 #[derive(Drop)]
 pub struct Script {
@@ -65,19 +79,12 @@ impl Script {
 
     // Goes through the first rows, as many as most, with the bytes that each uses up. Whether they were in order. If not, it prints which is the first that is not,
     // and why.
-    pub fn each_row<F: FnMut(u32, Row, &[u8])>(
-        &mut self,
-        rt: &impl Print,
-        most: u32,
-        mut visit: F,
-    ) -> bool
-        requires { F.IsAlwaysCallable visit }
-    {
+    pub fn each_row(&mut self, rt: &impl Print, most: u32, visitor: &mut impl Visit) -> bool {
         // Stays: a room of fixed size with its length, since nothing is allocated.
         let mut given = [0u8; 65536];
         for k in 0..most {
             match self.next(&mut given) {
-                Ok(Some(row)) => visit(k, row, &given[..row.uses as usize]),
+                Ok(Some(row)) => visitor.visit(k, row, &given[..row.uses as usize]),
                 Ok(None) => return true,
                 Err(f) => {
                     print_fault(rt, k, f);
@@ -90,23 +97,21 @@ impl Script {
 
     // Whether the first rows, as many as most, are in order. If not, it prints which is the first that is not, and why.
     pub fn test(&mut self, rt: &impl Print, most: u32) -> bool {
-        self.each_row(rt, most, |_k, _row, _given| {})
+        self.each_row(rt, most, &mut Pass {})
     }
 }
 
 // ---- printing
 
-// Prints a line: what `put` puts at the start of a room, and says the length of. A line is shorter than the room.
-pub fn print_line<F: FnOnce(&mut [u8; 96]) -> usize>(rt: &impl Print, put: F)
-    requires { F.IsAlwaysCallable put }
-{
-    // Stays: a room of fixed size with its length, since nothing is allocated.
-    let mut line = [0u8; 96];
-    let n = put(&mut line);
-    let _ = rt.write_all(part(&line, 0, n));
+// Prints the n bytes of a line. A line is shorter than the room for it.
+pub fn print_line(rt: &impl Print, line: &[u8; 96], n: usize) {
+    let _ = rt.write_all(part(line, 0, n));
 }
 
 // Prints why row k is not in order.
 pub fn print_fault(rt: &impl Print, k: u32, f: Fault) {
-    print_line(rt, |line| saying::write_fault(line, k, f));
+    // Stays: a room of fixed size with its length, since nothing is allocated.
+    let mut line = [0u8; 96];
+    let n = saying::write_fault(&mut line, k, f);
+    print_line(rt, &line, n);
 }

@@ -11,17 +11,23 @@ ghost use Rattle.telling.specs.Told.{found, told_of};
 ghost use Rattle.showing.specs.Lines.{line_of, answer_line, printed, printed_first};
 ghost use Rattle.showing.specs.Showing.{opening, led_to, begun, begun_as, room_for, read_into, room_after, Prints};
 
+use asking::request;
 use calling::mount;
 use characters::translate;
 use coding::keeps;
-use engines::request;
 use geometry::Geometry;
 use listing::is_short;
 use moving::part;
-use requests::{Answer, Edge, Refusal, Request};
+use requests::{Answer, Edge, Refusal};
 use telling::{field_in, find_named};
 use texts::{put_all, put_byte, put_number};
 use typing::put_name;
+
+// The codes of an opening and of a read.
+// Stays: a listing asks for its records by the call that C has (docs/DECISIONS.md, `asking`), which takes a request's code.
+const OPEN: u16 = 1;
+
+const READ: u16 = 2;
 
 // A file that a listing opened: its entry, and R, the length of its records.
 #[derive(Clone, Copy)]
@@ -112,7 +118,7 @@ fn open_sequential(image: &mut [u8], session: &mut [u8], i: usize) -> Result<Ope
         return Err(Answer::Refused(Refusal::WrongSequence));
     }
     let length = field_in(session, i, 2) as usize;
-    match request(image, session, i, Request::Open, b"", &mut [0u8; 0]) {
+    match request(image, session, i, OPEN, 0, b"", &mut [0u8; 0]) {
         Answer::Done => Ok(Opened { entry: i, length }),
         a => Err(a),
     }
@@ -158,14 +164,7 @@ pub fn next(image: &mut [u8], session: &mut [u8], file: Opened, out: &mut [u8]) 
         (number_of result.answer) result.size image.new session.new out.new }
 {
     let n = room_for(file.length, out);
-    let answer = request(
-        image,
-        session,
-        file.entry,
-        Request::Read,
-        b"",
-        &mut out[..n],
-    );
+    let answer = request(image, session, file.entry, READ, 0, b"", &mut out[..n]);
     let size = put_printed(out, n, answer);
     Piece { answer, size }
 }

@@ -27,6 +27,9 @@ pub entry-one : (w : ℕ) (e : Entry) → w ≡ 20 → entry_of w e ≡ entry_by
 unfolding entry_of entry_bytes count_of
 entry-one w e q = rw q
 
+pub entry-two : (w : ℕ) (e : Entry) → Wide w → ¬ (w ≡ 20) → entry_of w e ≡ entry_of 22 e
+entry-two w e h n = let q : w ≡ 22 = omega (arith, n) in ap (λ (v : ℕ). entry_of v e) q
+
 module _ (e : Entry) (named : length e.name ≡ 8) where
   long-one : length (entry_of 20 e) ≡ 20
   unfolding entry_of count_of word

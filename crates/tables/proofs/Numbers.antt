@@ -14,7 +14,7 @@ use Rattle.geometry.specs.Lists.{every, same, numbers_from}
 use Rattle.geometry.proofs.Bytes.{same_bytes, length_part, get_d_part, part-split}
 use Rattle.geometry.proofs.Numbered.{length-numbered, get_d_numbered}
 use Rattle.geometry.proofs.Tests.{alike, and_left, and_right, and_both, every-from}
-use Rattle.tables.specs.Numbers.{number_in}
+use Rattle.tables.specs.Numbers.{long_at, number_in}
 
 -- ---- bytes written out
 
@@ -54,6 +54,30 @@ at_front b at x h = let e : at + 0 ≡ at = omega arith in rw e at h
 -- the eight bytes at a place
 pub from_le-part : (b : List ℕ) (at : ℕ) → at + 8 ≤ length b → from_le_bytes w64 (part b at 8) ≡ number_in (part b at 8)
 from_le-part b at h = rw (written b at 7 h) (from_le-eight _ _ _ _ _ _ _ _)
+
+-- the bytes of a number of four, taken out one by one
+module _ (x p q r s : ℕ) (e : x ≡ p + 256 * (q + 256 * (r + 256 * s))) (hp : p < 256) (hq : q < 256) (hr : r < 256) where
+  second : x / 256 % 256 ≡ q
+  second = let t : x / 256 ≡ q + 256 * (r + 256 * s) = omega arith in omega arith
+
+  third : x / 65536 % 256 ≡ r
+  third = let t : x / 65536 ≡ r + 256 * s = omega arith in omega arith
+
+  fourth : x / 16777216 ≡ s
+  fourth = omega arith
+
+  turned-bytes : 16777216 * (x % 256) + 65536 * (x / 256 % 256) + 256 * (x / 65536 % 256) + x / 16777216 ≡ 65536 * (256 * p + q) + (256 * r + s)
+  turned-bytes = let t : x % 256 ≡ p = omega arith in rw (second, third, fourth) (omega arith)
+
+-- four bytes read as a number, and turned, are the two words
+pub turned-four : (b : List ℕ) (at : ℕ) → ((k : ℕ) → get_or b k 0 < 256) → at + 4 ≤ length b
+    → 16777216 * (number_in (part b at 4) % 256) + 65536 * (number_in (part b at 4) / 256 % 256) + 256 * (number_in (part b at 4) / 65536 % 256) + number_in (part b at 4) / 16777216
+    ≡ long_at b at
+unfolding number_in long_at word_at
+turned-four b at g h =
+    let e : (at + 2) + 1 ≡ at + 3 = omega arith in
+    let n : number_in (part b at 4) ≡ get_or b at 0 + 256 * (get_or b (at + 1) 0 + 256 * (get_or b (at + 2) 0 + 256 * get_or b (at + 3) 0)) = ap number_in (written b at 3 h) ∙ omega arith in
+    rw e (turned-bytes (number_in (part b at 4)) (get_or b at 0) (get_or b (at + 1) 0) (get_or b (at + 2) 0) (get_or b (at + 3) 0) n (g at) (g (at + 1)) (g (at + 2)))
 
 -- two bytes read as a number, and turned, are the word
 pub turned_two : (b : List ℕ) (at : ℕ) → ((k : ℕ) → get_or b k 0 < 256) → at + 2 ≤ length b

@@ -77,11 +77,17 @@ pub fn used_good(e: Entry, n: u32) -> bool
     if 3 < e.flags {
         return false;
     }
-    match e.kind {
-        Geometry::UNBLOCKED => unblocked_good(e),
-        Geometry::BLOCKED => blocked_good(e),
-        Geometry::COMPRESSED => compressed_good(e),
-        Geometry::RANDOM => random_good(e),
-        _ => false,
+    if Geometry::BLOCKED < e.kind {
+        match e.kind {
+            Geometry::COMPRESSED => compressed_good(e),
+            Geometry::RANDOM => random_good(e),
+            _ => false,
+        }
+    } else {
+        match e.kind {
+            Geometry::UNBLOCKED => unblocked_good(e),
+            Geometry::BLOCKED => blocked_good(e),
+            _ => false,
+        }
     }
 }

@@ -46,3 +46,9 @@ unfolding flags_known
 returns-in_default c =
     let a = c.args in
     sym (used-other a.n a.e (sym c.extent_inside.ensures ∙ c.if-not-extent_inside.false) (le-leb _ _ c.if-e-gt3.false) (λ z. omega arith) (λ z. omega arith) (λ z. omega arith) (λ z. omega arith))
+
+pub returns-in_default-kind : goal.returns-in_default-kind
+unfolding flags_known
+returns-in_default-kind c =
+    let a = c.args in
+    sym (used-other a.n a.e (sym c.extent_inside.ensures ∙ c.if-not-extent_inside.false) (le-leb _ _ c.if-e-gt3.false) (λ z. omega arith) (λ z. omega arith) (λ z. omega arith) (λ z. omega arith))
