@@ -15,6 +15,7 @@ use sessions::Spot;
 use storing::{Form, put_start};
 
 // Mounts an image. A refused mounting hands out a session too, with no used entry. The number of the session's bytes says which engine's they are.
+// It is put in the place of its call: a mounting takes less stack so.
 #[inline(always)]
 pub fn mount(image: &[u8], session: &mut [u8]) -> Result<(), Refusal>
     ensures { (number_told result ≡ mount_number image.now session.old)

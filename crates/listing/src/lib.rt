@@ -14,7 +14,7 @@ use geometry::Geometry;
 use texts::{put_all, put_byte, put_number};
 
 // Where the first blank stands, if there is one.
-// Stays: where the first blank stands, which `names::is_blank` does not ask.
+// Stays: a function of its own; `names::is_name` goes over a name's bytes too, and asks for no place.
 fn blank_in(x: &[u8]) -> Option<usize>
     ensures { result ≡ position (λ c. c == Geometry.BLANK) x.now }
 {

@@ -16,6 +16,7 @@ use texts::put_all;
 // ---- entries of a session in lent bytes
 
 // Searches the session's table for a name: the entry's number; refused where no entry has it, and where the bytes are no session.
+// It is put in the place of its call, where its result is told apart at once.
 #[inline(always)]
 pub fn find_named(b: &[u8], name: &[u8]) -> Result<usize, Refusal>
     ensures { told_of result ≡ found b.now name.now }

@@ -162,8 +162,8 @@ impl<'a> Extent<'a> {
         read_at(self.sector(q.sector), q, out)
     }
 
-    // Passes over the record of that length behind the place p, in an extent of so many sectors. No character is moved. Put in place, so that no extent is laid on
-    // the stack for it.
+    // Passes over the record of that length behind the place p, in an extent of so many sectors. No character is moved. It is put in
+    // the place of its call, so that no extent is laid on the stack for it.
     #[inline(always)]
     pub fn skip_behind(&self, sectors: u16, length: u16, p: Place) -> Result<Place, BadPlace>
         ensures { result ≡ led_to (read_behind length sectors (read_in self.now) p) }
