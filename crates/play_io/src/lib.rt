@@ -34,7 +34,22 @@ pub fn print_image(rt: &impl Print, image: &[u8]) {
 
 // ---- playing
 
-// An image with its session, on which rows are played; their lines are printed.
+// Plays row k, and prints its line.
+fn play_row(
+    rt: &impl Print,
+    k: u32,
+    image: &mut [u8],
+    session: &mut [u8],
+    row: Row,
+    given: &[u8],
+    buffer: &mut [u8; 65536],
+) {
+    let n = row.length as usize;
+    let played = playing::play_row(image, session, row, given, &mut buffer[..n]);
+    print(rt, |line| saying::write_row(line, k, played));
+}
+
+// An image with its session, on which rows are played.
 #[derive(Drop)]
 struct Player<'a, P: Print> {
     rt: &'a P,
@@ -44,11 +59,16 @@ struct Player<'a, P: Print> {
 }
 
 impl<P: Print> Visit for Player<'_, P> {
-    // Plays row k, and prints its line.
     fn visit(&mut self, k: u32, row: Row, given: &[u8]) {
-        let n = row.length as usize;
-        let played = playing::play_row(self.image, self.session, row, given, &mut self.buffer[..n]);
-        print(self.rt, |line| saying::write_row(line, k, played));
+        play_row(
+            self.rt,
+            k,
+            self.image,
+            self.session,
+            row,
+            given,
+            self.buffer,
+        );
     }
 }
 
