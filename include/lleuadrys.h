@@ -13,9 +13,9 @@
              with lleuadrys_order, which takes no pointer for them.
    CALLERS   Calls on different images and sessions may run at once. Of one image or one session there is one caller at a
              time: while a call that may change it runs, no other call may be lent the same bytes.
-   STACK     At most 1,144 bytes in the beginning of a pass listing, 1,064 in a line of it, 1,048 in a request, 504 in an
-             adding, 400 in a listing, 376 in a deleting, 344 in a look, 232 in a mounting and 88 in any other call, whatever
-             is lent: measured (docs/BENCHMARKS.md). What calls itself does so at most once for each byte of a sector.
+   STACK     At most 1,032 bytes in the beginning of a pass listing, 952 in a line of it, 936 in a request, 488 in an adding,
+             360 in a deleting, 328 in a look, 312 in a listing, 200 in a mounting and 88 in any other call, whatever is
+             lent: measured (docs/BENCHMARKS.md). What calls itself does so at most once for each byte of a sector.
    IMAGE     360 times N bytes, N from 1 to 4,096: sector 0 is the directory.
    SESSION   LLEUADRYS_SESSION bytes for the engine that moves every byte straight in the image, or
              LLEUADRYS_BUFFERED_SESSION for the one with a blocking buffer of 360 bytes for each open file, which writes

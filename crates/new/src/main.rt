@@ -88,19 +88,17 @@ fn make(rt: &HostRuntime, image: &mut [u8]) {
 }
 
 // Makes the image in the first bytes of a room for 4,096 sectors; in no bytes at all if more are asked for.
-// Stays: no `get_mut(..size).unwrap_or(&mut [])`, for which the compiler clears the whole room a second time.
-fn make_in(rt: &HostRuntime, room: &mut [u8]) {
+fn make_in(rt: &HostRuntime, room: &mut [u8; 1474560]) {
     let size = Geometry::SECTOR * sectors(rt) as usize;
-    if size <= room.len() {
-        make(rt, &mut room[..size]);
-    } else {
-        make(rt, &mut room[..0]);
-    }
+    make(rt, room.get_mut(..size).unwrap_or(&mut []));
 }
 
-// Lends the room.
-fn lend(rt: &HostRuntime, room: &mut [u8; 1474560]) {
-    make_in(rt, room);
+// Makes it in a room of its own. Apart from `main`, in which the compiler would clear the room once more, at its beginning.
+#[inline(never)]
+fn make_new(rt: &HostRuntime) {
+    // Stays: a room of fixed size with its length, since nothing is allocated.
+    let mut room = [0u8; 1474560];
+    make_in(rt, &mut room);
 }
 
 // Stays: as other programs begin. One function for their counts and usages would be longer than these lines, since a usage is a format.
@@ -109,7 +107,5 @@ fn main(rt: HostRuntime) {
         let _ = eprintln!(rt; "usage: new OUT SECTORS");
         return;
     }
-    // Stays: a room of fixed size with its length, since nothing is allocated.
-    let mut room = [0u8; 1474560];
-    lend(&rt, &mut room);
+    make_new(&rt);
 }
